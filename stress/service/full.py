@@ -1,8 +1,9 @@
 #!/usr/bin/env python3
 """A full disk at a shutdown: full.py MOO. It needs root, for a small file system in memory.
 
-Without the option --must-save the status is 0, and the log says what isn't saved. With it the status is 3, and the output's last line says why.
-The database stays what the last checkpoint that is done left."""
+The wizard's `@shutdown` is refused after three tries, and the world goes on. `@shutdown!` ends it. Without the option --must-save the status is
+then 0, and the log says what isn't saved. With it the status is 3, and the output's last line says why. The database stays what the last
+checkpoint that is done left."""
 from service import *
 
 moo = program()
@@ -28,6 +29,8 @@ def shut_down(folder, *options):
     player.waits_for("sofar")
     fill(folder)
     player.say("@shutdown")
+    checks.check("the world goes on, since it can't be saved", player.waits_for("3 tries, so it goes on"))
+    player.say("@shutdown!")
     status = server.status()
     last = server.process.stdout.read()
     checks.check("the last checkpoint fails", "checkpoint failed" in server.log(), server.log())

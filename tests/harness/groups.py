@@ -11,6 +11,7 @@ import program_rows
 import script_rows
 import serve_cases
 import starter
+import typed
 import web_cases
 from outcome import fault
 from row_file import TOP, Broken, parse
@@ -78,4 +79,5 @@ def all_groups(program):
         ("its transcripts", starter.transcripts(program)),
         ("the example of the page on scripts", [("docs", partial(starter.play_example, program))]),
         ("the sessions of the guides", guides.units(program)),
+        ("the commands of the guides", typed.units()),
     ]

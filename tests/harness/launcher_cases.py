@@ -7,6 +7,7 @@ import platform
 import shutil
 import stat
 import subprocess
+import sys
 import tempfile
 from functools import partial
 
@@ -61,10 +62,10 @@ class Folder:
     def sum(self):
         return subprocess.run([self.top / "release/sum"], stdout=subprocess.PIPE, text=True, check=True).stdout
 
-    def release(self):
-        """Makes a release of the sources as they are."""
-        self.write("release/moo", program("released"), True)
-        self.write("release/moo.sha256", hashlib.sha256(program("released").encode()).hexdigest() + "  moo\n")
+    def release(self, text=program("released")):
+        """Makes a release of the sources as they are, which is this program."""
+        self.write("release/moo", text, True)
+        self.write("release/moo.sha256", hashlib.sha256(text.encode()).hexdigest() + "  moo\n")
         self.write("release/sources.sum", self.sum())
 
     def build(self):
@@ -75,11 +76,11 @@ class Folder:
     def change(self):
         self.write("crates/moo/src/main.rt", "fn main() { }\n")
 
-    def run(self, *words, has_kit=False, command=None, **environ):
-        """Runs the launcher with these words. The result has its standard error, and after it its output."""
+    def run(self, *words, has_kit=False, command=None, folder=None, **environ):
+        """Runs the launcher with these words, or another command. The result has its standard error, and after it its output."""
         path = f"{self.kit}:{self.tools}" if has_kit else str(self.tools)
         done = subprocess.run([command or self.top / "moo", *words], capture_output=True, timeout=PATIENCE, check=False,
-                              stdin=subprocess.DEVNULL, env={"PATH": path, **environ})
+                              stdin=subprocess.DEVNULL, cwd=folder, env={"PATH": path, **environ})
         return Result(done.returncode, done.stderr + done.stdout)
 
 
@@ -222,6 +223,19 @@ def what_is_typed_for_a_console_without_a_server_is_refused(folder):
     yield (folder.run("console", "a.db"), 2, "moo: a.db.console is no pipe: the server of this database was not started by moo serve\n")
 
 
+def a_script_finds_the_launcher_from_any_folder(folder):
+    """worlds/refused/refused.py runs `moo check` of its own repository, wherever it is typed. With no program there its status is 2."""
+    script, world = folder.top / "worlds/refused/refused.py", folder.top.parent / "a.db"
+    script.parent.mkdir(parents=True)
+    shutil.copy(TOP / "worlds/refused/refused.py", script)
+    world.write_text("")
+    words = [sys.executable, "-B", str(script), world.name]
+    folder.release("#!/bin/sh\necho the released $1\n")
+    yield folder.run(*words[1:], command=words[0], folder=world.parent), 0, "the released check\n"
+    (folder.top / "moo").unlink()
+    yield folder.run(*words[1:], command=words[0], folder=world.parent), 2, f"[Errno 2] No such file or directory: '{folder.top / 'moo'}'\n"
+
+
 CASES = [
     the_release_is_run,
     what_was_built_here_is_run_before_the_release,
@@ -241,6 +255,7 @@ CASES = [
     a_server_without_a_pipe_has_no_console,
     a_world_that_everybody_can_read_is_warned_of,
     what_is_typed_for_a_console_without_a_server_is_refused,
+    a_script_finds_the_launcher_from_any_folder,
 ]
 
 

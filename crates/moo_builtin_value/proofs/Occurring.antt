@@ -1,5 +1,5 @@
 -- Where a string occurs in another, with letters folded.
-use Rattle.std.proofs.Common.{◌≡◌, ℕ, ◌+◌, ◌-◌, ◌<◌, ◌≤◌, List, [], ◌∷◌, Some, None, length, take, drop, map, refl, sym, ap, subst, ◌∙◌, arith, ⊎_elim}
+use Rattle.std.proofs.Common.{◌≡◌, ℕ, ◌+◌, ◌-◌, ◌<◌, ◌≤◌, List, [], ◌∷◌, Some, None, length, take, drop, refl, sym, ap, subst, ◌∙◌, arith, ⊎_elim}
 use Rattle.std.proofs.lemmas.List.{length-map, take-map, drop-map}
 use Rattle.std.proofs.lemmas.Bool.{cases_eq}
 use Rattle.std.specs.Char.{to_ascii_lowercase}
@@ -54,9 +54,6 @@ next_match text wanted last at some found =
 
 pub no_match : (text wanted : List ℕ) (last : ℕ) → FindsNeedle (folded text) (folded wanted) last None → matches (folded text) (folded wanted) last ≡ []
 no_match text wanted last none = matches-none (folded text) (folded wanted) last none
-
-pub match_after : (text wanted : List ℕ) (last at : ℕ) → FindsNeedle (folded text) (folded wanted) last (Some at) → last ≤ at
-match_after text wanted last at found = found.0.low
 
 pub match_fits : (text wanted : List ℕ) (last at : ℕ) → FindsNeedle (folded text) (folded wanted) last (Some at) → at + length wanted ≤ length text
 match_fits text wanted last at found =

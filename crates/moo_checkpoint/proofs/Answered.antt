@@ -4,8 +4,8 @@ use Rattle.std.specs.Prelude.{IfOk, IfErr, MatchResult, Option}
 use Rattle.std.proofs.Math.Seq.{take-add}
 use Rattle.std.proofs.lemmas.List.{length-drop, length-take, take-append-drop, take_all}
 use Rattle.moo_dbtext_record.specs.declared.fault.DbFault.{DbFault}
-use Rattle.moo_dbtext_record.specs.declared.fault.DbFaultKind.TheVariants as kind
-use Rattle.moo_disk.specs.Disk.{DiskView, HasRisen, NoText, KeepsMain, KeepsSpare, Reads}
+use Rattle.moo_dbtext_record.specs.declared.fault.DbFaultKind.TheVariants as fault_kind
+use Rattle.moo_disk.specs.Disk.{DiskKind, DiskView, HasRisen, NoText, KeepsMain, KeepsSpare, Reads}
 use Rattle.moo_disk.proofs.GainsLemmas.{gains_join, gains_less, gains_none}
 use Rattle.moo_dbtext_read.specs.Saved.{Saved, saved_of, SpellsSaved, SpellsSavedWithin}
 use Rattle.moo_dbtext_read.specs.declared.saved.Saved as stored
@@ -31,17 +31,17 @@ main_then old mid new h k = record {
     none c (inl h) = h
     none c (inr h) = h
 
-pub keeps_still : {D : Type 0} (view : D → DiskView) (honest stands : D → Type 0) (disk : D) → Keeps view honest stands disk disk
-keeps_still view honest stands disk = record {
-  main = λ h. record { text = refl; crash = gains_none NoText (view disk) };
+pub keeps_still : {D : Type 0} (kind : DiskKind D) (disk : D) → Keeps kind disk disk
+keeps_still kind disk = record {
+  main = λ h. record { text = refl; crash = gains_none NoText (kind.view disk) };
   spare = λ h. record { text = refl; stable = λ s. s };
   stands = λ s. s;
   honest = (λ h. h, λ h. h);
 }
 
-pub keeps_then : {D : Type 0} (view : D → DiskView) (honest stands : D → Type 0) (old mid new : D) → Keeps view honest stands old mid → Keeps view honest stands mid new → Keeps view honest stands old new
-keeps_then view honest stands old mid new h k = record {
-  main = λ is. main_then (view old) (view mid) (view new) (h.main is) (k.main (h.honest.0 is));
+pub keeps_then : {D : Type 0} (kind : DiskKind D) (old mid new : D) → Keeps kind old mid → Keeps kind mid new → Keeps kind old new
+keeps_then kind old mid new h k = record {
+  main = λ is. main_then (kind.view old) (kind.view mid) (kind.view new) (h.main is) (k.main (h.honest.0 is));
   spare = λ is. record { text = (k.spare (h.honest.0 is)).text ∙ (h.spare is).text; stable = λ s. (k.spare (h.honest.0 is)).stable ((h.spare is).stable s) };
   stands = λ s. k.stands (h.stands s);
   honest = (λ is. k.honest.0 (h.honest.0 is), λ is. h.honest.1 (k.honest.1 is));
@@ -110,8 +110,8 @@ recovers_within text (Err (Db f)) h s k = absurd (h.1 (is_loaded_within text (Er
 recovers_within text (Err Memory) h s k = inr refl
 
 pub recovers_refused : (text : List ℕ) (r : Result stored.Saved OpenFault) → Recovers text r
-    → IfErr r (λ e. (f : DbFault) → e ≡ Db f → Refuses text f × (f.kind ≢ kind.Memory))
+    → IfErr r (λ e. (f : DbFault) → e ≡ Db f → Refuses text f × (f.kind ≢ fault_kind.Memory))
 recovers_refused text (Ok s) h = tt
 recovers_refused text (Err Device) h = λ f is. absurd cc
-recovers_refused text (Err (Db g)) h = λ f is. let same : g ≡ f = cc in (subst (Refuses text) same (refusal_says text g h.0), subst (λ (d : DbFault). d.kind ≢ kind.Memory) same h.1)
+recovers_refused text (Err (Db g)) h = λ f is. let same : g ≡ f = cc in (subst (Refuses text) same (refusal_says text g h.0), subst (λ (d : DbFault). d.kind ≢ fault_kind.Memory) same h.1)
 recovers_refused text (Err Memory) h = λ f is. absurd cc

@@ -1,8 +1,8 @@
 -- The reads of recovery from a disk, and its answers.
 use Rattle.std.specs.Prelude.{◌≡◌, ◌≢◌, ◌↔◌, ◌⊎◌, ℕ, List, take, Option, Some, None, Result, Ok, Err, MatchResult}
 use Rattle.moo_dbtext_record.specs.declared.fault.DbFault.{DbFault}
-use Rattle.moo_dbtext_record.specs.declared.fault.DbFaultKind.TheVariants as kind
-use Rattle.moo_disk.specs.Disk.{DiskView, HasRisen, KeepsMain, KeepsSpare}
+use Rattle.moo_dbtext_record.specs.declared.fault.DbFaultKind.TheVariants as fault_kind
+use Rattle.moo_disk.specs.Disk.{DiskKind, HasRisen, KeepsMain, KeepsSpare}
 use Rattle.moo_dbtext_read.specs.Saved.{Saved, saved_of}
 use Rattle.moo_dbtext_read.specs.declared.saved.Saved as stored
 use Rattle.moo_dbtext_read.specs.Loading.{IsLoaded, IsRefusedSo}
@@ -10,11 +10,11 @@ use Rattle.moo_checkpoint.specs.declared.open_fault.OpenFault.{OpenFault}
 use Rattle.moo_checkpoint.specs.declared.open_fault.OpenFault.TheVariants.{Device, Db, Memory}
 
 -- Nothing was written: main and the spare are as before, and a crash leaves no more than before.
-pub record Keeps {D : Type 0} (view : D → DiskView) (Honest Stands : D → Type 0) (old new : D) : Type 0 where
-  pub main : Honest old → KeepsMain (view old) (view new)
-  pub spare : Honest old → KeepsSpare (view old) (view new)
-  pub stands : Stands old → Stands new
-  pub honest : Honest old ↔ Honest new
+pub record Keeps {D : Type 0} (kind : DiskKind D) (old new : D) : Type 0 where
+  pub main : kind.honest old → KeepsMain (kind.view old) (kind.view new)
+  pub spare : kind.honest old → KeepsSpare (kind.view old) (kind.view new)
+  pub stands : kind.stands old → kind.stands new
+  pub honest : kind.honest old ↔ kind.honest new
 
 -- If the device of an honest disk is reported, the count of failures has risen. If anything else is reported, it
 -- hasn't.
@@ -36,13 +36,13 @@ front_to text (Some at) = take at text
 -- the report of a fault of the reader
 abbrev pub IsToldAs : DbFault → OpenFault → Type 0
 IsToldAs f Device = ⊥
-IsToldAs f (Db g) = (g ≡ f) × (f.kind ≢ kind.Memory)
-IsToldAs f Memory = f.kind ≡ kind.Memory
+IsToldAs f (Db g) = (g ≡ f) × (f.kind ≢ fault_kind.Memory)
+IsToldAs f Memory = f.kind ≡ fault_kind.Memory
 
 -- the text is refused if that is reported
 abbrev pub Tells : List ℕ → OpenFault → Type 0
 Tells text Device = Unit {0}
-Tells text (Db f) = IsRefusedSo text f × (f.kind ≢ kind.Memory)
+Tells text (Db f) = IsRefusedSo text f × (f.kind ≢ fault_kind.Memory)
 Tells text Memory = Unit {0}
 
 -- the answers that are possible if main is this text

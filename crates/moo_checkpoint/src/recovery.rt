@@ -2,7 +2,7 @@
 ghost use Rattle.std.specs.Prelude.{◌≡◌, ◌≢◌, ◌⊎◌, ◌↔◌, ◌+◌, ◌<◌, ◌≤◌, ◌^◌, [], length, take, IfOk, IfErr, IfSome, OnOk, MatchResult};
 ghost use Rattle.moo_dbtext_record.specs.declared.fault.DbFault.{DbFault};
 ghost use Rattle.moo_dbtext_record.specs.declared.fault.DbFaultKind.TheVariants as kind;
-ghost use Rattle.moo_disk.specs.Disk.{KeepsMain, KeepsSpare, Reads};
+ghost use Rattle.moo_disk.specs.Disk.{KeepsMain, KeepsSpare, OnlyReads, ReadMain, Reads};
 ghost use Rattle.moo_dbtext_read.specs.Saved as saving;
 ghost use Rattle.moo_dbtext_read.specs.Saved.{saved_of, SpellsSaved, SpellsSavedWithin};
 ghost use Rattle.moo_dbtext_read.specs.Feeding.{HasFed};
@@ -24,10 +24,11 @@ const END: u64 = 1 << 63;
 /// end. Returns `Device` if the disk fails or claims more bytes than the buffer holds.
 fn read_at<D: Disk>(disk: &mut D, at: u64, buffer: &mut [u8]) -> Result<usize, OpenFault>
     ensures within { IfOk result (λ count. count ≤ length buffer.new) }
-    ensures read { D.honest disk.old → IfOk result (Reads (D.view disk.old).main_text at buffer.new) }
+    ensures read { D.kind.honest disk.old → IfOk result (Reads (D.kind.view disk.old).main_text at buffer.new) }
     ensures told { IfErr result (λ e. e ≡ OpenFault.Device) }
-    ensures device { CountsDevice (D.honest disk.old) (D.failures disk.old) (D.failures disk.new) result }
-    ensures keeps { Keeps D.view D.honest D.stands disk.old disk.new }
+    ensures device { CountsDevice (D.kind.honest disk.old) (D.kind.failures disk.old) (D.kind.failures disk.new) result }
+    ensures made { D.kind.made ReadMain disk.old disk.new }
+    ensures keeps { Keeps D.kind disk.old disk.new }
 {
     let count = disk.read_main(at, buffer)?;
     if count > buffer.len() {
@@ -58,12 +59,13 @@ fn feed_at<D: Disk>(
 ) -> Result<Option<u64>, OpenFault>
     requires { 0 < length buffer.old }
     ensures place { IfOk result (λ next. IfSome next (λ after. (at < after) × (after < 2 ^ 63))) }
-    ensures fed { D.honest disk.old → HasFed reader.old (take at (D.view disk.old).main_text)
-        → IfOk result (λ next. HasFed reader.new (front_to (D.view disk.old).main_text next)) }
-    ensures told { D.honest disk.old → HasFed reader.old (take at (D.view disk.old).main_text)
-        → IfErr result (Tells (D.view disk.old).main_text) }
-    ensures device { CountsDevice (D.honest disk.old) (D.failures disk.old) (D.failures disk.new) result }
-    ensures keeps { Keeps D.view D.honest D.stands disk.old disk.new }
+    ensures fed { D.kind.honest disk.old → HasFed reader.old (take at (D.kind.view disk.old).main_text)
+        → IfOk result (λ next. HasFed reader.new (front_to (D.kind.view disk.old).main_text next)) }
+    ensures told { D.kind.honest disk.old → HasFed reader.old (take at (D.kind.view disk.old).main_text)
+        → IfErr result (Tells (D.kind.view disk.old).main_text) }
+    ensures device { CountsDevice (D.kind.honest disk.old) (D.kind.failures disk.old) (D.kind.failures disk.new) result }
+    ensures made { D.kind.made ReadMain disk.old disk.new }
+    ensures keeps { Keeps D.kind disk.old disk.new }
 {
     let count = read_at(disk, at, buffer)?;
     if count == 0 {
@@ -76,10 +78,11 @@ fn feed_at<D: Disk>(
 
 /// Feeds the reader the main text.
 fn feed_main<D: Disk>(alloc: Global, disk: &mut D, reader: &mut DbReader) -> Result<(), OpenFault>
-    ensures fed { D.honest disk.old → HasFed reader.old [] → OnOk result (HasFed reader.new (D.view disk.old).main_text) }
-    ensures told { D.honest disk.old → HasFed reader.old [] → IfErr result (Tells (D.view disk.old).main_text) }
-    ensures device { CountsDevice (D.honest disk.old) (D.failures disk.old) (D.failures disk.new) result }
-    ensures keeps { Keeps D.view D.honest D.stands disk.old disk.new }
+    ensures fed { D.kind.honest disk.old → HasFed reader.old [] → OnOk result (HasFed reader.new (D.kind.view disk.old).main_text) }
+    ensures told { D.kind.honest disk.old → HasFed reader.old [] → IfErr result (Tells (D.kind.view disk.old).main_text) }
+    ensures device { CountsDevice (D.kind.honest disk.old) (D.kind.failures disk.old) (D.kind.failures disk.new) result }
+    ensures reads { OnlyReads D.kind disk.old disk.new }
+    ensures keeps { Keeps D.kind disk.old disk.new }
 {
     let mut buffer = vec![in alloc; 0u8; BUFFER]?;
     let mut at: u64 = 0;
@@ -90,9 +93,10 @@ fn feed_main<D: Disk>(alloc: Global, disk: &mut D, reader: &mut DbReader) -> Res
 }
 
 fn recover_all<D: Disk>(alloc: Global, disk: &mut D) -> Result<Saved, OpenFault>
-    ensures answer { D.honest disk.old → Recovers (D.view disk.old).main_text result }
-    ensures device { CountsDevice (D.honest disk.old) (D.failures disk.old) (D.failures disk.new) result }
-    ensures keeps { Keeps D.view D.honest D.stands disk.old disk.new }
+    ensures answer { D.kind.honest disk.old → Recovers (D.kind.view disk.old).main_text result }
+    ensures device { CountsDevice (D.kind.honest disk.old) (D.kind.failures disk.old) (D.kind.failures disk.new) result }
+    ensures reads { OnlyReads D.kind disk.old disk.new }
+    ensures keeps { Keeps D.kind disk.old disk.new }
 {
     let mut reader = DbReader::new(alloc);
     feed_main(alloc, disk, &mut reader)?;
@@ -102,25 +106,26 @@ fn recover_all<D: Disk>(alloc: Global, disk: &mut D) -> Result<Saved, OpenFault>
 /// Reads the saved world that a disk's main text spells, one buffer at a time. Writes nothing.
 pub fn recover<D: Disk>(alloc: Global, disk: &mut D) -> Result<Saved, OpenFault>
     // The main text spells the saved world that is returned,
-    ensures found { D.honest disk.old → IfOk result (λ s. SpellsSaved (D.view disk.old).main_text (saved_of s)) }
+    ensures found { D.kind.honest disk.old → IfOk result (λ s. SpellsSaved (D.kind.view disk.old).main_text (saved_of s)) }
     // and does so within the size limits.
-    ensures sizes { D.honest disk.old → IfOk result (λ s. SpellsSavedWithin (D.view disk.old).main_text (saved_of s)) }
+    ensures sizes { D.kind.honest disk.old → IfOk result (λ s. SpellsSavedWithin (D.kind.view disk.old).main_text (saved_of s)) }
     // If the main text spells a world within the limits, it is returned, unless the device fails or memory runs out.
-    ensures within { D.honest disk.old → (s : saving.Saved) → SpellsSavedWithin (D.view disk.old).main_text s
+    ensures within { D.kind.honest disk.old → (s : saving.Saved) → SpellsSavedWithin (D.kind.view disk.old).main_text s
         → MatchResult result (λ r. saved_of r ≡ s) (λ e. (e ≡ OpenFault.Device) ⊎ (e ≡ OpenFault.Memory)) }
     // If the text is refused, the reported fault says why. Running out of memory is reported as `OpenFault::Memory`.
-    ensures refused { D.honest disk.old → IfErr result (λ e. (f : DbFault) → e ≡ OpenFault.Db f
-        → Refuses (D.view disk.old).main_text f × (f.kind ≢ kind.Memory)) }
+    ensures refused { D.kind.honest disk.old → IfErr result (λ e. (f : DbFault) → e ≡ OpenFault.Db f
+        → Refuses (D.kind.view disk.old).main_text f × (f.kind ≢ kind.Memory)) }
     // The answer is that of the reader for these bytes.
-    ensures exact { D.honest disk.old → Recovers (D.view disk.old).main_text result }
+    ensures exact { D.kind.honest disk.old → Recovers (D.kind.view disk.old).main_text result }
     // If `Device` is returned for an honest disk, its device failed in this call. If anything else is, the device did
     // not fail.
-    ensures device { CountsDevice (D.honest disk.old) (D.failures disk.old) (D.failures disk.new) result }
-    // Nothing is written.
-    ensures main { D.honest disk.old → KeepsMain (D.view disk.old) (D.view disk.new) }
-    ensures spare { D.honest disk.old → KeepsSpare (D.view disk.old) (D.view disk.new) }
-    ensures stands { D.stands disk.old → D.stands disk.new }
-    ensures honest { D.honest disk.old ↔ D.honest disk.new }
+    ensures device { CountsDevice (D.kind.honest disk.old) (D.kind.failures disk.old) (D.kind.failures disk.new) result }
+    // Nothing is written, and no call is made but `read_main`.
+    ensures reads { OnlyReads D.kind disk.old disk.new }
+    ensures main { D.kind.honest disk.old → KeepsMain (D.kind.view disk.old) (D.kind.view disk.new) }
+    ensures spare { D.kind.honest disk.old → KeepsSpare (D.kind.view disk.old) (D.kind.view disk.new) }
+    ensures stands { D.kind.stands disk.old → D.kind.stands disk.new }
+    ensures honest { D.kind.honest disk.old ↔ D.kind.honest disk.new }
 {
     recover_all(alloc, disk)
 }

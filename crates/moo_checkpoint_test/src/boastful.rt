@@ -12,13 +12,13 @@ impl Disk for Boastful {
     ghost use Rattle.std.specs.Prelude.{[], None, false};
     ghost use Rattle.moo_disk.specs.Disk.{DiskView};
 
-    ghost view = { λ _. record { main_text = []; spare = None; stable = false; may_leave = λ _. ⊥; clock = 0; left_since = λ _ _. ⊥ } };
-
-    ghost failures = { λ _. 0 };
-
-    ghost honest = { λ _. ⊥ };
-
-    ghost stands = { λ _. Unit {0} };
+    ghost kind = { record {
+        view = λ _. record { main_text = []; spare = None; stable = false; may_leave = λ _. ⊥; clock = 0; left_since = λ _ _. ⊥ };
+        honest = λ _. ⊥;
+        stands = λ _. Unit {0};
+        failures = λ _. 0;
+        made = λ _ _ _. Unit {0};
+    } };
 
     fn create_spare(&mut self) -> Result<(), DiskFault> {
         Ok(())

@@ -1,6 +1,6 @@
 -- The state of the disk over files, which says nothing of what files hold.
-use Rattle.std.specs.Prelude.{ℕ, [], None, false}
-use Rattle.moo_disk.specs.Disk.{DiskView}
+use Rattle.std.specs.Prelude.{[], None, false, IsSome}
+use Rattle.moo_disk.specs.Disk.{DiskKind, DiskView}
 use Rattle.moo_cli_file_disk.specs.declared.file_disk.FileDisk.{FileDisk}
 
 -- a view on which nobody may rely, since such a disk isn't honest
@@ -14,12 +14,12 @@ no_view = record {
   left_since = λ _ _. ⊥;
 }
 
-abbrev pub file_view : {F File Dir : Type 0} → FileDisk F File Dir → DiskView
-file_view disk = no_view
-
-abbrev pub file_honest : {F File Dir : Type 0} → FileDisk F File Dir → Type 0
-file_honest disk = ⊥
-
--- the calls that failed
-abbrev pub file_failures : {F File Dir : Type 0} → FileDisk F File Dir → ℕ
-file_failures disk = disk.failures
+-- Of such a disk nothing is promised but its count of failed calls, and that its spare exists while it writes one.
+abbrev pub file_kind : {F File Dir : Type 0} → DiskKind (FileDisk F File Dir)
+file_kind = record {
+  view = λ disk. no_view;
+  honest = λ disk. ⊥;
+  stands = λ disk. IsSome disk.writing;
+  failures = λ disk. disk.failures;
+  made = λ call old new. Unit {0};
+}

@@ -1,7 +1,7 @@
 //! A disk over files, each call of which makes calls of the operating system.
-ghost use Rattle.std.specs.Prelude.{◌≡◌, IsSome};
+ghost use Rattle.std.specs.Prelude.{◌≡◌};
 ghost use Rattle.moo_disk.specs.Disk.{Counts};
-ghost use Rattle.moo_cli_file_disk.specs.Files.{no_view};
+ghost use Rattle.moo_cli_file_disk.specs.Files.{file_kind};
 
 use crate::news::{News, Watched};
 use moo_disk::{Disk, DiskFault};
@@ -241,13 +241,7 @@ fn no_spare<T>() -> io::Result<T> {
 }
 
 impl<R: Files> Disk for FileDisk<R> {
-    ghost view = { λ _. no_view };
-
-    ghost failures = { λ d. d.failures };
-
-    ghost honest = { λ _. ⊥ };
-
-    ghost stands = { λ d. IsSome d.writing };
+    ghost kind = { file_kind };
 
     fn create_spare(&mut self) -> Result<(), DiskFault> {
         self.writing = None;

@@ -1,7 +1,7 @@
 -- Lines of a script as calls of its server.
 use Rattle.std.proofs.Common.{◌≡◌, ◌⊎◌, inl, inr, ℕ, List, [], ◌∷◌, ◌++◌, length, map, take, Option, Some, None, Ok, refl, sym, ◌∙◌, ap, subst, append_assoc}
 use Rattle.std.proofs.lemmas.List.{append-nil}
-use Rattle.moo_disk.specs.Disk.{DiskView, KeepsMain, NoText}
+use Rattle.moo_disk.specs.Disk.{DiskKind, DiskView, KeepsMain, NoText}
 use Rattle.moo_disk.specs.FailAt.{inner_of}
 use Rattle.moo_disk.specs.Memory.{view_of}
 use Rattle.moo_disk.specs.declared.memory.MemoryDisk.{MemoryDisk}
@@ -10,13 +10,13 @@ use Rattle.moo_dbtext_read.specs.Saved.{Saved}
 use Rattle.moo_server_core.specs.Application.{Layer, Output, silence, then_out}
 use Rattle.moo_server_core.specs.Meaning.{Entry}
 use Rattle.moo_server_core.specs.Seen.{Event, seen}
-use Rattle.moo_server_core.specs.Server.{Hands, Runs, entries_of}
-use Rattle.moo_server_core.specs.Calls.{Call, Calls, HandsOn, IsCallOf, Lent, One, Other, lent_honest, lent_view}
+use Rattle.moo_server_core.specs.Server.{Hands, Runs, entries_of, with_disk}
+use Rattle.moo_server_core.specs.Calls.{Call, Calls, HandsOn, IsCallOf, Lent, One, Other, lent}
 use Rattle.moo_server_core.specs.declared.event.Event as given
 use Rattle.moo_server_core.specs.declared.server_core.ServerCore.{ServerCore}
 use Rattle.moo_cli_script.specs.ScriptLines.{Step, opening, typing, sending, hanging_up, moment, flushing, failing, reopening, crashing, showing}
 use Rattle.moo_cli_script.specs.declared.script.Script.{Script}
-use Rattle.moo_cli_script.specs.Script.{Does, HandsOut, ScriptDisk, Takes as TakesEvent, disk_failures, disk_honest, disk_view, event_of}
+use Rattle.moo_cli_script.specs.Script.{Does, HandsOut, ScriptDisk, Takes as TakesEvent, disk_view, event_of, script_kind}
 use Rattle.moo_cli_script.specs.Playing.{IsTaken, Takes}
 use Rattle.moo_cli_script.specs.Course.{AreAsked, AreSingle, Course, IsOpening, NoneOpens, taken_in, with_event}
 use Rattle.moo_cli_script.proofs.Handed.{hands_join, hands_none}
@@ -33,20 +33,20 @@ keeps_join old mid new h k = record {
     none c (inl h) = h
     none c (inr h) = h
 
-on_join : {D : Type 0} (view : D → DiskView) (honest : D → Type 0) (a b c : D) → HandsOn view honest a b → HandsOn view honest b c → HandsOn view honest a c
-on_join view honest a b c first second = record {
-  main = λ h. keeps_join (view a) (view b) (view c) (first.main h) (second.main (first.honest_still h));
+on_join : {D : Type 0} (kind : DiskKind D) (a b c : D) → HandsOn kind a b → HandsOn kind b c → HandsOn kind a c
+on_join kind a b c first second = record {
+  main = λ h. keeps_join (kind.view a) (kind.view b) (kind.view c) (first.main h) (second.main (first.honest_still h));
   honest_still = λ h. second.honest_still (first.honest_still h);
 }
 
 keeps_none : (disk : ScriptDisk) → KeepsMain (disk_view disk) (disk_view disk)
 keeps_none disk = record { text = refl; crash = gains_none NoText (disk_view disk) }
 
-on_none : (disk : ScriptDisk) → HandsOn disk_view disk_honest disk disk
+on_none : (disk : ScriptDisk) → HandsOn script_kind disk disk
 on_none disk = record { main = λ h. keeps_none disk; honest_still = λ h. h }
 
 -- with the same disk within
-on_same : (a b : ScriptDisk) → inner_of b ≡ inner_of a → HandsOn disk_view disk_honest a b
+on_same : (a b : ScriptDisk) → inner_of b ≡ inner_of a → HandsOn script_kind a b
 on_same a b is = record {
   main = λ h. subst (λ (d : MemoryDisk). KeepsMain (view_of (inner_of a)) (view_of d)) (sym is) (keeps_none a);
   honest_still = λ h. h;
@@ -55,7 +55,7 @@ on_same a b is = record {
 abbrev LentDisk : Type 0
 LentDisk = Lent ScriptDisk ScriptDisk
 
-on_lent : (a b : ScriptDisk) → HandsOn disk_view disk_honest a b → HandsOn (lent_view disk_view disk_view) (lent_honest disk_honest disk_honest) (One a) (One b)
+on_lent : (a b : ScriptDisk) → HandsOn script_kind a b → HandsOn (lent script_kind script_kind) (One a) (One b)
 on_lent a b on = record { main = on.main; honest_still = on.honest_still }
 
 abbrev within : LentDisk → ScriptDisk
@@ -71,7 +71,7 @@ module _ {S Application : Type 0} (l : Layer S Application Saved) where
   LentCall = Call S LentDisk
 
   abbrev Chain : ServerCore S → LentDisk → List LentCall → ServerCore S → LentDisk → List (Entry Saved) → Type 0
-  Chain before old calls after new entries = Calls l disk_view disk_honest disk_view disk_honest before old calls after new entries
+  Chain before old calls after new entries = Calls l script_kind script_kind (with_disk before old) calls (with_disk after new) entries
 
   course_none : (server : ServerCore S) (disk : ScriptDisk) → Course l server disk [] server disk
   course_none server disk = record {
@@ -105,7 +105,7 @@ module _ {S Application : Type 0} (l : Layer S Application Saved) where
 
   -- then the disk is handed on
   course_on : (before after : ServerCore S) (old mid new : ScriptDisk) (events : List Event)
-      → Course l before old events after mid → HandsOn disk_view disk_honest mid new → Course l before old events after new
+      → Course l before old events after mid → HandsOn script_kind mid new → Course l before old events after new
   course_on before after old mid new events course on = record {
     calls = course.calls;
     entries = course.entries;
@@ -116,12 +116,12 @@ module _ {S Application : Type 0} (l : Layer S Application Saved) where
     taken = course.taken;
     handed = course.handed;
     hands = course.hands;
-    on = on_join disk_view disk_honest course.disk mid new course.on on;
+    on = on_join script_kind course.disk mid new course.on on;
   }
 
   -- one call of one event
   course_one : (before after : ServerCore S) (old new : ScriptDisk) (event : given.Event)
-      → Runs l disk_view disk_honest disk_failures before after old new (event ∷ []) (Ok 1) → Course l before old (seen event ∷ []) after new
+      → Runs l script_kind (with_disk before old) (with_disk after new) (event ∷ []) (Ok 1) → Course l before old (seen event ∷ []) after new
   course_one before after old new event runs = record {
     calls = record { handed = silence; before = before; old = One old; events = event ∷ []; done = 1; entries = entries_of runs.ran.taken; server = after; disk = One new } ∷ [];
     entries = entries_of runs.ran.taken;
@@ -170,8 +170,8 @@ module _ {S Application : Type 0} (l : Layer S Application Saved) where
   )
 
   -- what was handed out before a call is no part of it
-  of_call : (call : LentCall) (h : Output) (old new : LentDisk) → IsCallOf l disk_view disk_honest disk_view disk_honest call old new
-      → IsCallOf l disk_view disk_honest disk_view disk_honest (record call { handed = h }) old new
+  of_call : (call : LentCall) (h : Output) (old new : LentDisk) → IsCallOf l script_kind script_kind call old new
+      → IsCallOf l script_kind script_kind (record call { handed = h }) old new
   of_call call h (One old) (One new) run = record { ran = run.ran; entries = run.entries; honest_still = run.honest_still }
   of_call call h (Other old) (Other new) run = record { ran = run.ran; entries = run.entries; honest_still = run.honest_still }
   of_call call h (One old) (Other new) run = absurd run
@@ -194,8 +194,8 @@ module _ {S Application : Type 0} (l : Layer S Application Saved) where
         handed = then_out first.handed second.handed;
         hands = hands_join l first.handed second.handed first.last mid after first.hands
             (subst (λ (s : ServerCore S). Hands l second.handed s after) chain.0 second.hands);
-        on = on_join disk_view disk_honest first.disk between new first.on
-            (subst (λ (d : ScriptDisk). HandsOn disk_view disk_honest d new) (ap within chain.1) second.on);
+        on = on_join script_kind first.disk between new first.on
+            (subst (λ (d : ScriptDisk). HandsOn script_kind d new) (ap within chain.1) second.on);
       }
       by_calls (call ∷ calls) chain single taken =
           record {
@@ -205,7 +205,7 @@ module _ {S Application : Type 0} (l : Layer S Application Saved) where
             disk = second.disk;
             chain = chain_append first.calls ((record call { handed = then_out first.handed call.handed }) ∷ calls) before first.last second.last (One old) (One first.disk) (One second.disk) first.entries second.entries first.chain (
               hands_join l first.handed call.handed first.last mid call.before first.hands chain.0,
-              on_join (lent_view disk_view disk_view) (lent_honest disk_honest disk_honest) (One first.disk) (One between) call.old (on_lent first.disk between first.on) chain.1,
+              on_join (lent script_kind script_kind) (One first.disk) (One between) call.old (on_lent first.disk between first.on) chain.1,
               of_call call (then_out first.handed call.handed) call.old call.disk chain.2,
               chain.3,
               chain.4,

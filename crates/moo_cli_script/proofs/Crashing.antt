@@ -1,20 +1,20 @@
 -- A disk that is made to fail, and one that a crash has left.
 use Rattle.std.proofs.Common.{◌≡◌, ℕ, [], ◌∷◌, Some, sym, ◌∙◌, ap, subst}
 use Rattle.std.specs.Prelude.{slice_get}
-use Rattle.moo_disk.specs.Disk.{DiskView, IsLeftBy}
+use Rattle.moo_disk.specs.Disk.{DiskKind, IsLeftBy}
 use Rattle.moo_disk.specs.FailAt.{inner_of, left_of}
 use Rattle.moo_disk.specs.Memory.{images, view_of}
 use Rattle.moo_disk.specs.declared.memory.MemoryDisk.{MemoryDisk}
 use Rattle.moo_dbtext_read.specs.Saved.{Saved}
 use Rattle.moo_server_core.specs.Application.{Layer}
-use Rattle.moo_server_core.specs.Server.{Follows}
+use Rattle.moo_server_core.specs.Server.{Follows, with_disk}
 use Rattle.moo_server_core.specs.declared.server_core.ServerCore.{ServerCore}
 use Rattle.moo_cli_script.specs.Script.{IsCrashed, ScriptDisk}
 
 -- a server goes on with the same disk
-pub follows_same_disk : {S Application D : Type 0} (l : Layer S Application Saved) (view : D → DiskView) (honest stands : D → Type 0) (server : ServerCore S) (one other : D) → other ≡ one
-    → Follows l view honest stands server one → Follows l view honest stands server other
-follows_same_disk l view honest stands server one other is follows = subst (λ d. Follows l view honest stands server d) (sym is) follows
+pub follows_same_disk : {S Application D : Type 0} (l : Layer S Application Saved) (kind : DiskKind D) (server : ServerCore S) (one other : D) → other ≡ one
+    → Follows l kind (with_disk server one) → Follows l kind (with_disk server other)
+follows_same_disk l kind server one other is follows = subst (λ d. Follows l kind (with_disk server d)) (sym is) follows
 
 pub crashed : (i : ℕ) (old left : ScriptDisk) (within after : MemoryDisk) → within ≡ inner_of old → inner_of left ≡ after
     → slice_get (images within) i ≡ Some (view_of after).main_text → images after ≡ (view_of after).main_text ∷ [] → IsLeftBy (view_of within) (view_of after)

@@ -2,18 +2,18 @@
 use Rattle.std.proofs.Common.{◌≡◌, ◌≢◌, ℕ, suc, ◌+◌, ◌<◌, ◌≤◌, ⊎_elim, List, [], Option, refl, sym, ◌∙◌, ap, subst, append_assoc, arith}
 use Rattle.moo_dbtext_read.specs.Saved.{Saved}
 use Rattle.moo_server_core.specs.Application.{Layer, Output, silence, then_out}
-use Rattle.moo_disk.specs.Disk.{DiskView}
+use Rattle.moo_disk.specs.Disk.{DiskKind}
 use Rattle.moo_server_core.specs.declared.server_core.Open.{Open}
 use Rattle.moo_server_core.specs.declared.server_core.ServerCore.{ServerCore}
 use Rattle.moo_server_core.specs.Meaning.{State}
-use Rattle.moo_server_core.specs.Server.{Follows, Hands, OpenFollows, Same, waiting_of}
+use Rattle.moo_server_core.specs.Server.{Follows, Hands, OpenFollows, Same, waiting_of, with_disk}
 use Rattle.std.specs.Prelude.{Result, Ok, Err, OnOk}
 use Rattle.std.proofs.lemmas.Bool.{cases_lt}
 use Rattle.std.proofs.KnownBytes.{Appends-trans}
 use Rattle.std.specs.Io.KnownBytes.{Appends}
 use Rattle.moo_cli_script.specs.Printed.{sent_lines}
 use Rattle.moo_cli_script.specs.declared.script.Script.{Script}
-use Rattle.moo_cli_script.specs.Script.{Fits, HandsOut, ScriptDisk, disk_honest, disk_stands, disk_view, printed_below}
+use Rattle.moo_cli_script.specs.Script.{Fits, HandsOut, ScriptDisk, printed_below, script_kind}
 
 -- what holds in any case holds if there is no error
 pub on_ok_anyway : {T E P : Type 0} (result : Result T E) → P → OnOk result P
@@ -47,11 +47,11 @@ module _ {S Application : Type 0} (l : Layer S Application Saved) where
     waiting = first.waiting ∙ ap (λ (o : Output). then_out h o) second.waiting ∙ sym (out_assoc h h' (waiting_of l c));
   }
 
-  pub follows_same : {D : Type 0} (view : D → DiskView) (honest stands : D → Type 0) (one other : ServerCore S) (disk : D) → Same l one other
-      → Follows l view honest stands one disk → Follows l view honest stands other disk
-  follows_same view honest stands one other disk same follows = record {
+  pub follows_same : {D : Type 0} (kind : DiskKind D) (one other : ServerCore S) (disk : D) → Same l one other
+      → Follows l kind (with_disk one disk) → Follows l kind (with_disk other disk)
+  follows_same kind one other disk same follows = record {
     still = same.under_way follows.still;
-    continues = subst (λ (w : Option Open). OpenFollows view honest stands w disk) (sym same.writing) follows.continues;
+    continues = subst (λ (w : Option Open). OpenFollows kind w disk) (sym same.writing) follows.continues;
   }
 
   -- what was printed of a server so far: connections below a number
@@ -100,8 +100,8 @@ module _ {S Application : Type 0} (l : Layer S Application Saved) where
 
   pub fits_handed : (old new : Script S) → Fits l old → HandsOut l old new → new.moment ≡ old.moment → Fits l new
   fits_handed old new fits hands moment = record {
-    follows = subst (λ (d : ScriptDisk). Follows l disk_view disk_honest disk_stands new.server d) (sym hands.disk)
-        (follows_same disk_view disk_honest disk_stands old.server new.server old.disk hands.same fits.follows);
+    follows = subst (λ (d : ScriptDisk). Follows l script_kind (with_disk new.server d)) (sym hands.disk)
+        (follows_same script_kind old.server new.server old.disk hands.same fits.follows);
     alive = hands.same.halted ∙ fits.alive;
     moment_is = moment ∙ fits.moment_is ∙ sym (ap (λ (s : State Application). s.moment) hands.same.state);
     top_fits = subst (λ (n : ℕ). n ≤ 65536) (sym hands.top) fits.top_fits;

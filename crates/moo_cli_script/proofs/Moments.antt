@@ -1,14 +1,14 @@
 -- The moment at which a server stands behind an event.
 use Rattle.std.proofs.Common.{◌≡◌, ℕ, List, [], ◌∷◌, map, Option, Some, None, true, false, refl, ◌∙◌, ap, subst}
 use Rattle.std.specs.Prelude.{◌&&◌, not, MatchBool, Ok}
-use Rattle.moo_disk.specs.Disk.{DiskView}
+use Rattle.moo_disk.specs.Disk.{DiskKind}
 use Rattle.moo_dbtext_read.specs.Saved.{Saved}
 use Rattle.moo_server_core.specs.Application.{Finishes, Input, HangsUp, Layer, Meaning, Opens, Output, Receives, Starts}
 use Rattle.moo_server_core.specs.Courses.{is_closing}
 use Rattle.moo_server_core.specs.Traces.{Report}
 use Rattle.moo_server_core.specs.Seen.{Event, Open, Bytes, Hangup, Moment, Flush, is_flush, seen}
 use Rattle.moo_server_core.specs.Meaning.{Acts, Entry, Hears, Marks, Passes, Reports, Run, State, Steps, Takes, is_done, refusal_in}
-use Rattle.moo_server_core.specs.Server.{IsAlive, Runs, entries_of, state_of}
+use Rattle.moo_server_core.specs.Server.{IsAlive, Runs, entries_of, state_of, with_disk}
 use Rattle.moo_server_core.proofs.Running.{lived_of}
 use Rattle.moo_server_core.specs.declared.event.Course.{Course}
 use Rattle.moo_server_core.specs.declared.event.Course.TheVariants.{Running, Closing, Closed}
@@ -75,9 +75,9 @@ module _ {Application Saved : Type 0} (m : Meaning Application Saved) where
   one_at (x ∷ y ∷ entries) e old end is run = absurd (cc is)
 
 -- a run of one event that was taken
-pub run_at : {S Application D : Type 0} (l : Layer S Application Saved) (view : D → DiskView) (honest : D → Type 0) (failures : D → ℕ) (before after : ServerCore S) (old new : D) (e : given.Event)
-    → Runs l view honest failures before after old new (e ∷ []) (Ok 1) → IsAlive after → after.moment ≡ moment_at before.course (seen e) before.moment
-run_at l view honest failures before after old new e runs alive =
-    let lived = lived_of l view honest before after old new (e ∷ []) 1 runs.ran in
+pub run_at : {S Application D : Type 0} (l : Layer S Application Saved) (kind : DiskKind D) (before after : ServerCore S) (old new : D) (e : given.Event)
+    → Runs l kind (with_disk before old) (with_disk after new) (e ∷ []) (Ok 1) → IsAlive after → after.moment ≡ moment_at before.course (seen e) before.moment
+run_at l kind before after old new e runs alive =
+    let lived = lived_of l kind before after old new (e ∷ []) 1 runs.ran in
     ap (λ s. s.moment) (lived.state alive)
     ∙ one_at l.meaning (entries_of runs.ran.taken) (seen e) (state_of l before) lived.end runs.ran.events_are lived.run

@@ -5,11 +5,11 @@ use Rattle.std.proofs.lemmas.List.Elements.{All-cons, All-nil}
 use Rattle.moo_dbtext_read.specs.Saved.{Saved}
 use Rattle.moo_server_core.specs.Application.{Layer}
 use Rattle.moo_server_core.specs.Seen.{Flush, seen}
-use Rattle.moo_server_core.specs.Server.{Follows, IsAlive, Runs}
+use Rattle.moo_server_core.specs.Server.{Follows, IsAlive, Runs, with_disk}
 use Rattle.moo_server_core.specs.declared.event.Event as given
 use Rattle.moo_server_core.specs.declared.event.RunFault.{RunFault}
 use Rattle.moo_cli_script.specs.declared.script.Script.{Script}
-use Rattle.moo_cli_script.specs.Script.{Fits, Refuses, ScriptDisk, Takes, disk_failures, disk_honest, disk_stands, disk_view, top_behind}
+use Rattle.moo_cli_script.specs.Script.{Fits, Refuses, ScriptDisk, Takes, script_kind, top_behind}
 use Rattle.moo_cli_script.specs.Works.{moment_at}
 use Rattle.moo_cli_script.proofs.Moments.{run_at}
 
@@ -21,7 +21,7 @@ module _ {S Application : Type 0} (l : Layer S Application Saved) where
       still (subst (λ (es : List given.Event). All P es) (sym single) (All-cons P e [] other (All-nil P)))
 
   abbrev Of : Script S → Script S → List given.Event → Result ℕ RunFault → Type 0
-  Of old new events result = Runs l disk_view disk_honest disk_failures old.server new.server old.disk new.disk events result
+  Of old new events result = Runs l script_kind (with_disk old.server old.disk) (with_disk new.server new.disk) events result
 
   one_run : (e : given.Event) (old new : Script S) (result : Result ℕ RunFault) (n : ℕ) (events : List given.Event) → Of old new events result
       → events ≡ e ∷ [] → result ≡ Ok n → n ≡ length events → Of old new (e ∷ []) (Ok 1)
@@ -60,10 +60,10 @@ module _ {S Application : Type 0} (l : Layer S Application Saved) where
   }
 
   pub fits_taken : (e : given.Event) (old new : Script S) (result : Result ℕ RunFault) (n : ℕ) (events : List given.Event) → Of old new events result
-      → events ≡ e ∷ [] → result ≡ Ok n → n ≡ length events → IsAlive new.server → Fits l old → Follows l disk_view disk_honest disk_stands new.server new.disk
+      → events ≡ e ∷ [] → result ≡ Ok n → n ≡ length events → IsAlive new.server → Fits l old → Follows l script_kind (with_disk new.server new.disk)
       → new.moment ≡ moment_at old.server.course (seen e) old.moment → new.top ≤ 65536 → Fits l new
   fits_taken e old new result n events runs single is count alive fits follows moment top =
-      let at = run_at l disk_view disk_honest disk_failures old.server new.server old.disk new.disk e (one_run e old new result n events runs single is count) alive in
+      let at = run_at l script_kind old.server new.server old.disk new.disk e (one_run e old new result n events runs single is count) alive in
       record {
         follows = follows;
         alive = alive;

@@ -4,11 +4,11 @@ use Rattle.moo_dbtext_read.specs.Saved.{Saved}
 use Rattle.moo_server_core.specs.Application.{Layer, Output}
 use Rattle.moo_server_core.specs.Meaning.{Entry}
 use Rattle.moo_server_core.specs.Seen.{Event, seen}
-use Rattle.moo_server_core.specs.Server.{Hands}
+use Rattle.moo_server_core.specs.Server.{Hands, with_disk}
 use Rattle.moo_server_core.specs.Calls.{Call, Calls, HandsOn, Lent, One}
 use Rattle.moo_server_core.specs.declared.server_core.ServerCore.{ServerCore}
 use Rattle.moo_cli_script.specs.ScriptLines.{Asks, Step, reopening, crashing}
-use Rattle.moo_cli_script.specs.Script.{ScriptDisk, disk_honest, disk_view, event_of}
+use Rattle.moo_cli_script.specs.Script.{ScriptDisk, event_of, script_kind}
 
 -- the step opens another server
 abbrev pub IsOpening : Step → Type 0
@@ -48,9 +48,9 @@ pub record Course {S Application : Type 0} (l : Layer S Application Saved) (befo
   pub entries : List (Entry Saved)
   pub last : ServerCore S
   pub disk : ScriptDisk
-  pub chain : Calls l disk_view disk_honest disk_view disk_honest before (One old) calls last (One disk) entries
+  pub chain : Calls l script_kind script_kind (with_disk before (One old)) calls (with_disk last (One disk)) entries
   pub single : AreSingle calls
   pub taken : taken_in calls ≡ events
   pub handed : Output
   pub hands : Hands l handed last after
-  pub on : HandsOn disk_view disk_honest disk new
+  pub on : HandsOn script_kind disk new

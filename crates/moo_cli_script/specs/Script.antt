@@ -1,19 +1,20 @@
 -- What a step of a script does to a server over a disk in memory, and what is printed of it.
-use Rattle.std.specs.Prelude.{◌≡◌, ◌≢◌, ℕ, zero, suc, ◌+◌, ◌<◌, ◌≤◌, max, Bool, List, [], ◌∷◌, ◌++◌, codes, length, slice_get, Option, Some, None, Result, Ok, Err, IsSome, MatchOption}
-use Rattle.moo_disk.specs.Disk.{DiskView}
-use Rattle.moo_disk.specs.FailAt.{failures_of as failures_with, has_effect, inner_of, left_of}
-use Rattle.moo_disk.specs.Memory.{failures_of, images, view_of}
+use Rattle.std.specs.Prelude.{◌≡◌, ◌≢◌, ℕ, zero, suc, ◌+◌, ◌<◌, ◌≤◌, max, Bool, List, [], ◌∷◌, ◌++◌, codes, length, slice_get, Option, Some, None, Result, Ok, Err, MatchOption}
+use Rattle.moo_disk.specs.Disk.{DiskKind, DiskView, OnlyReads}
+use Rattle.moo_disk.specs.FailAt.{failing_kind, has_effect, inner_of, left_of}
+use Rattle.moo_disk.specs.Memory.{images, memory_kind}
 use Rattle.moo_disk.specs.declared.fail_at.FailAt.{FailAt}
 use Rattle.moo_disk.specs.declared.memory.MemoryDisk.{MemoryDisk}
 use Rattle.moo_dbtext_record.specs.declared.fault.DbFault.{DbFault}
 use Rattle.moo_dbtext_record.specs.declared.fault.DbFaultKind.TheVariants as kind
 use Rattle.moo_dbtext_read.specs.Saved.{Saved, SpellsSavedWithin}
 use Rattle.moo_dbtext_read.specs.Refusals.{Refuses as RefusesText}
+use Rattle.moo_checkpoint.specs.Recovering.{CountsFault}
 use Rattle.moo_checkpoint.specs.declared.open_fault.OpenFault.{OpenFault}
 use Rattle.moo_checkpoint.specs.declared.open_fault.OpenFault.TheVariants as opening_fault
 use Rattle.moo_server_core.specs.Application.{Layer, Output}
 use Rattle.moo_server_core.specs.Seen.{Event, Open, Bytes, Hangup, Moment, Flush, seen}
-use Rattle.moo_server_core.specs.Server.{Follows, Hands, IsAlive, Runs, Same, waiting_of}
+use Rattle.moo_server_core.specs.Server.{Follows, Hands, IsAlive, Runs, Same, waiting_of, with_disk}
 use Rattle.moo_server_core.specs.Calls.{Opened}
 use Rattle.moo_server_core.specs.declared.event.Event as given
 use Rattle.moo_server_core.specs.declared.event.Cause.{Cause}
@@ -29,17 +30,11 @@ use Rattle.moo_cli_script.specs.declared.script.Script.{Script}
 abbrev pub ScriptDisk : Type 0
 ScriptDisk = FailAt MemoryDisk
 
+abbrev pub script_kind : DiskKind ScriptDisk
+script_kind = failing_kind memory_kind
+
 abbrev pub disk_view : ScriptDisk → DiskView
-disk_view disk = view_of (inner_of disk)
-
-abbrev pub disk_honest : ScriptDisk → Type 0
-disk_honest disk = Unit {0}
-
-abbrev pub disk_stands : ScriptDisk → Type 0
-disk_stands disk = IsSome (disk_view disk).spare
-
-abbrev pub disk_failures : ScriptDisk → ℕ
-disk_failures disk = failures_with failures_of disk
+disk_view disk = script_kind.view disk
 
 -- from now on its k-th call fails, with or without its effect
 pub record FailsAt (k : ℕ) (effect : Bool) (old new : ScriptDisk) : Type 0 where
@@ -55,10 +50,13 @@ pub record IsCrashed (i : ℕ) (old new : ScriptDisk) : Type 0 where
   pub call : left_of new ≡ 0
 
 -- Why there is no server over a disk: if the text is refused, this is the fault that is reported, and it spells no saved world within the
--- limits.
+-- limits. The device is reported if it failed in a read, and in no other case. No other call was made.
 pub record NotOpened (disk : ScriptDisk) (fault : OpenFault) : Type 0 where
   pub text : (f : DbFault) → fault ≡ opening_fault.Db f → RefusesText (disk_view disk).main_text f × (f.kind ≢ kind.Memory)
   pub none : (f : DbFault) → fault ≡ opening_fault.Db f → (saved : Saved) → ¬ SpellsSavedWithin (disk_view disk).main_text saved
+  pub left : ScriptDisk
+  pub reads : OnlyReads script_kind disk left
+  pub device : CountsFault (Unit {0}) (script_kind.failures disk) (script_kind.failures left) fault
 
 -- ---- events
 
@@ -83,7 +81,7 @@ top_behind event top = top
 module _ {S Application : Type 0} (l : Layer S Application Saved) where
   -- the server isn't halted and goes on with its disk, and its moment is known
   pub record Fits (script : Script S) : Type 0 where
-    pub follows : Follows l disk_view disk_honest disk_stands script.server script.disk
+    pub follows : Follows l script_kind (with_disk script.server script.disk)
     pub alive : IsAlive script.server
     pub moment_is : script.moment ≡ script.server.moment
     pub top_fits : script.top ≤ 65536
@@ -92,7 +90,7 @@ module _ {S Application : Type 0} (l : Layer S Application Saved) where
   pub record IsRun (event : Event) (old new : Script S) (result : Result ℕ RunFault) : Type 0 where
     pub given_event : given.Event
     pub event_is : seen given_event ≡ event
-    pub runs : Runs l disk_view disk_honest disk_failures old.server new.server old.disk new.disk (given_event ∷ []) result
+    pub runs : Runs l script_kind (with_disk old.server old.disk) (with_disk new.server new.disk) (given_event ∷ []) result
     pub still : event ≢ Flush → new.disk ≡ old.disk
 
   -- an event was taken
@@ -112,7 +110,7 @@ module _ {S Application : Type 0} (l : Layer S Application Saved) where
   pub record OpensServer (disk : ScriptDisk) (at : ℕ) (new : Script S) : Type 0 where
     pub saved : Saved
     pub spelled : SpellsSavedWithin (disk_view disk).main_text saved
-    pub opened : Opened l disk_view disk_honest new.server disk new.disk saved at
+    pub opened : Opened l script_kind new.server disk new.disk saved at
     pub top : new.top ≡ 0
 
   -- another one was opened over what a crash left, at the same moment

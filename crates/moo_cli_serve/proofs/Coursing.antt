@@ -2,13 +2,13 @@
 use Rattle.std.proofs.Common.{◌≡◌, ℕ, List, [], ◌∷◌, ◌++◌, length, map, take, Option, false, Ok, Err, refl, sym, ◌∙◌, ap, subst, append_assoc, arith}
 use Rattle.std.specs.Prelude.{if◌then◌else◌, slice_index_or}
 use Rattle.std.proofs.lemmas.List.{append-nil}
-use Rattle.moo_disk.specs.Disk.{DiskView, KeepsMain}
+use Rattle.moo_disk.specs.Disk.{DiskKind, KeepsMain}
 use Rattle.moo_dbtext_read.specs.Saved.{Saved}
 use Rattle.moo_server_core.specs.Application.{Layer, Output, silence, then_out}
 use Rattle.moo_server_core.specs.Meaning.{Entry, out_of}
 use Rattle.moo_server_core.specs.Seen.{seen as seen_event}
 use Rattle.moo_server_core.specs.Seen as seen
-use Rattle.moo_server_core.specs.Server.{Follows, Hands, OpenFollows, Ran, Runs, Same, entries_of, waiting_of}
+use Rattle.moo_server_core.specs.Server.{Follows, Hands, OpenFollows, Ran, Runs, Same, entries_of, waiting_of, with_disk}
 use Rattle.moo_server_core.specs.Calls.{Call, Calls, IsCallOf, Lent, One, Other}
 use Rattle.moo_server_core.specs.declared.event.Event.{Event}
 use Rattle.moo_server_core.specs.declared.event.Event.TheVariants as the
@@ -57,21 +57,21 @@ module _ {S Application : Type 0} (l : Layer S Application Saved) where
   }
 
   -- a server goes on with its disk where some of what waits was handed out
-  pub follows_on : {D : Type 0} (view : D → DiskView) (honest stands : D → Type 0) (h : Output) (one other : ServerCore S) (disk : D)
-      → Hands l h one other → Follows l view honest stands one disk → Follows l view honest stands other disk
-  follows_on view honest stands h one other disk hands f = record {
+  pub follows_on : {D : Type 0} (kind : DiskKind D) (h : Output) (one other : ServerCore S) (disk : D)
+      → Hands l h one other → Follows l kind (with_disk one disk) → Follows l kind (with_disk other disk)
+  follows_on kind h one other disk hands f = record {
     still = hands.same.under_way f.still;
-    continues = subst (λ (w : Option Open). OpenFollows view honest stands w disk) (sym hands.same.writing) f.continues;
+    continues = subst (λ (w : Option Open). OpenFollows kind w disk) (sym hands.same.writing) f.continues;
   }
 
-  module _ {D : Type 0} (view : D → DiskView) (honest : D → Type 0) where
+  module _ {D : Type 0} (kind : DiskKind D) where
     abbrev LentCall : Type 0
     LentCall = Call S (Lent D D)
 
     abbrev Chain : ServerCore S → Lent D D → List LentCall → ServerCore S → Lent D D → List (Entry Saved) → Type 0
-    Chain before old calls after new entries = Calls l view honest view honest before old calls after new entries
+    Chain before old calls after new entries = Calls l kind kind (with_disk before old) calls (with_disk after new) entries
 
-    pub course_none : (server : ServerCore S) (disk : D) → Course l view honest server disk [] server disk
+    pub course_none : (server : ServerCore S) (disk : D) → Course l kind server disk [] server disk
     course_none server disk = record {
       calls = [];
       entries = [];
@@ -85,7 +85,7 @@ module _ {S Application : Type 0} (l : Layer S Application Saved) where
 
     -- then some of what waits is handed out
     pub course_hands : (before mid after : ServerCore S) (old new : D) (events : List Event) (h : Output)
-        → Course l view honest before old events mid new → Hands l h mid after → Course l view honest before old events after new
+        → Course l kind before old events mid new → Hands l h mid after → Course l kind before old events after new
     course_hands before mid after old new events h course hands = record {
       calls = course.calls;
       entries = course.entries;
@@ -97,13 +97,13 @@ module _ {S Application : Type 0} (l : Layer S Application Saved) where
       hands = hands_join course.handed h course.last mid after course.hands hands;
     }
 
-    keeps_main : (disk : D) → KeepsMain (view disk) (view disk)
-    keeps_main disk = record { text = refl; crash = gains_none (view disk) }
+    keeps_main : (disk : D) → KeepsMain (kind.view disk) (kind.view disk)
+    keeps_main disk = record { text = refl; crash = gains_none (kind.view disk) }
 
     -- one call of one event
     pub course_one : (before after : ServerCore S) (old new : D) (event : Event) (done : ℕ)
-        → (ran : Ran l view honest before after old new (event ∷ []) done) → (honest old → honest new)
-        → Course l view honest before old (take done (event ∷ [])) after new
+        → (ran : Ran l kind (with_disk before old) (with_disk after new) (event ∷ []) done) → (kind.honest old → kind.honest new)
+        → Course l kind before old (take done (event ∷ [])) after new
     course_one before after old new event done ran still = record {
       calls = record { handed = silence; before = before; old = One old; events = event ∷ []; done = done; entries = entries_of ran.taken; server = after; disk = One new } ∷ [];
       entries = entries_of ran.taken;
@@ -123,11 +123,11 @@ module _ {S Application : Type 0} (l : Layer S Application Saved) where
     }
 
     -- a run that refused it
-    pub course_refused : (failures : D → ℕ) (before after : ServerCore S) (old new : D) (event : Event) (events : List Event) (fault : RunFault)
-        → events ≡ event ∷ [] → (honest old → honest new)
-        → Runs l view honest failures before after old new events (Err fault) → Course l view honest before old (take fault.done (event ∷ [])) after new
-    course_refused failures before after old new event events fault is still runs =
-        course_one before after old new event fault.done (subst (λ (es : List Event). Runs l view honest failures before after old new es (Err fault)) is runs).ran still
+    pub course_refused : (before after : ServerCore S) (old new : D) (event : Event) (events : List Event) (fault : RunFault)
+        → events ≡ event ∷ [] → (kind.honest old → kind.honest new)
+        → Runs l kind (with_disk before old) (with_disk after new) events (Err fault) → Course l kind before old (take fault.done (event ∷ [])) after new
+    course_refused before after old new event events fault is still runs =
+        course_one before after old new event fault.done (subst (λ (es : List Event). Runs l kind (with_disk before old) (with_disk after new) es (Err fault)) is runs).ran still
 
     -- ---- two, one behind the other
 
@@ -156,8 +156,8 @@ module _ {S Application : Type 0} (l : Layer S Application Saved) where
     )
 
     -- what was handed out before a call is no part of it
-    of_call : (call : LentCall) (h : Output) (old new : Lent D D) → IsCallOf l view honest view honest call old new
-        → IsCallOf l view honest view honest (record call { handed = h }) old new
+    of_call : (call : LentCall) (h : Output) (old new : Lent D D) → IsCallOf l kind kind call old new
+        → IsCallOf l kind kind (record call { handed = h }) old new
     of_call call h (One old) (One new) run = record { ran = run.ran; entries = run.entries; honest_still = run.honest_still }
     of_call call h (Other old) (Other new) run = record { ran = run.ran; entries = run.entries; honest_still = run.honest_still }
     of_call call h (One old) (Other new) run = absurd run
@@ -165,12 +165,12 @@ module _ {S Application : Type 0} (l : Layer S Application Saved) where
 
     -- the first call finds what was handed out before it
     course_joined : (before mid after : ServerCore S) (old between new : D) (events events' : List Event)
-        → (first : Course l view honest before old events mid between) → (second : Course l view honest mid between events' after new)
-        → (both : Course l view honest before old (events ++ events') after new) × (both.entries ≡ first.entries ++ second.entries)
+        → (first : Course l kind before old events mid between) → (second : Course l kind mid between events' after new)
+        → (both : Course l kind before old (events ++ events') after new) × (both.entries ≡ first.entries ++ second.entries)
     course_joined before mid after old between new events events' first second = by_calls second.calls second.chain second.single second.taken
       where
         by_calls : (calls : List LentCall) → Chain mid (One between) calls second.last (One new) second.entries → AreSingle calls → events' ≡ taken_in calls
-            → (both : Course l view honest before old (events ++ events') after new) × (both.entries ≡ first.entries ++ second.entries)
+            → (both : Course l kind before old (events ++ events') after new) × (both.entries ≡ first.entries ++ second.entries)
         by_calls [] chain single taken = (
           record {
             calls = first.calls;
@@ -203,8 +203,8 @@ module _ {S Application : Type 0} (l : Layer S Application Saved) where
         )
 
     pub course_join : (before mid after : ServerCore S) (old between new : D) (events events' : List Event)
-        → Course l view honest before old events mid between → Course l view honest mid between events' after new
-        → Course l view honest before old (events ++ events') after new
+        → Course l kind before old events mid between → Course l kind mid between events' after new
+        → Course l kind before old (events ++ events') after new
     course_join before mid after old between new events events' first second = (course_joined before mid after old between new events events' first second).0
 
     -- ---- what waits of them
@@ -213,7 +213,7 @@ module _ {S Application : Type 0} (l : Layer S Application Saved) where
     sent_append c waits [] second = refl
     sent_append c waits (entry ∷ first) second = sent_append c (if hangs_up c entry.event then [] else waits ++ entry.out.sent c) first second
 
-    pub given_none : (server : ServerCore S) (disk : D) → Given l view honest server disk [] server disk
+    pub given_none : (server : ServerCore S) (disk : D) → Given l kind server disk [] server disk
     unfolding course_none
     given_none server disk = record { course = course_none server disk; sent = λ c. refl; logged = sym (append-nil (waiting_of l server).logged) }
 
@@ -224,8 +224,8 @@ module _ {S Application : Type 0} (l : Layer S Application Saved) where
         ∙ sym (append_assoc entry.out.logged (out_of entries).logged (out_of others).logged)
 
     pub given_join : (before mid after : ServerCore S) (old between new : D) (events events' : List Event)
-        → Given l view honest before old events mid between → Given l view honest mid between events' after new
-        → Given l view honest before old (events ++ events') after new
+        → Given l kind before old events mid between → Given l kind mid between events' after new
+        → Given l kind before old (events ++ events') after new
     given_join before mid after old between new events events' first second =
         let both = course_joined before mid after old between new events events' first.course second.course in
         record {
@@ -252,10 +252,10 @@ module _ {S Application : Type 0} (l : Layer S Application Saved) where
 
     -- a run that took its only event; then what waited for one who hung up is dropped
     given_ran : (before mid after : ServerCore S) (old new : D) (event : Event) (done : ℕ)
-        → (ran : Ran l view honest before mid old new (event ∷ []) done) → done ≡ 1 → (honest old → honest new) → ((h : Output) × Hands l h mid after)
+        → (ran : Ran l kind (with_disk before old) (with_disk mid new) (event ∷ []) done) → done ≡ 1 → (kind.honest old → kind.honest new) → ((h : Output) × Hands l h mid after)
         → ((c : ℕ) → (waiting_of l after).sent c ≡ (if hangs_up c (seen_event event) then [] else (waiting_of l mid).sent c))
         → (waiting_of l after).logged ≡ (waiting_of l mid).logged
-        → Given l view honest before old (take done (event ∷ [])) after new
+        → Given l kind before old (take done (event ∷ [])) after new
     unfolding course_hands course_one
     given_ran before mid after old new event done ran one still dropped left log = record {
       course = course_hands before mid after old new (take done (event ∷ [])) dropped.0 (course_one before mid old new event done ran still) dropped.1;
@@ -266,15 +266,15 @@ module _ {S Application : Type 0} (l : Layer S Application Saved) where
     }
       where
         waits : waiting_of l mid ≡ then_out (waiting_of l before) (out_of (entries_of ran.taken))
-        waits = waits_of l view honest before mid old new (event ∷ []) done ran
+        waits = waits_of l kind before mid old new (event ∷ []) done ran
 
-    pub given_one : (failures : D → ℕ) (before mid after : ServerCore S) (old new : D) (event : Event) (events : List Event) (done : ℕ)
-        → events ≡ event ∷ [] → done ≡ length events → (honest old → honest new)
-        → Runs l view honest failures before mid old new events (Ok done) → ((h : Output) × Hands l h mid after)
+    pub given_one : (before mid after : ServerCore S) (old new : D) (event : Event) (events : List Event) (done : ℕ)
+        → events ≡ event ∷ [] → done ≡ length events → (kind.honest old → kind.honest new)
+        → Runs l kind (with_disk before old) (with_disk mid new) events (Ok done) → ((h : Output) × Hands l h mid after)
         → ((c : ℕ) → (waiting_of l after).sent c ≡ (if hangs_up c (seen_event event) then [] else (waiting_of l mid).sent c))
         → (waiting_of l after).logged ≡ (waiting_of l mid).logged
-        → Given l view honest before old (event ∷ []) after new
-    given_one failures before mid after old new event events done is all still runs dropped left log =
+        → Given l kind before old (event ∷ []) after new
+    given_one before mid after old new event events done is all still runs dropped left log =
         let one : done ≡ 1 = all ∙ ap (λ (es : List Event). length es) is in
-        subst (λ (n : ℕ). Given l view honest before old (take n (event ∷ [])) after new) one
-        (given_ran before mid after old new event done (subst (λ (es : List Event). Runs l view honest failures before mid old new es (Ok done)) is runs).ran one still dropped left log)
+        subst (λ (n : ℕ). Given l kind before old (take n (event ∷ [])) after new) one
+        (given_ran before mid after old new event done (subst (λ (es : List Event). Runs l kind (with_disk before old) (with_disk mid new) es (Ok done)) is runs).ran one still dropped left log)

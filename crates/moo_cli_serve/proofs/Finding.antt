@@ -1,20 +1,20 @@
 -- From what holds of every list of calls to what a stopped server leaves.
 use Rattle.std.proofs.Common.{◌≡◌, ℕ, List, [], ◌∷◌, ◌++◌, refl, sym, ◌∙◌, ap, subst}
-use Rattle.moo_disk.specs.Disk.{DiskView}
+use Rattle.moo_disk.specs.Disk.{DiskKind}
 use Rattle.moo_dbtext_read.specs.Saved.{Saved, SpellsSavedWithin}
 use Rattle.moo_server_core.specs.Application.{Layer}
 use Rattle.moo_server_core.specs.Meaning.{Entry}
-use Rattle.moo_server_core.specs.Calls.{Call, Calls, Lent, One, Opened, StartsAgain, lent_view}
-use Rattle.moo_server_core.specs.Server.{state_of}
+use Rattle.moo_server_core.specs.Calls.{Call, Calls, Lent, One, Opened, StartsAgain, lent}
+use Rattle.moo_server_core.specs.Server.{state_of, with_disk}
 use Rattle.moo_server_core.specs.declared.server_core.ServerCore.{ServerCore}
 use Rattle.moo_cli_serve.specs.Found.{FindsAgain, ServedTo, clock_after, entries_in}
 
-module _ {S Application D : Type 0} (l : Layer S Application Saved) (view : D → DiskView) (honest : D → Type 0) where
+module _ {S Application D : Type 0} (l : Layer S Application Saved) (kind : DiskKind D) where
   abbrev LentCall : Type 0
   LentCall = Call S (Lent D D)
 
   abbrev Chain : ServerCore S → Lent D D → List LentCall → ServerCore S → Lent D D → List (Entry Saved) → Type 0
-  Chain before old calls after new entries = Calls l view honest view honest before old calls after new entries
+  Chain before old calls after new entries = Calls l kind kind (with_disk before old) calls (with_disk after new) entries
 
   all_entries : (calls : List LentCall) (before after : ServerCore S) (old new : Lent D D) (entries : List (Entry Saved))
       → Chain before old calls after new entries → entries ≡ entries_in calls
@@ -28,7 +28,7 @@ module _ {S Application D : Type 0} (l : Layer S Application Saved) (view : D �
     disk : Lent D D
     first : Chain before old calls server disk (entries_in calls)
     second : Chain server disk others after new (entries_in others)
-    clock : (lent_view view view disk).clock ≡ clock_after view (lent_view view view old).clock calls
+    clock : ((lent kind kind).view disk).clock ≡ clock_after kind ((lent kind kind).view old).clock calls
 
   parted : (calls others : List LentCall) (before after : ServerCore S) (old new : Lent D D) (entries : List (Entry Saved))
       → Chain before old (calls ++ others) after new entries → Parted before old calls others after new
@@ -48,39 +48,39 @@ module _ {S Application D : Type 0} (l : Layer S Application Saved) (view : D �
         clock = p.clock;
       }
 
-  module _ {E : Type 0} (view' : E → DiskView) (honest' : E → Type 0) where
+  module _ {E : Type 0} (kind' : DiskKind E) where
     -- a stop after some calls
     abbrev pub IsFoundAfter : Type 0
     IsFoundAfter = (start server end : ServerCore S) (first opened : D) (disk last : Lent D D) (before after : List LentCall)
         (entries later : List (Entry Saved)) (saved : Saved) (moment : ℕ)
-        → honest first → Opened l view honest start first opened saved moment
-        → ((c : List ℕ) → (view first).may_leave c → SpellsSavedWithin c saved)
+        → kind.honest first → Opened l kind start first opened saved moment
+        → ((c : List ℕ) → (kind.view first).may_leave c → SpellsSavedWithin c saved)
         → Chain start (One opened) before server disk entries → Chain server disk after end last later
-        → (found : E) → honest' found
-        → (lent_view view view last).left_since (lent_view view view disk).clock (view' found).main_text
-        → StartsAgain l view' honest' (state_of l start) saved entries later found
+        → (found : E) → kind'.honest found
+        → ((lent kind kind).view last).left_since ((lent kind kind).view disk).clock (kind'.view found).main_text
+        → StartsAgain l kind' (state_of l start) saved entries later found
 
     -- a stop since the start began
     abbrev pub IsFoundSince : Type 0
     IsFoundSince = (start end : ServerCore S) (first opened : D) (last : Lent D D) (calls : List LentCall)
         (entries : List (Entry Saved)) (saved : Saved) (moment : ℕ)
-        → honest first → Opened l view honest start first opened saved moment
-        → ((c : List ℕ) → (view first).may_leave c → SpellsSavedWithin c saved)
+        → kind.honest first → Opened l kind start first opened saved moment
+        → ((c : List ℕ) → (kind.view first).may_leave c → SpellsSavedWithin c saved)
         → Chain start (One opened) calls end last entries
-        → (found : E) → honest' found
-        → (lent_view view view last).left_since (view first).clock (view' found).main_text
-        → StartsAgain l view' honest' (state_of l start) saved [] entries found
+        → (found : E) → kind'.honest found
+        → ((lent kind kind).view last).left_since (kind.view first).clock (kind'.view found).main_text
+        → StartsAgain l kind' (state_of l start) saved [] entries found
 
-    pub found_again : IsFoundAfter → IsFoundSince → (first : D) (most : ℕ) (text : List ℕ) (served : ServedTo l view honest first most text)
-        → honest first → ((c : List ℕ) → (view first).may_leave c → SpellsSavedWithin c served.begun.from.saved)
-        → (found : E) → honest' found → (view' found).main_text ≡ text → FindsAgain l view honest view' honest' served found
+    pub found_again : IsFoundAfter → IsFoundSince → (first : D) (most : ℕ) (text : List ℕ) (served : ServedTo l kind first most text)
+        → kind.honest first → ((c : List ℕ) → (kind.view first).may_leave c → SpellsSavedWithin c served.begun.from.saved)
+        → (found : E) → kind'.honest found → (kind'.view found).main_text ≡ text → FindsAgain l kind kind' served found
     found_again after since first most text served h spells found h' same =
         starts_of served.stopped.returned served.stopped.others served.stopped.all
-        (subst (λ (t : List ℕ). (view served.end.disk).left_since (clock_after view (view first).clock served.stopped.returned) t) (sym same) served.stopped.left)
+        (subst (λ (t : List ℕ). (kind.view served.end.disk).left_since (clock_after kind (kind.view first).clock served.stopped.returned) t) (sym same) served.stopped.left)
       where
         starts_of : (returned others : List LentCall) → served.course.calls ≡ returned ++ others
-            → (view served.end.disk).left_since (clock_after view (view first).clock returned) (view' found).main_text
-            → StartsAgain l view' honest' (state_of l served.start.server) served.begun.from.saved (entries_in returned) (entries_in others) found
+            → (kind.view served.end.disk).left_since (clock_after kind (kind.view first).clock returned) (kind'.view found).main_text
+            → StartsAgain l kind' (state_of l served.start.server) served.begun.from.saved (entries_in returned) (entries_in others) found
         starts_of [] others all left =
             let whole = subst (λ (calls : List LentCall). Chain served.start.server (One served.start.disk) calls served.course.last (One served.end.disk) served.course.entries) all served.course.chain in
             since served.start.server served.course.last first served.start.disk (One served.end.disk) others (entries_in others) served.begun.from.saved served.start.moment h served.begun.from.opened spells
@@ -92,4 +92,4 @@ module _ {S Application D : Type 0} (l : Layer S Application Saved) (view : D �
             (subst (λ (cs : List LentCall). Chain served.start.server (One served.start.disk) cs served.course.last (One served.end.disk) served.course.entries) all served.course.chain) in
             after served.start.server p.server served.course.last first served.start.disk p.disk (One served.end.disk) (call ∷ calls) others (entries_in (call ∷ calls)) (entries_in others)
             served.begun.from.saved served.start.moment h served.begun.from.opened spells p.first p.second found h'
-            (subst (λ (clock : ℕ). (view served.end.disk).left_since clock (view' found).main_text) (sym p.clock) left)
+            (subst (λ (clock : ℕ). (kind.view served.end.disk).left_since clock (kind'.view found).main_text) (sym p.clock) left)

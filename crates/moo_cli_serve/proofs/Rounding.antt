@@ -4,10 +4,10 @@ use Rattle.slab.specs.Slab.{Slab}
 use Rattle.moo_cli_sockets.specs.declared.socket.Socket.{Socket}
 use Rattle.moo_cli_sockets.specs.Coming.{IsOpening, IsRead, held, held_after, only}
 use Rattle.moo_cli_sockets.proofs.Counting.{each_map}
-use Rattle.moo_disk.specs.Disk.{DiskView}
+use Rattle.moo_disk.specs.Disk.{DiskKind}
 use Rattle.moo_dbtext_read.specs.Saved.{Saved}
 use Rattle.moo_server_core.specs.Application.{Layer, Output}
-use Rattle.moo_server_core.specs.Server.{Follows, Hands}
+use Rattle.moo_server_core.specs.Server.{Follows, Hands, with_disk}
 use Rattle.moo_server_core.specs.declared.event.Event.{Event}
 use Rattle.moo_server_core.specs.declared.event.Event.TheVariants as the
 use Rattle.moo_server_core.specs.declared.server_core.ServerCore.{ServerCore}
@@ -18,7 +18,7 @@ use Rattle.moo_cli_serve.proofs.Coursing.{course_hands, course_join, follows_on}
 -- what was free after a look was free before it
 opens_on : (old new : Slab Socket) → ((c : ℕ) → held new c ≡ held old c) → (opened : Option Event) → IsOpening new opened → IsOpening old opened
 opens_on old new same None opens = opens
-opens_on old new same (Some (the.Open c)) opens = sym (same c) ∙ opens
+opens_on old new same (Some (the.Open c)) opens = (sym (same c) ∙ opens.0, opens.1)
 opens_on old new same (Some (the.Bytes c piece)) opens = absurd opens
 opens_on old new same (Some (the.Hangup c)) opens = absurd opens
 opens_on old new same (Some (the.Moment moment)) opens = absurd opens
@@ -47,43 +47,43 @@ begins_on old looked new before now events same begins = record {
   told = begins.told;
 }
 
-module _ {S Application D : Type 0} (l : Layer S Application Saved) (view : D → DiskView) (honest stands : D → Type 0) where
+module _ {S Application D : Type 0} (l : Layer S Application Saved) (kind : DiskKind D) where
   -- events, then output, then other events
-  pub course_round : (before one two after : ServerCore S) (old between new : D) → ((events : List Event) × Course l view honest before old events one between)
-      → ((h : Output) × Hands l h one two) → ((events : List Event) × Course l view honest two between events after new)
-      → (events : List Event) × Course l view honest before old events after new
+  pub course_round : (before one two after : ServerCore S) (old between new : D) → ((events : List Event) × Course l kind before old events one between)
+      → ((h : Output) × Hands l h one two) → ((events : List Event) × Course l kind two between events after new)
+      → (events : List Event) × Course l kind before old events after new
   course_round before one two after old between new first written second =
-      (first.0 ++ second.0, course_join l view honest before two after old between new first.0 second.0 (course_hands l view honest before one two old between first.0 written.0 first.1 written.1) second.1)
+      (first.0 ++ second.0, course_join l kind before two after old between new first.0 second.0 (course_hands l kind before one two old between first.0 written.0 first.1 written.1) second.1)
 
   -- events, then what is handed out
-  pub course_end : (before one two : ServerCore S) (old new : D) → ((events : List Event) × Course l view honest before old events one new)
-      → ((h : Output) × Hands l h one two) → (events : List Event) × Course l view honest before old events two new
-  course_end before one two old new first handed = (first.0, course_hands l view honest before one two old new first.0 handed.0 first.1 handed.1)
+  pub course_end : (before one two : ServerCore S) (old new : D) → ((events : List Event) × Course l kind before old events one new)
+      → ((h : Output) × Hands l h one two) → (events : List Event) × Course l kind before old events two new
+  course_end before one two old new first handed = (first.0, course_hands l kind before one two old new first.0 handed.0 first.1 handed.1)
 
-  pub follows_end : (one two : ServerCore S) (disk : D) → Follows l view honest stands one disk → ((h : Output) × Hands l h one two) → Follows l view honest stands two disk
-  follows_end one two disk follows handed = follows_on l view honest stands handed.0 one two disk handed.1 follows
+  pub follows_end : (one two : ServerCore S) (disk : D) → Follows l kind (with_disk one disk) → ((h : Output) × Hands l h one two) → Follows l kind (with_disk two disk)
+  follows_end one two disk follows handed = follows_on l kind handed.0 one two disk handed.1 follows
 
   -- events behind others, and a server and a disk that are then the same
   pub course_steps : (before mid after : ServerCore S) (old between new : D) (server : ServerCore S) (disk : D) → server ≡ after → disk ≡ new
-      → ((events : List Event) × Course l view honest before old events mid between) → ((events : List Event) × Course l view honest mid between events after new)
-      → (events : List Event) × Course l view honest before old events server disk
+      → ((events : List Event) × Course l kind before old events mid between) → ((events : List Event) × Course l kind mid between events after new)
+      → (events : List Event) × Course l kind before old events server disk
   course_steps before mid after old between new server disk same same' first second = (
     first.0 ++ second.0,
     subst
-        (λ (s : ServerCore S). Course l view honest before old (first.0 ++ second.0) s disk)
+        (λ (s : ServerCore S). Course l kind before old (first.0 ++ second.0) s disk)
         (sym same)
-        (subst (λ (d : D). Course l view honest before old (first.0 ++ second.0) after d) (sym same') (course_join l view honest before mid after old between new first.0 second.0 first.1 second.1)),
+        (subst (λ (d : D). Course l kind before old (first.0 ++ second.0) after d) (sym same') (course_join l kind before mid after old between new first.0 second.0 first.1 second.1)),
   )
 
   -- events, and a server and a disk that are then the same
   pub course_still : (before after : ServerCore S) (old new : D) (server : ServerCore S) (disk : D) → server ≡ after → disk ≡ new
-      → ((events : List Event) × Course l view honest before old events after new) → (events : List Event) × Course l view honest before old events server disk
+      → ((events : List Event) × Course l kind before old events after new) → (events : List Event) × Course l kind before old events server disk
   course_still before after old new server disk same same' course = (
     course.0,
-    subst (λ (s : ServerCore S). Course l view honest before old course.0 s disk) (sym same)
-        (subst (λ (d : D). Course l view honest before old course.0 after d) (sym same') course.1),
+    subst (λ (s : ServerCore S). Course l kind before old course.0 s disk) (sym same)
+        (subst (λ (d : D). Course l kind before old course.0 after d) (sym same') course.1),
   )
 
-  pub follows_steps : (after : ServerCore S) (new : D) (server : ServerCore S) (disk : D) → server ≡ after → disk ≡ new → Follows l view honest stands after new → Follows l view honest stands server disk
+  pub follows_steps : (after : ServerCore S) (new : D) (server : ServerCore S) (disk : D) → server ≡ after → disk ≡ new → Follows l kind (with_disk after new) → Follows l kind (with_disk server disk)
   follows_steps after new server disk same same' follows =
-      subst (λ (s : ServerCore S). Follows l view honest stands s disk) (sym same) (subst (λ (d : D). Follows l view honest stands after d) (sym same') follows)
+      subst (λ (s : ServerCore S). Follows l kind (with_disk s disk)) (sym same) (subst (λ (d : D). Follows l kind (with_disk after d)) (sym same') follows)

@@ -1,11 +1,11 @@
 -- A server over a disk, in calls of one event each.
 use Rattle.std.specs.Prelude.{◌≡◌, ℕ, List, [], ◌∷◌, ◌++◌, Bool, false, eqb, if◌then◌else◌, length, take}
-use Rattle.moo_disk.specs.Disk.{DiskView}
+use Rattle.moo_disk.specs.Disk.{DiskKind}
 use Rattle.moo_dbtext_read.specs.Saved.{Saved}
 use Rattle.moo_server_core.specs.Application.{Layer, Output}
 use Rattle.moo_server_core.specs.Meaning.{Entry, out_of}
 use Rattle.moo_server_core.specs.Seen as seen
-use Rattle.moo_server_core.specs.Server.{Hands, waiting_of}
+use Rattle.moo_server_core.specs.Server.{Hands, waiting_of, with_disk}
 use Rattle.moo_server_core.specs.Calls.{Call, Calls, Lent, One}
 use Rattle.moo_server_core.specs.declared.event.Event.{Event}
 use Rattle.moo_server_core.specs.declared.server_core.ServerCore.{ServerCore}
@@ -23,12 +23,12 @@ module _ {S D : Type 0} where
 
 -- A server and its disk came from one state to another by calls of one event each, which took these events. Between two calls, and
 -- behind the last one, some of what waits to go out was handed out, and nothing else happened.
-pub record Course {S Application D : Type 0} (l : Layer S Application Saved) (view : D → DiskView) (honest : D → Type 0) (before : ServerCore S) (old : D) (events : List Event) (after : ServerCore S) (new : D) : Type 0 where
+pub record Course {S Application D : Type 0} (l : Layer S Application Saved) (kind : DiskKind D) (before : ServerCore S) (old : D) (events : List Event) (after : ServerCore S) (new : D) : Type 0 where
   pub calls : List (Call S (Lent D D))
   pub entries : List (Entry Saved)
   pub last : ServerCore S
   pub handed : Output
-  pub chain : Calls l view honest view honest before (One old) calls last (One new) entries
+  pub chain : Calls l kind kind (with_disk before (One old)) calls (with_disk last (One new)) entries
   pub single : AreSingle calls
   pub taken : events ≡ taken_in calls
   pub hands : Hands l handed last after
@@ -46,7 +46,7 @@ sent_after c waits (entry ∷ entries) = sent_after c (if hangs_up c entry.event
 
 -- A server was given these events, in calls of one each. Nothing is lost of what they sent, but what waited for those who hung up; and their
 -- lines for the log wait behind those that waited.
-pub record Given {S Application D : Type 0} (l : Layer S Application Saved) (view : D → DiskView) (honest : D → Type 0) (before : ServerCore S) (old : D) (events : List Event) (after : ServerCore S) (new : D) : Type 0 where
-  pub course : Course l view honest before old events after new
+pub record Given {S Application D : Type 0} (l : Layer S Application Saved) (kind : DiskKind D) (before : ServerCore S) (old : D) (events : List Event) (after : ServerCore S) (new : D) : Type 0 where
+  pub course : Course l kind before old events after new
   pub sent : (c : ℕ) → (waiting_of l after).sent c ≡ sent_after c ((waiting_of l before).sent c) course.entries
   pub logged : (waiting_of l after).logged ≡ (waiting_of l before).logged ++ (out_of course.entries).logged

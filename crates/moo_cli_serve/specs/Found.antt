@@ -1,10 +1,10 @@
 -- A stop at some moment of what a server did over a disk, and what a start over what it left finds.
 use Rattle.std.specs.Prelude.{◌≡◌, ℕ, List, [], ◌∷◌, ◌++◌}
-use Rattle.moo_disk.specs.Disk.{DiskView}
+use Rattle.moo_disk.specs.Disk.{DiskKind}
 use Rattle.moo_dbtext_read.specs.Saved.{Saved}
 use Rattle.moo_server_core.specs.Application.{Layer}
 use Rattle.moo_server_core.specs.Meaning.{Entry}
-use Rattle.moo_server_core.specs.Calls.{Call, Lent, StartsAgain, lent_view}
+use Rattle.moo_server_core.specs.Calls.{Call, Lent, StartsAgain, lent}
 use Rattle.moo_server_core.specs.Server.{state_of}
 use Rattle.moo_server_core.specs.declared.event.Event.{Event}
 use Rattle.moo_server_core.specs.declared.server_core.ServerCore.{ServerCore}
@@ -20,41 +20,41 @@ module _ {S D : Type 0} where
   entries_in (call ∷ calls) = call.entries ++ entries_in calls
 
   -- the disk's clock as the last of these calls returned, or, if there is none, that from which it is counted
-  abbrev pub clock_after : (D → DiskView) → ℕ → List (Call S (Lent D D)) → ℕ
-  clock_after view clock [] = clock
-  clock_after view clock (call ∷ calls) = clock_after view (lent_view view view call.disk).clock calls
+  abbrev pub clock_after : DiskKind D → ℕ → List (Call S (Lent D D)) → ℕ
+  clock_after kind clock [] = clock
+  clock_after kind clock (call ∷ calls) = clock_after kind ((lent kind kind).view call.disk).clock calls
 
-module _ {S Application D : Type 0} (l : Layer S Application Saved) (view : D → DiskView) (honest : D → Type 0) where
+module _ {S Application D : Type 0} (l : Layer S Application Saved) (kind : DiskKind D) where
   -- A stop at some moment of a course, inside a call of the disk too, leaves this text under main. The calls `returned` had returned by then. If
   -- none had, the moment is any since the start began over the disk `first`.
-  pub record IsStopped (first : D) (before : ServerCore S) (old : D) (events : List Event) (after : ServerCore S) (new : D) (course : Course l view honest before old events after new) (text : List ℕ) : Type 0 where
+  pub record IsStopped (first : D) (before : ServerCore S) (old : D) (events : List Event) (after : ServerCore S) (new : D) (course : Course l kind before old events after new) (text : List ℕ) : Type 0 where
     pub returned : List (Call S (Lent D D))
     pub others : List (Call S (Lent D D))
     pub all : course.calls ≡ returned ++ others
-    pub left : (view new).left_since (clock_after view (view first).clock returned) text
+    pub left : (kind.view new).left_since (clock_after kind (kind.view first).clock returned) text
 
   -- A server was begun over the disk `first` and served, and was stopped at some moment, which left this text under main.
   pub record ServedTo (first : D) (most : ℕ) (text : List ℕ) : Type 0 where
     pub start : Serving S D
     pub end : Serving S D
-    pub begun : Begun l view honest first most start
+    pub begun : Begun l kind first most start
     pub events : List Event
-    pub course : Course l view honest start.server start.disk events end.server end.disk
+    pub course : Course l kind start.server start.disk events end.server end.disk
     pub stopped : IsStopped first start.server start.disk events end.server end.disk course text
 
   -- Whoever served to the end was stopped at each moment before it.
-  abbrev pub served_to : {first : D} {most rounds : ℕ} {text : List ℕ} (serves : Serves l view honest first most rounds)
+  abbrev pub served_to : {first : D} {most rounds : ℕ} {text : List ℕ} (serves : Serves l kind first most rounds)
       → IsStopped first serves.start.server serves.start.disk serves.course.0 serves.end.server serves.end.disk serves.course.1 text → ServedTo first most text
   served_to serves stopped = record { start = serves.start; end = serves.end; begun = serves.begun; events = serves.course.0; course = serves.course.1; stopped = stopped }
 
   -- So was one that ended before, for a fault.
-  abbrev pub ended_at : {failures : D → ℕ} {first : D} {most rounds : ℕ} {fault : ServeFault} {text : List ℕ} (stops : Stops l view honest failures first most rounds fault)
+  abbrev pub ended_at : {first : D} {most rounds : ℕ} {fault : ServeFault} {text : List ℕ} (stops : Stops l kind first most rounds fault)
       → IsStopped first stops.start.server stops.start.disk stops.course.0 stops.end.server stops.end.disk stops.course.1 text → ServedTo first most text
   ended_at stops stopped = record { start = stops.start; end = stops.end; begun = stops.begun; events = stops.course.0; course = stops.course.1; stopped = stopped }
 
-  module _ {E : Type 0} (view' : E → DiskView) (honest' : E → Type 0) where
+  module _ {E : Type 0} (kind' : DiskKind E) where
     -- Over such a disk a start finds the saved world after a prefix of the events that ends with a mark. The prefix holds every event before the
     -- mark of the last report done of a call that had returned. If there was no such report, it may find the world that was read at first.
     abbrev pub FindsAgain : {first : D} {most : ℕ} {text : List ℕ} (served : ServedTo first most text) (found : E) → Type 0
     FindsAgain served found =
-        StartsAgain l view' honest' (state_of l served.start.server) served.begun.from.saved (entries_in served.stopped.returned) (entries_in served.stopped.others) found
+        StartsAgain l kind' (state_of l served.start.server) served.begun.from.saved (entries_in served.stopped.returned) (entries_in served.stopped.others) found

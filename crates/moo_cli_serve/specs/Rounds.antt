@@ -1,7 +1,7 @@
 -- What one round does, and in which order.
 use Rattle.std.specs.Prelude.{◌≡◌, ◌≢◌, ◌⊎◌, Bool, false, ℕ, ◌≤◌, ◌<◌, List, [], ◌∷◌, ◌++◌, Option, Some, None}
 use Rattle.slab.specs.Slab.{Slab}
-use Rattle.moo_disk.specs.Disk.{DiskView}
+use Rattle.moo_disk.specs.Disk.{DiskKind}
 use Rattle.moo_dbtext_read.specs.Saved.{Saved}
 use Rattle.moo_server_core.specs.Application.{Layer, Output}
 use Rattle.moo_cli_sockets.specs.declared.socket.Socket.{Socket}
@@ -46,11 +46,11 @@ module _ {S Application : Type 0} (l : Layer S Application Saved) where
     pub unsent : console ≡ false → (waiting_of l after).sent ≡ (waiting_of l before).sent
     pub others : (c : ℕ) → c ≢ 65535 → (waiting_of l after).sent c ≡ (waiting_of l before).sent c
 
-module _ {S Application D : Type 0} (l : Layer S Application Saved) (view : D → DiskView) (honest : D → Type 0) where
+module _ {S Application D : Type 0} (l : Layer S Application Saved) (kind : DiskKind D) where
   -- A server that isn't closed is given these events.
   abbrev pub GivenIfOpen : ServerCore S → D → List Event → ServerCore S → D → Type 0
   GivenIfOpen before old events after new =
-      (IsClosed before × (after ≡ before) × (new ≡ old)) ⊎ ((IsClosed before → ⊥) × Given l view honest before old events after new)
+      (IsClosed before × (after ≡ before) × (new ≡ old)) ⊎ ((IsClosed before → ⊥) × Given l kind before old events after new)
 
   -- A round: what comes on the sockets, the moment and a flush are given to the server; one write goes to each socket; and the hang-ups
   -- that come of it are given to the server, unless it is closed.
@@ -60,7 +60,7 @@ module _ {S Application D : Type 0} (l : Layer S Application Saved) (view : D �
     pub begins : Begins sockets read before now first
     pub given : ServerCore S
     pub between : D
-    pub gives : Given l view honest server old first given between
+    pub gives : Given l kind server old first given between
     pub parted : List Event
     pub written : ServerCore S
     pub writes : Writes l most given written read left parted

@@ -1,9 +1,9 @@
 -- A server over a disk from its start to its end: how it is begun, the rounds that it makes, and why it ends.
 use Rattle.std.specs.Prelude.{◌≡◌, ◌≢◌, ◌⊎◌, ℕ, zero, suc, ◌<◌, ◌≤◌, List, [], ◌∷◌, ◌++◌, None, Err}
 use Rattle.slab.specs.Slab.{Slab}
-use Rattle.moo_disk.specs.Disk.{DiskView, KeepsMain, KeepsSpare}
+use Rattle.moo_disk.specs.Disk.{DiskKind, KeepsMain, KeepsSpare, OnlyReads}
 use Rattle.moo_dbtext_record.specs.declared.fault.DbFault.{DbFault}
-use Rattle.moo_dbtext_record.specs.declared.fault.DbFaultKind.TheVariants as kind
+use Rattle.moo_dbtext_record.specs.declared.fault.DbFaultKind.TheVariants as fault_kind
 use Rattle.moo_dbtext_read.specs.Saved.{Saved, SpellsSavedWithin}
 use Rattle.moo_dbtext_read.specs.Refusals.{Refuses as RefusesText}
 use Rattle.moo_checkpoint.specs.Recovering.{CountsFault}
@@ -13,7 +13,7 @@ use Rattle.moo_server_core.specs.Application.{Layer, Output}
 use Rattle.moo_cli_sockets.specs.declared.socket.Socket.{Socket}
 use Rattle.moo_cli_sockets.specs.Coming.{held}
 use Rattle.moo_server_core.specs.Calls.{Opened}
-use Rattle.moo_server_core.specs.Server.{Hands, Runs}
+use Rattle.moo_server_core.specs.Server.{Hands, Runs, with_disk}
 use Rattle.moo_server_core.specs.declared.event.Cause.{Cause}
 use Rattle.moo_server_core.specs.declared.event.Event.{Event}
 use Rattle.moo_server_core.specs.declared.event.RunFault.{RunFault}
@@ -39,13 +39,13 @@ pub record Waits {S D : Type 0} (old new : Serving S D) : Type 0 where
   pub most_is : new.most_waiting ≡ old.most_waiting
   pub sockets : (c : ℕ) → held new.sockets.sockets c ≡ held old.sockets.sockets c
 
-module _ {S Application D : Type 0} (l : Layer S Application Saved) (view : D → DiskView) (honest : D → Type 0) where
+module _ {S Application D : Type 0} (l : Layer S Application Saved) (kind : DiskKind D) where
   -- A server was begun from what a disk holds, at a moment: from a saved world that main spells within the limits of database texts. Nothing was written.
   pub record IsBegunFrom (disk : D) (moment : ℕ) (server : inner.ServerCore S) (left : D) : Type 0 where
     pub saved : Saved
-    pub spelled : honest disk → SpellsSavedWithin (view disk).main_text saved
-    pub opened : Opened l view honest server disk left saved moment
-    pub spare : honest disk → KeepsSpare (view disk) (view left)
+    pub spelled : kind.honest disk → SpellsSavedWithin (kind.view disk).main_text saved
+    pub opened : Opened l kind server disk left saved moment
+    pub spare : kind.honest disk → KeepsSpare (kind.view disk) (kind.view left)
 
   -- A server was begun over a disk, at the moment that counts as told. No connection has a socket.
   pub record Begun (disk : D) (most : ℕ) (start : Serving S D) : Type 0 where
@@ -57,7 +57,7 @@ module _ {S Application D : Type 0} (l : Layer S Application Saved) (view : D �
   pub record Turns (old new : Serving S D) : Type 0 where
     pub turned : inner.ServerCore S
     pub logs : Logs l new.console.is_on turned new.server
-    pub rounds : Rounds l view honest old.most_waiting old.moment new.moment old.server turned old.disk new.disk old.sockets.sockets new.sockets.sockets
+    pub rounds : Rounds l kind old.most_waiting old.moment new.moment old.server turned old.disk new.disk old.sockets.sockets new.sockets.sockets
     pub most_is : new.most_waiting ≡ old.most_waiting
 
   -- a round was made, and perhaps it waited behind it
@@ -82,27 +82,28 @@ module _ {S Application D : Type 0} (l : Layer S Application Saved) (view : D �
     pub end : Serving S D
     pub begun : Begun disk most start
     pub served : IsServed rounds start end
-    pub course : (events : List Event) × Course l view honest start.server start.disk events end.server end.disk
+    pub course : (events : List Event) × Course l kind start.server start.disk events end.server end.disk
 
-module _ {D : Type 0} (view : D → DiskView) (honest : D → Type 0) (failures : D → ℕ) where
+module _ {D : Type 0} (kind : DiskKind D) where
   -- Why no server was begun over a disk, which was left so. Where its text is refused, this is what is told of it, and it spells no saved
-  -- world within the limits; where the device is told it has failed. Nothing was written.
+  -- world within the limits; where the device is told it has failed. The disk was read, no other call was made, and nothing was written.
   pub record NotBegun (disk left : D) (fault : OpenFault) : Type 0 where
-    pub text : honest disk → (f : DbFault) → fault ≡ opening.Db f → RefusesText (view disk).main_text f × (f.kind ≢ kind.Memory)
-    pub none : honest disk → (f : DbFault) → fault ≡ opening.Db f → (saved : Saved) → ¬ SpellsSavedWithin (view disk).main_text saved
-    pub device : CountsFault (honest disk) (failures disk) (failures left) fault
-    pub main : honest disk → KeepsMain (view disk) (view left)
-    pub spare : honest disk → KeepsSpare (view disk) (view left)
+    pub text : kind.honest disk → (f : DbFault) → fault ≡ opening.Db f → RefusesText (kind.view disk).main_text f × (f.kind ≢ fault_kind.Memory)
+    pub none : kind.honest disk → (f : DbFault) → fault ≡ opening.Db f → (saved : Saved) → ¬ SpellsSavedWithin (kind.view disk).main_text saved
+    pub device : CountsFault (kind.honest disk) (kind.failures disk) (kind.failures left) fault
+    pub main : kind.honest disk → KeepsMain (kind.view disk) (kind.view left)
+    pub spare : kind.honest disk → KeepsSpare (kind.view disk) (kind.view left)
+    pub reads : OnlyReads kind disk left
 
   abbrev pub LeavesUnbegun : D → D → ServeFault → Type 0
   LeavesUnbegun disk left (the.Open fault) = NotBegun disk left fault
   LeavesUnbegun disk left fault = ⊥
 
-module _ {S Application D : Type 0} (l : Layer S Application Saved) (view : D → DiskView) (honest : D → Type 0) (failures : D → ℕ) where
+module _ {S Application D : Type 0} (l : Layer S Application Saved) (kind : DiskKind D) where
   -- There are no rounds: no server was begun, or there are no sockets for the one that was.
   abbrev pub NotStarted : D → ServeFault → Type 0
-  NotStarted disk (the.Open fault) = (left : D) × NotBegun view honest failures disk left fault
-  NotStarted disk (the.Sockets fault) = (moment : ℕ) × (server : inner.ServerCore S) × (left : D) × IsBegunFrom l view honest disk moment server left
+  NotStarted disk (the.Open fault) = (left : D) × NotBegun kind disk left fault
+  NotStarted disk (the.Sockets fault) = (moment : ℕ) × (server : inner.ServerCore S) × (left : D) × IsBegunFrom l kind disk moment server left
   NotStarted disk fault = ⊥
 
   -- A server was given events of a list, in calls of one each, up to one that it refused in such a call for this cause; then some of what
@@ -114,10 +115,10 @@ module _ {S Application D : Type 0} (l : Layer S Application Saved) (view : D �
     pub all : events ≡ taken ++ event ∷ rest
     pub mid : inner.ServerCore S
     pub between : D
-    pub gives : Given l view honest before old taken mid between
+    pub gives : Given l kind before old taken mid between
     pub fault : RunFault
     pub left : inner.ServerCore S
-    pub runs : Runs l view honest failures mid left between new (event ∷ []) (Err fault)
+    pub runs : Runs l kind (with_disk mid between) (with_disk left new) (event ∷ []) (Err fault)
     pub cause_is : fault.cause ≡ cause
     pub handed : (handed : Output) × Hands l handed left after
 
@@ -125,7 +126,7 @@ module _ {S Application D : Type 0} (l : Layer S Application Saved) (view : D �
   pub record RefusesParted (cause : Cause) (most : ℕ) (first : List Event) (server : inner.ServerCore S) (old : D) (read : Slab Socket) (after : inner.ServerCore S) (new : D) : Type 0 where
     pub given : inner.ServerCore S
     pub between : D
-    pub gives : Given l view honest server old first given between
+    pub gives : Given l kind server old first given between
     pub parted : List Event
     pub written : inner.ServerCore S
     pub left : Slab Socket
@@ -150,18 +151,18 @@ module _ {S Application D : Type 0} (l : Layer S Application Saved) (view : D �
   pub record BreaksOff (rounds : ℕ) (fault : ServeFault) (old new : Serving S D) : Type 0 where
     pub made : ℕ
     pub mid : Serving S D
-    pub makes : Makes l view honest made old mid
+    pub makes : Makes l kind made old mid
     pub fewer : made < rounds
-    pub course : (events : List Event) × Course l view honest mid.server mid.disk events new.server new.disk
+    pub course : (events : List Event) × Course l kind mid.server mid.disk events new.server new.disk
     pub ends : EndsFor fault mid new
 
   -- A server was begun over a disk, and ended before for this fault: where it listens couldn't be told, or a round broke off.
   pub record Stops (disk : D) (most rounds : ℕ) (fault : ServeFault) : Type 0 where
     pub start : Serving S D
     pub end : Serving S D
-    pub begun : Begun l view honest disk most start
+    pub begun : Begun l kind disk most start
     pub breaks : (IsOutside fault × (end ≡ start)) ⊎ BreaksOff rounds fault start end
-    pub course : (events : List Event) × Course l view honest start.server start.disk events end.server end.disk
+    pub course : (events : List Event) × Course l kind start.server start.disk events end.server end.disk
 
   abbrev pub Fails : D → ℕ → ℕ → ServeFault → Type 0
   Fails disk most rounds fault = NotStarted disk fault ⊎ Stops disk most rounds fault

@@ -1,6 +1,6 @@
 //! The begin of a server over a disk, and what is logged of the disk.
 ghost use Rattle.std.specs.Prelude.{IfErr, IfOk};
-ghost use Rattle.moo_server_core.specs.Server.{Follows};
+ghost use Rattle.moo_server_core.specs.Server.{Follows, with_disk};
 ghost use Rattle.moo_cli_serve.specs.Service.{IsBegunFrom, LeavesUnbegun};
 
 use crate::fault::ServeFault;
@@ -17,9 +17,9 @@ pub(crate) fn begin<S: StartApplication, D: Disk + Watched, L: Log>(
     disk: &mut D,
     moment: u32,
 ) -> Result<Server<S>, ServeFault>
-    ensures begun { IfOk result (λ server. IsBegunFrom S.layer D.view D.honest disk.old moment server disk.new) }
-    ensures follows { IfOk result (λ server. Follows S.layer D.view D.honest D.stands server disk.new) }
-    ensures refused { IfErr result (LeavesUnbegun D.view D.honest D.failures disk.old disk.new) }
+    ensures begun { IfOk result (λ server. IsBegunFrom S.layer D.kind disk.old moment server disk.new) }
+    ensures follows { IfOk result (λ server. Follows S.layer D.kind (with_disk server disk.new)) }
+    ensures refused { IfErr result (LeavesUnbegun D.kind disk.old disk.new) }
 {
     match Server::<S>::open(alloc, disk, moment) {
         Ok(server) => Ok(server),

@@ -2,7 +2,7 @@
 ghost use Rattle.std.specs.Prelude.{◌≡◌, ℕ, List, [], IfErr, OnOk, if◌then◌else◌};
 ghost use Rattle.moo_server_core.specs.Application.{Output};
 ghost use Rattle.moo_server_core.specs.Seen.{seen};
-ghost use Rattle.moo_server_core.specs.Server.{Follows, Hands, waiting_of};
+ghost use Rattle.moo_server_core.specs.Server.{Follows, Hands, waiting_of, with_disk};
 ghost use Rattle.moo_server_core.specs.declared.event.Event as given;
 ghost use Rattle.moo_cli_serve.specs.Course.{Course, Given, hangs_up};
 ghost use Rattle.moo_cli_serve.specs.Rounds.{GivenIfOpen};
@@ -19,11 +19,11 @@ pub fn give<S: StartApplication, D: Disk>(
     disk: &mut D,
     events: &[Event],
 ) -> Result<(), Cause>
-    requires { Follows S.layer D.view D.honest D.stands server.old disk.old }
-    ensures follows { Follows S.layer D.view D.honest D.stands server.new disk.new }
-    ensures course { (taken : List given.Event) × Course S.layer D.view D.honest server.old disk.old taken server.new disk.new }
-    ensures all { OnOk result (Given S.layer D.view D.honest server.old disk.old events.now server.new disk.new) }
-    ensures refused { IfErr result (λ cause. IsRefused S.layer D.view D.honest D.failures cause events.now server.old disk.old server.new disk.new) }
+    requires { Follows S.layer D.kind (with_disk server.old disk.old) }
+    ensures follows { Follows S.layer D.kind (with_disk server.new disk.new) }
+    ensures course { (taken : List given.Event) × Course S.layer D.kind server.old disk.old taken server.new disk.new }
+    ensures all { OnOk result (Given S.layer D.kind server.old disk.old events.now server.new disk.new) }
+    ensures refused { IfErr result (λ cause. IsRefused S.layer D.kind cause events.now server.old disk.old server.new disk.new) }
 {
     for event in events {
         if let Err(fault) = server.run(disk, slice::from_ref(event)) {
@@ -40,11 +40,11 @@ pub fn give_if_open<S: StartApplication, D: Disk>(
     disk: &mut D,
     events: &[Event],
 ) -> Result<(), Cause>
-    requires { Follows S.layer D.view D.honest D.stands server.old disk.old }
-    ensures follows { Follows S.layer D.view D.honest D.stands server.new disk.new }
-    ensures course { (taken : List given.Event) × Course S.layer D.view D.honest server.old disk.old taken server.new disk.new }
-    ensures all { OnOk result (GivenIfOpen S.layer D.view D.honest server.old disk.old events.now server.new disk.new) }
-    ensures refused { IfErr result (λ cause. IsRefused S.layer D.view D.honest D.failures cause events.now server.old disk.old server.new disk.new) }
+    requires { Follows S.layer D.kind (with_disk server.old disk.old) }
+    ensures follows { Follows S.layer D.kind (with_disk server.new disk.new) }
+    ensures course { (taken : List given.Event) × Course S.layer D.kind server.old disk.old taken server.new disk.new }
+    ensures all { OnOk result (GivenIfOpen S.layer D.kind server.old disk.old events.now server.new disk.new) }
+    ensures refused { IfErr result (λ cause. IsRefused S.layer D.kind cause events.now server.old disk.old server.new disk.new) }
 {
     if matches!(server.phase(), Phase::Closed) {
         return Ok(());

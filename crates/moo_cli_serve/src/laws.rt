@@ -12,16 +12,16 @@ use moo_server_core::StartApplication;
 /// the events. It holds of a server that served to its end, and of one that ended before for a fault. The disk has to be honest
 /// at first, and every text that a crash may leave then has to spell the world that the server read.
 pub fn a_served_world_is_found_again<S: StartApplication, D: Disk, F: Disk>()
-    ensures served { (first : D) (most rounds : ℕ) (serves : Serves S.layer D.view D.honest first most rounds) (text : List ℕ)
-        (stopped : IsStopped S.layer D.view D.honest first serves.start.server serves.start.disk serves.course.0 serves.end.server serves.end.disk serves.course.1 text)
-        → D.honest first → ((c : List ℕ) → (D.view first).may_leave c → SpellsSavedWithin c serves.begun.from.saved)
-        → (found : F) → F.honest found → (F.view found).main_text ≡ text
-        → FindsAgain S.layer D.view D.honest F.view F.honest (served_to S.layer D.view D.honest serves stopped) found }
-    ensures ended { (first : D) (most rounds : ℕ) (fault : ServeFault) (stops : Stops S.layer D.view D.honest D.failures first most rounds fault) (text : List ℕ)
-        (stopped : IsStopped S.layer D.view D.honest first stops.start.server stops.start.disk stops.course.0 stops.end.server stops.end.disk stops.course.1 text)
-        → D.honest first → ((c : List ℕ) → (D.view first).may_leave c → SpellsSavedWithin c stops.begun.from.saved)
-        → (found : F) → F.honest found → (F.view found).main_text ≡ text
-        → FindsAgain S.layer D.view D.honest F.view F.honest (ended_at S.layer D.view D.honest stops stopped) found }
+    ensures served { (first : D) (most rounds : ℕ) (serves : Serves S.layer D.kind first most rounds) (text : List ℕ)
+        (stopped : IsStopped S.layer D.kind first serves.start.server serves.start.disk serves.course.0 serves.end.server serves.end.disk serves.course.1 text)
+        → D.kind.honest first → ((c : List ℕ) → (D.kind.view first).may_leave c → SpellsSavedWithin c serves.begun.from.saved)
+        → (found : F) → F.kind.honest found → (F.kind.view found).main_text ≡ text
+        → FindsAgain S.layer D.kind F.kind (served_to S.layer D.kind serves stopped) found }
+    ensures ended { (first : D) (most rounds : ℕ) (fault : ServeFault) (stops : Stops S.layer D.kind first most rounds fault) (text : List ℕ)
+        (stopped : IsStopped S.layer D.kind first stops.start.server stops.start.disk stops.course.0 stops.end.server stops.end.disk stops.course.1 text)
+        → D.kind.honest first → ((c : List ℕ) → (D.kind.view first).may_leave c → SpellsSavedWithin c stops.begun.from.saved)
+        → (found : F) → F.kind.honest found → (F.kind.view found).main_text ≡ text
+        → FindsAgain S.layer D.kind F.kind (ended_at S.layer D.kind stops stopped) found }
 {
     moo_server_core::laws::starting_again_reads_a_prefix::<S, D, D, F>();
     moo_server_core::laws::starting_again_reads_a_prefix_since_the_start::<S, D, D, F>();

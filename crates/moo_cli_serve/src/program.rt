@@ -113,8 +113,8 @@ pub fn serve_disk<S: StartApplication, D: Disk + Watched + Drop, R: Net + Clock 
     output: &mut O,
     served: Served<'_>,
 ) -> Result<bool, ServeFault>
-    ensures served { OnOk result (Serves S.layer D.view D.honest disk served.entry.most_waiting served.entry.rounds) }
-    ensures ended { IfErr result (Fails S.layer D.view D.honest D.failures disk served.entry.most_waiting served.entry.rounds) }
+    ensures served { OnOk result (Serves S.layer D.kind disk served.entry.most_waiting served.entry.rounds) }
+    ensures ended { IfErr result (Fails S.layer D.kind disk served.entry.most_waiting served.entry.rounds) }
 {
     let mut serving = Serving::<S, D>::open(
         rt,

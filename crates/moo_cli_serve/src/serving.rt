@@ -58,7 +58,7 @@ pub struct Serving<S: StartApplication, D: Disk> {
 
 impl<S: StartApplication, D: Disk + Watched> Serving<S, D> {
     ghost use Rattle.std.specs.Prelude.{◌⊎◌, ◌↔◌, List, IfErr, IfOk, IsTrue, OnOk, false};
-    ghost use Rattle.moo_server_core.specs.Server.{Follows};
+    ghost use Rattle.moo_server_core.specs.Server.{Follows, with_disk};
     ghost use Rattle.moo_server_core.specs.declared.event.Event as given;
     ghost use Rattle.moo_cli_serve.specs.Course.{Course};
     ghost use Rattle.moo_cli_serve.specs.Rounds.{IsClosed, Rounds};
@@ -80,9 +80,9 @@ impl<S: StartApplication, D: Disk + Watched> Serving<S, D> {
     ) -> Result<Serving<S, D>, ServeFault>
     where
         D: Drop,
-        ensures begun { IfOk result (Begun S.layer D.view D.honest disk most_waiting) }
-        ensures follows { IfOk result (λ serving. Follows S.layer D.view D.honest D.stands serving.server serving.disk) }
-        ensures refused { IfErr result (NotStarted S.layer D.view D.honest D.failures disk) }
+        ensures begun { IfOk result (Begun S.layer D.kind disk most_waiting) }
+        ensures follows { IfOk result (λ serving. Follows S.layer D.kind (with_disk serving.server serving.disk)) }
+        ensures refused { IfErr result (NotStarted S.layer D.kind disk) }
     {
         let mut disk = disk;
         let moment = now(rt).unwrap_or(0);
@@ -113,11 +113,11 @@ impl<S: StartApplication, D: Disk + Watched> Serving<S, D> {
     /// Makes at most so many rounds, and waits after each that found nothing. Ends early once the server is closed, or with the
     /// reason of a fault.
     pub fn serve<L: Clock + Log>(&mut self, rt: &L, rounds: u64) -> Result<(), ServeFault>
-        requires { Follows S.layer D.view D.honest D.stands self.old.server self.old.disk }
-        ensures follows { Follows S.layer D.view D.honest D.stands self.new.server self.new.disk }
-        ensures course { (events : List given.Event) × Course S.layer D.view D.honest self.old.server self.old.disk events self.new.server self.new.disk }
-        ensures served { OnOk result (IsServed S.layer D.view D.honest rounds self.old self.new) }
-        ensures ended { IfErr result (λ fault. BreaksOff S.layer D.view D.honest D.failures rounds fault self.old self.new) }
+        requires { Follows S.layer D.kind (with_disk self.old.server self.old.disk) }
+        ensures follows { Follows S.layer D.kind (with_disk self.new.server self.new.disk) }
+        ensures course { (events : List given.Event) × Course S.layer D.kind self.old.server self.old.disk events self.new.server self.new.disk }
+        ensures served { OnOk result (IsServed S.layer D.kind rounds self.old self.new) }
+        ensures ended { IfErr result (λ fault. BreaksOff S.layer D.kind rounds fault self.old self.new) }
     {
         for _made in 0..rounds {
             let goes = self.step(rt)?;
@@ -130,12 +130,12 @@ impl<S: StartApplication, D: Disk + Watched> Serving<S, D> {
 
     // Makes a round, and waits if it found nothing. Returns whether the server goes on.
     fn step<L: Clock + Log>(&mut self, rt: &L) -> Result<bool, ServeFault>
-        requires { Follows S.layer D.view D.honest D.stands self.old.server self.old.disk }
-        ensures follows { Follows S.layer D.view D.honest D.stands self.new.server self.new.disk }
-        ensures course { (events : List given.Event) × Course S.layer D.view D.honest self.old.server self.old.disk events self.new.server self.new.disk }
-        ensures goes { IfOk result (λ goes. goes ≡ true → Steps S.layer D.view D.honest self.old self.new) }
-        ensures over { IfOk result (λ goes. goes ≡ false → IsClosed self.new.server × ((self.new ≡ self.old) ⊎ Steps S.layer D.view D.honest self.old self.new)) }
-        ensures ended { IfErr result (λ fault. EndsFor S.layer D.view D.honest D.failures fault self.old self.new) }
+        requires { Follows S.layer D.kind (with_disk self.old.server self.old.disk) }
+        ensures follows { Follows S.layer D.kind (with_disk self.new.server self.new.disk) }
+        ensures course { (events : List given.Event) × Course S.layer D.kind self.old.server self.old.disk events self.new.server self.new.disk }
+        ensures goes { IfOk result (λ goes. goes ≡ true → Steps S.layer D.kind self.old self.new) }
+        ensures over { IfOk result (λ goes. goes ≡ false → IsClosed self.new.server × ((self.new ≡ self.old) ⊎ Steps S.layer D.kind self.old self.new)) }
+        ensures ended { IfErr result (λ fault. EndsFor S.layer D.kind fault self.old self.new) }
     {
         let found = self.round(rt)?;
         match found {
@@ -153,12 +153,12 @@ impl<S: StartApplication, D: Disk + Watched> Serving<S, D> {
     /// Does nothing once the server is closed.
     #[tactic(none)]
     pub fn round<L: Clock + Log>(&mut self, rt: &L) -> Result<Round, ServeFault>
-        requires { Follows S.layer D.view D.honest D.stands self.old.server self.old.disk }
-        ensures follows { Follows S.layer D.view D.honest D.stands self.new.server self.new.disk }
-        ensures course { (events : List given.Event) × Course S.layer D.view D.honest self.old.server self.old.disk events self.new.server self.new.disk }
-        ensures round { OnOk result ((IsClosed self.old.server × (self.new ≡ self.old)) ⊎ Turns S.layer D.view D.honest self.old self.new) }
+        requires { Follows S.layer D.kind (with_disk self.old.server self.old.disk) }
+        ensures follows { Follows S.layer D.kind (with_disk self.new.server self.new.disk) }
+        ensures course { (events : List given.Event) × Course S.layer D.kind self.old.server self.old.disk events self.new.server self.new.disk }
+        ensures round { OnOk result ((IsClosed self.old.server × (self.new ≡ self.old)) ⊎ Turns S.layer D.kind self.old self.new) }
         ensures over { IfOk result (λ found. (found ≡ Round.Over) ↔ IsClosed self.new.server) }
-        ensures ended { IfErr result (λ fault. EndsFor S.layer D.view D.honest D.failures fault self.old self.new) }
+        ensures ended { IfErr result (λ fault. EndsFor S.layer D.kind fault self.old self.new) }
     {
         if self.is_closed() {
             return Ok(Round::Over);
@@ -173,13 +173,13 @@ impl<S: StartApplication, D: Disk + Watched> Serving<S, D> {
     // Makes a round of a server that isn't closed.
     #[tactic(none)]
     fn turn<L: Clock + Log>(&mut self, rt: &L) -> Result<(), ServeFault>
-        requires { Follows S.layer D.view D.honest D.stands self.old.server self.old.disk }
-        ensures follows { Follows S.layer D.view D.honest D.stands self.new.server self.new.disk }
-        ensures course { (events : List given.Event) × Course S.layer D.view D.honest self.old.server self.old.disk events self.new.server self.new.disk }
-        ensures round { OnOk result (Rounds S.layer D.view D.honest self.old.most_waiting self.old.moment self.new.moment self.old.server self.new.server self.old.disk self.new.disk
+        requires { Follows S.layer D.kind (with_disk self.old.server self.old.disk) }
+        ensures follows { Follows S.layer D.kind (with_disk self.new.server self.new.disk) }
+        ensures course { (events : List given.Event) × Course S.layer D.kind self.old.server self.old.disk events self.new.server self.new.disk }
+        ensures round { OnOk result (Rounds S.layer D.kind self.old.most_waiting self.old.moment self.new.moment self.old.server self.new.server self.old.disk self.new.disk
             self.old.sockets.sockets self.new.sockets.sockets) }
         ensures most { self.new.most_waiting ≡ self.old.most_waiting }
-        ensures ended { IfErr result (λ fault. EndsFor S.layer D.view D.honest D.failures fault self.old self.new) }
+        ensures ended { IfErr result (λ fault. EndsFor S.layer D.kind fault self.old self.new) }
     {
         let is_settled = mem::replace(&mut self.is_settled, false);
         self.sockets.rest();

@@ -1,5 +1,5 @@
 //! Rounds of a server, in turn with reads of its client.
-ghost use Rattle.moo_server_core.specs.Server.{Follows};
+ghost use Rattle.moo_server_core.specs.Server.{Follows, with_disk};
 
 use moo_cli_file_disk::{FileDisk, Watched};
 use moo_cli_serve::{LoginLimits, Serving};
@@ -37,7 +37,7 @@ fn in_turn<S: StartApplication, D: Disk + Watched, C: Read>(
     client: &mut C,
     count: usize,
 ) -> Result<Vec<u8>, Fail>
-    requires { Follows S.layer D.view D.honest D.stands serving.old.server serving.old.disk }
+    requires { Follows S.layer D.kind (with_disk serving.old.server serving.old.disk) }
 {
     let mut seen = Vec::new(rt.alloc());
     for _made in 0..ROUNDS {

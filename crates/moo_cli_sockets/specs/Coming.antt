@@ -16,10 +16,10 @@ only (Some event) = event ∷ []
 abbrev pub held : Slab Socket → ℕ → Option (List ℕ)
 held sockets c = option_map (λ (socket : Socket). waits_of socket) (get sockets c)
 
--- a connection is opened under a number that no socket had, or none is
+-- A connection is opened under a number that no socket had, or none is. The number 65,535, which is the console's, isn't given out.
 abbrev pub IsOpening : Slab Socket → Option Event → Type 0
 IsOpening sockets None = Unit {0}
-IsOpening sockets (Some (the.Open c)) = held sockets c ≡ None
+IsOpening sockets (Some (the.Open c)) = (held sockets c ≡ None) × (c < 65535)
 IsOpening sockets (Some event) = ⊥
 
 -- The result of one read of connection c's socket, while `was` waits for it: nothing yet, at most 4,096 bytes with at

@@ -108,7 +108,8 @@ impl Sockets {
         c: u16,
         mut stream: TcpStream,
     ) -> Result<Option<Event>, AllocError>
-        requires { c ≡ self.old.sockets.vacant_key }
+        requires vacant { c ≡ self.old.sockets.vacant_key }
+        requires given { c ≢ CONSOLE }
         ensures { IfOk result (λ event. IsOpening self.old.sockets event × Follow (only event) self.old.sockets self.new.sockets) }
     {
         let both = Interest::READABLE | Interest::WRITABLE;

@@ -1,6 +1,6 @@
 -- A disk in memory that stops in a call.
-use Rattle.std.specs.Prelude.{◌≡◌, ◌⊎◌, ℕ, ◌+◌, ◌-◌, ◌<◌, ◌≤◌, List, Result, IsErr}
-use Rattle.moo_disk.specs.Disk.{Counts, DiskView, HasRisen}
+use Rattle.std.specs.Prelude.{◌≡◌, ◌⊎◌, ℕ, ◌+◌, ◌-◌, ◌<◌, ◌≤◌, List, Result, IsErr, IsSome}
+use Rattle.moo_disk.specs.Disk.{Counts, DiskKind, DiskView, HasRisen}
 use Rattle.moo_disk.specs.Memory.{failures_of as memory_failures, images as memory_images, view_of as memory_view}
 use Rattle.moo_disk.specs.declared.memory.MemoryDisk.{MemoryDisk}
 use Rattle.moo_disk.specs.declared.stop_at.Call.{Call}
@@ -36,6 +36,16 @@ refused_of stopping = stopping.refused
 -- in how many calls the device has failed
 abbrev pub failures_of : StopAt → ℕ
 failures_of stopping = memory_failures stopping.disk + stopping.refused
+
+-- It is honest, a spare exists exactly if its view has one, and each call is counted.
+abbrev pub stopping_kind : DiskKind StopAt
+stopping_kind = record {
+  view = view_of;
+  honest = λ stopping. Unit {0};
+  stands = λ stopping. IsSome (view_of stopping).spare;
+  failures = failures_of;
+  made = λ call old new. left_of new ≡ left_of old - 1;
+}
 
 -- the next call is the one that it stops within
 abbrev pub IsWithin : StopAt → Type 0

@@ -14,18 +14,18 @@ pub trait CrashDisk: Disk {
     /// disk itself as an error.
     fn crash(self, i: usize) -> Result<Self, Self>
         ensures count { IsOk result ↔ (i < length (images self)) }
-        ensures image { Self.honest self
-            → IfOk result (λ left. slice_get (images self) i ≡ Some (Self.view left).main_text) }
-        ensures alone { Self.honest self
-            → IfOk result (λ left. images left ≡ (Self.view left).main_text ∷ []) }
-        ensures left { Self.honest self
-            → IfOk result (λ left. IsLeftBy (Self.view self) (Self.view left)) }
-        ensures honest { IfOk result (λ left. Self.honest self ↔ Self.honest left) }
+        ensures image { Self.kind.honest self
+            → IfOk result (λ left. slice_get (images self) i ≡ Some (Self.kind.view left).main_text) }
+        ensures alone { Self.kind.honest self
+            → IfOk result (λ left. images left ≡ (Self.kind.view left).main_text ∷ []) }
+        ensures left { Self.kind.honest self
+            → IfOk result (λ left. IsLeftBy (Self.kind.view self) (Self.kind.view left)) }
+        ensures honest { IfOk result (λ left. Self.kind.honest self ↔ Self.kind.honest left) }
         ensures same { IfErr result (λ same. same ≡ self) };
 
     /// These are the texts that a crash may leave.
-    ghost images_are_left: { (disk : Self) (c : List ℕ) → Self.honest disk
-        → Contains (images disk) c ↔ (Self.view disk).may_leave c };
+    ghost images_are_left: { (disk : Self) (c : List ℕ) → Self.kind.honest disk
+        → Contains (images disk) c ↔ (Self.kind.view disk).may_leave c };
 
     /// Each text is listed once.
     ghost each_once: { (disk : Self) → IsEachOnce (images disk) };

@@ -105,18 +105,12 @@ fn first_half(bytes: &[u8]) -> &[u8]
 }
 
 impl Disk for StopAt {
-    ghost use Rattle.moo_disk.specs.StopAt.{IsWithin, StopsFrom, StopsWithin, failures_of, images, inner_of, left_of, view_of};
+    ghost use Rattle.moo_disk.specs.StopAt.{IsWithin, StopsFrom, StopsWithin, failures_of, images, inner_of, left_of, stopping_kind, view_of};
     ghost use Rattle.moo_disk.specs.Texts.{Brings, BringsSpare, first_at};
     ghost use Rattle.moo_disk.specs.TextLaws.{main_is_left, more_from, now_since_now};
     ghost use Rattle.moo_disk.specs.CrashSet.{texts_of};
 
-    ghost view = { view_of };
-
-    ghost failures = { failures_of };
-
-    ghost honest = { λ _. Unit {0} };
-
-    ghost stands = { λ d. IsSome (view_of d).spare };
+    ghost kind = { stopping_kind };
 
     fn create_spare(&mut self) -> Result<(), DiskFault>
         ensures stands { OnOk result (IsSome (view_of self.new).spare) }

@@ -2,8 +2,8 @@
 ghost use Rattle.std.specs.Prelude.{◌≡◌, ℕ, List, []};
 ghost use Rattle.moo_dbtext_read.specs.Saved.{Saved, SpellsSavedWithin};
 ghost use Rattle.moo_server_core.specs.Meaning.{Entry};
-ghost use Rattle.moo_server_core.specs.Server.{state_of};
-ghost use Rattle.moo_server_core.specs.Calls.{Call, Calls, Lent, One, Opened, StartsAgain, Stopped, lent_view};
+ghost use Rattle.moo_server_core.specs.Server.{state_of, with_disk};
+ghost use Rattle.moo_server_core.specs.Calls.{Call, Calls, Lent, One, Opened, StartsAgain, Stopped, lent};
 ghost use Rattle.moo_server_core.specs.declared.server_core.ServerCore.{ServerCore};
 ghost use Rattle.moo_server.specs.Live.{live_layer};
 ghost use Rattle.moo_server.specs.declared.moo_application.MooApplication.{MooApplication};
@@ -19,9 +19,9 @@ use moo_disk::Disk;
 /// Main then spells that world as a database text within the limits. So `recover` and `Server::open` return it, or report
 /// that the device failed or that memory ran out.
 pub fn starting_again_reads_a_prefix<D: Disk, E: Disk, F: Disk>()
-    ensures { (stopped : Stopped live_layer D.view D.honest E.view E.honest) (found : F)
-        → F.honest found → (F.view found).main_text ≡ stopped.left
-        → StartsAgain live_layer F.view F.honest (state_of live_layer stopped.start) stopped.saved stopped.entries stopped.later found }
+    ensures { (stopped : Stopped live_layer D.kind E.kind) (found : F)
+        → F.kind.honest found → (F.kind.view found).main_text ≡ stopped.left
+        → StartsAgain live_layer F.kind (state_of live_layer stopped.start) stopped.saved stopped.entries stopped.later found }
 {
     moo_server_core::laws::a_stopped_server_starts_again::<MooApplication, D, E, F>();
 }
@@ -31,12 +31,12 @@ pub fn starting_again_reads_a_prefix<D: Disk, E: Disk, F: Disk>()
 pub fn starting_again_reads_a_prefix_since_the_start<D: Disk, E: Disk, F: Disk>()
     ensures { (start end : ServerCore MooApplication) (first opened : D) (last : Lent D E) (calls : List (Call MooApplication (Lent D E)))
         (entries : List (Entry Saved)) (saved : Saved) (moment : ℕ)
-        → D.honest first → Opened live_layer D.view D.honest start first opened saved moment
-        → ((c : List ℕ) → (D.view first).may_leave c → SpellsSavedWithin c saved)
-        → Calls live_layer D.view D.honest E.view E.honest start (One opened) calls end last entries
-        → (found : F) → F.honest found
-        → (lent_view D.view E.view last).left_since (D.view first).clock (F.view found).main_text
-        → StartsAgain live_layer F.view F.honest (state_of live_layer start) saved [] entries found }
+        → D.kind.honest first → Opened live_layer D.kind start first opened saved moment
+        → ((c : List ℕ) → (D.kind.view first).may_leave c → SpellsSavedWithin c saved)
+        → Calls live_layer D.kind E.kind (with_disk start (One opened)) calls (with_disk end last) entries
+        → (found : F) → F.kind.honest found
+        → ((lent D.kind E.kind).view last).left_since (D.kind.view first).clock (F.kind.view found).main_text
+        → StartsAgain live_layer F.kind (state_of live_layer start) saved [] entries found }
 {
     moo_server_core::laws::starting_again_reads_a_prefix_since_the_start::<
         MooApplication,

@@ -20,11 +20,11 @@ pub fn run_lives<D: CrashDisk + Drop>(
 ) -> Result<Vec<LifeBegin>, LivesFault>
     // Where the disk is honest and a crash leaves its main text alone, which spells a saved world within the limits: the lives, and what
     // is told of them.
-    ensures lives { D.honest disk → (s : Saved) → SpellsSavedWithin (D.view disk).main_text s → LeavesOnly (D.view disk).main_text (D.view disk)
-        → IfOk result (λ begins. LivesSoFar live_layer D.view D.honest D.failures D.images lives.now begins.items disk) }
+    ensures lives { D.kind.honest disk → (s : Saved) → SpellsSavedWithin (D.kind.view disk).main_text s → LeavesOnly (D.kind.view disk).main_text (D.kind.view disk)
+        → IfOk result (λ begins. LivesSoFar live_layer D.kind D.images lives.now begins.items disk) }
     // Else the lives before that of the told place, and what that one met: only want of memory ends lives without a reason of theirs.
-    ensures fault { D.honest disk → (s : Saved) → SpellsSavedWithin (D.view disk).main_text s → LeavesOnly (D.view disk).main_text (D.view disk)
-        → IfErr result (λ fault. EndsAt live_layer D.view D.honest D.failures D.images lives.now disk fault) }
+    ensures fault { D.kind.honest disk → (s : Saved) → SpellsSavedWithin (D.kind.view disk).main_text s → LeavesOnly (D.kind.view disk).main_text (D.kind.view disk)
+        → IfErr result (λ fault. EndsAt live_layer D.kind D.images lives.now disk fault) }
 {
     moo_server_core::run_lives::<MooApplication, D>(alloc, disk, lives)
 }

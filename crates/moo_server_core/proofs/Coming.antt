@@ -8,9 +8,9 @@ use Rattle.moo_server_core.specs.Courses.{is_closing, is_closed}
 use Rattle.moo_server_core.specs.Seen.{Event, Open, Bytes, Hangup, Moment, Flush}
 use Rattle.moo_server_core.specs.Application.{Layer, Meaning, Output}
 use Rattle.moo_server_core.specs.Meaning.{State, Entry, Acts, Reports, Marks, Passes, Steps, Takes, Run, is_passed_over, trace_of, traces_of}
-use Rattle.moo_disk.specs.Disk.{DiskView}
+use Rattle.moo_disk.specs.Disk.{DiskKind}
 use Rattle.moo_server_core.specs.declared.server_core.ServerCore.{ServerCore}
-use Rattle.moo_server_core.specs.Server.{Lived, state_of, traces_under, turns_of}
+use Rattle.moo_server_core.specs.Server.{Lived, state_of, traces_under, turns_of, with_disk}
 use Rattle.moo_server_core.proofs.Marked.{last_taken, run_split}
 use Rattle.moo_dbtext_read.specs.Saved.{Saved}
 use Rattle.moo_server_core.proofs.Running.{traces-append}
@@ -98,10 +98,10 @@ module _ {Application Saved : Type 0} (m : Meaning Application Saved) where
       let marks = subst (λ (k : Option Saved). Marks m k takes.reported takes.started new) is takes.marks in
       (is_closing marks.1.course, ap (λ (s : State Application). s.writing) marks.3)
 
-module _ {S Application : Type 0} (l : Layer S Application Saved) {D : Type 0} (view : D → DiskView) (honest : D → Type 0) where
+module _ {S Application : Type 0} (l : Layer S Application Saved) {D : Type 0} (kind : DiskKind D) where
   -- behind a mark, so many events of `Flush` have its report
   pub report_comes : (before after : ServerCore S) (old new : D) (entries front rest : List (Entry Saved)) (e : Entry Saved) (saved : Saved)
-      → Lived l view honest before after old new entries → entries ≡ (front ++ e ∷ []) ++ rest → e.mark ≡ Some saved
+      → Lived l kind (with_disk before old) (with_disk after new) entries → entries ≡ (front ++ e ∷ []) ++ rest → e.mark ≡ Some saved
       → length (l.meaning.text_of saved) / 65536 + 6 ≤ flushes (traces_under l.meaning rest) → HasReport (traces_under l.meaning rest)
   report_comes before after old new entries front rest e saved lived all is enough =
       let parts = run_split l (front ++ e ∷ []) rest (state_of l before) lived.end (subst (λ (es : List (Entry Saved)). Run l.meaning (state_of l before) es lived.end) all lived.run) in

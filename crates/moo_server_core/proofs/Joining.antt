@@ -1,7 +1,7 @@
 -- What a crash may leave, over events one after another.
 use Rattle.std.proofs.Common.{◌≡◌, ◌≢◌, ◌⊎◌, inl, inr, ⊎_elim, ℕ, List, [], ◌∷◌, ◌++◌, Option, Some, None, Bool, refl, sym, ◌∙◌, ap, subst, arith, append_assoc}
 use Rattle.std.proofs.lemmas.List.{append-nil}
-use Rattle.moo_disk.specs.Disk.{DiskView, Gains}
+use Rattle.moo_disk.specs.Disk.{DiskKind, DiskView, Gains}
 use Rattle.moo_server_core.specs.Traces.{Report, Done, Failed, Trace}
 use Rattle.moo_server_core.specs.Crash.{IsOneOf, only_text, texts_of_marks, last_of, after_report, since_done, NoneDone, Survives}
 
@@ -125,17 +125,17 @@ front_of earlier texts (e ∷ es) =
     )
 
 -- `Survives`, whatever texts came before those
-pub record SurvivesAfter {D : Type 0} (view : D → DiskView) (old new : D) (texts after : Texts) (traces : List Trace) : Type 0 where
-  pub gains : Gains (IsOneOf (texts ++ texts_of_marks traces)) (view old) (view new)
-  pub left : (earlier : Texts) (c : List ℕ) → (view new).may_leave c
-      → (NoneDone traces × (view old).may_leave c) ⊎ IsOneOf (since_done (earlier ++ texts) traces) c
+pub record SurvivesAfter {D : Type 0} (kind : DiskKind D) (old new : D) (texts after : Texts) (traces : List Trace) : Type 0 where
+  pub gains : Gains (IsOneOf (texts ++ texts_of_marks traces)) (kind.view old) (kind.view new)
+  pub left : (earlier : Texts) (c : List ℕ) → (kind.view new).may_leave c
+      → (NoneDone traces × (kind.view old).may_leave c) ⊎ IsOneOf (since_done (earlier ++ texts) traces) c
   pub latest : (earlier : Texts) (text : List ℕ) → after ≡ text ∷ [] → last_of (since_done (earlier ++ texts) traces) ≡ text ∷ []
 
-shown : {D : Type 0} (view : D → DiskView) (old new : D) (texts after : Texts) (es : List Trace) → SurvivesAfter view old new texts after es → Survives view old new texts after es
-shown view old new texts after es so = record { always = so.gains; in_the_end = λ c left. so.left [] c left; latest = λ text is. so.latest [] text is }
+shown : {D : Type 0} (kind : DiskKind D) (old new : D) (texts after : Texts) (es : List Trace) → SurvivesAfter kind old new texts after es → Survives kind old new texts after es
+shown kind old new texts after es so = record { always = so.gains; in_the_end = λ c left. so.left [] c left; latest = λ text is. so.latest [] text is }
 
-pub over : {D : Type 0} (view : D → DiskView) (old new : D) (texts after : Texts) (es : List Trace) → Survives view old new texts after es → SurvivesAfter view old new texts after es
-over view old new texts after es survives = record {
+pub over : {D : Type 0} (kind : DiskKind D) (old new : D) (texts after : Texts) (es : List Trace) → Survives kind old new texts after es → SurvivesAfter kind old new texts after es
+over kind old new texts after es survives = record {
   gains = survives.always;
   left = λ earlier c left.
       let front = front_of earlier texts es in
@@ -146,9 +146,9 @@ over view old new texts after es survives = record {
       ap last_of (front.1 ∙ ap (λ (l : Texts). front.0 ++ l) split.1 ∙ sym (append_assoc front.0 split.0 (text ∷ []))) ∙ last_of-push (front.0 ++ split.0) text;
 }
 
-module _ {D : Type 0} (view : D → DiskView) where
+module _ {D : Type 0} (kind : DiskKind D) where
   -- the texts before and after the events, where the text that is on its way between them is the last of those so far
-  split : (first mid : D) (texts between : Texts) (es : List Trace) → SurvivesAfter view first mid texts between es → IsOneOrNone between
+  split : (first mid : D) (texts between : Texts) (es : List Trace) → SurvivesAfter kind first mid texts between es → IsOneOrNone between
       → (earlier : Texts) → (front : Texts) × (since_done (earlier ++ texts) es ≡ front ++ between)
   split first mid texts between es survives (inl none) earlier =
       (since_done (earlier ++ texts) es, sym (append-nil (since_done (earlier ++ texts) es)) ∙ ap (λ (l : Texts). since_done (earlier ++ texts) es ++ l) (sym none))
@@ -158,7 +158,7 @@ module _ {D : Type 0} (view : D → DiskView) where
 
   -- events, and then events
   join : (first mid last : D) (texts between after : Texts) (es es' : List Trace) → IsOneOrNone between
-      → SurvivesAfter view first mid texts between es → SurvivesAfter view mid last between after es' → SurvivesAfter view first last texts after (es ++ es')
+      → SurvivesAfter kind first mid texts between es → SurvivesAfter kind mid last between after es' → SurvivesAfter kind first last texts after (es ++ es')
   join first mid last texts between after es es' one_or_none survives survives' = record {
     gains = gains_join (gains_less so_far survives.gains) (gains_less from_there survives'.gains);
     left = ends;
@@ -183,8 +183,8 @@ module _ {D : Type 0} (view : D → DiskView) where
           ⊎_elim (λ way. so_far c (on_the_way c way)) (λ mark. subst (λ (l : Texts). IsOneOf l c) (sym all_is) (one_of_right (texts ++ texts_of_marks es) (texts_of_marks es') c mark))
           (one_of_either between (texts_of_marks es') c one)
 
-      ends : (earlier : Texts) (c : List ℕ) → (view last).may_leave c
-          → (NoneDone (es ++ es') × (view first).may_leave c) ⊎ IsOneOf (since_done (earlier ++ texts) (es ++ es')) c
+      ends : (earlier : Texts) (c : List ℕ) → (kind.view last).may_leave c
+          → (NoneDone (es ++ es') × (kind.view first).may_leave c) ⊎ IsOneOf (since_done (earlier ++ texts) (es ++ es')) c
       ends earlier c left =
           let parts = split first mid texts between es survives one_or_none earlier in
           let same : since_done (earlier ++ texts) (es ++ es') ≡ since_done (since_done (earlier ++ texts) es) es' = since_done-append (earlier ++ texts) es es' in
@@ -197,27 +197,27 @@ module _ {D : Type 0} (view : D → DiskView) where
           (survives'.left parts.0 c left)
 
   -- no event
-  pub survives_none : (disk : D) (texts : Texts) → Survives view disk disk texts texts []
-  survives_none disk texts = shown view disk disk texts texts [] (record {
-    gains = gains_none (view disk);
+  pub survives_none : (disk : D) (texts : Texts) → Survives kind disk disk texts texts []
+  survives_none disk texts = shown kind disk disk texts texts [] (record {
+    gains = gains_none (kind.view disk);
     left = λ earlier c left. inl (tt, left);
     latest = λ earlier text is. ap last_of (ap (λ (l : Texts). earlier ++ l) is) ∙ last_of-push earlier text;
   })
 
   -- one event: first its report, then its mark
   one' : (old new : D) (texts told after : Texts) (flush : Bool) (report : Option Report) (mark : Option (List ℕ)) → IsOneOrNone texts
-      → Gains (IsOneOf texts) (view old) (view new) → (report ≡ Some Done → (c : List ℕ) → (view new).may_leave c → IsOneOf texts c)
+      → Gains (IsOneOf texts) (kind.view old) (kind.view new) → (report ≡ Some Done → (c : List ℕ) → (kind.view new).may_leave c → IsOneOf texts c)
       → (report ≡ None → told ≡ texts) → (report ≢ None → told ≡ []) → (mark ≡ None → after ≡ told)
       → ((saved : List ℕ) → mark ≡ Some saved → after ≡ saved ∷ [])
-      → SurvivesAfter view old new texts after (record { flush = flush; report = report; mark = mark } ∷ [])
+      → SurvivesAfter kind old new texts after (record { flush = flush; report = report; mark = mark } ∷ [])
   one' old new texts told after flush report mark one_or_none gains done unreported reported unmarked marked = record {
     gains = gains_less (λ c one. one_of_left texts _ c one) gains;
     left = λ earlier c left. ends report done earlier c left;
     latest = λ earlier text is. newest mark report unreported reported unmarked marked earlier text is;
   }
     where
-      ends : (r : Option Report) → (r ≡ Some Done → (c : List ℕ) → (view new).may_leave c → IsOneOf texts c) → (earlier : Texts) (c : List ℕ) → (view new).may_leave c
-          → (NoneDone (record { flush = flush; report = r; mark = mark } ∷ []) × (view old).may_leave c) ⊎ IsOneOf (after_report r (earlier ++ texts) ++ only_text mark) c
+      ends : (r : Option Report) → (r ≡ Some Done → (c : List ℕ) → (kind.view new).may_leave c → IsOneOf texts c) → (earlier : Texts) (c : List ℕ) → (kind.view new).may_leave c
+          → (NoneDone (record { flush = flush; report = r; mark = mark } ∷ []) × (kind.view old).may_leave c) ⊎ IsOneOf (after_report r (earlier ++ texts) ++ only_text mark) c
       ends None done earlier c left =
           ⊎_elim (λ was. inl (((λ is. absurd (cc)), tt), was)) (λ one. inr (one_of_left (earlier ++ texts) (only_text mark) c (one_of_right earlier texts c one))) (gains.now c left)
       ends (Some Failed) done earlier c left =
@@ -240,16 +240,16 @@ module _ {D : Type 0} (view : D → DiskView) where
           last_of-push (after_report r (earlier ++ texts)) (saved) ∙ sym (marked saved refl) ∙ is
 
   pub survives_one : (old new : D) (texts told after : Texts) (e : Trace) → IsOneOrNone texts
-      → Gains (IsOneOf texts) (view old) (view new) → (e.report ≡ Some Done → (c : List ℕ) → (view new).may_leave c → IsOneOf texts c)
+      → Gains (IsOneOf texts) (kind.view old) (kind.view new) → (e.report ≡ Some Done → (c : List ℕ) → (kind.view new).may_leave c → IsOneOf texts c)
       → (e.report ≡ None → told ≡ texts) → (e.report ≢ None → told ≡ []) → (e.mark ≡ None → after ≡ told)
       → ((saved : List ℕ) → e.mark ≡ Some saved → after ≡ saved ∷ [])
-      → Survives view old new texts after (e ∷ [])
+      → Survives kind old new texts after (e ∷ [])
   survives_one old new texts told after e one_or_none gains done unreported reported unmarked marked =
-      shown view old new texts after (e ∷ [])
+      shown kind old new texts after (e ∷ [])
       (one' old new texts told after e.flush e.report e.mark one_or_none gains done unreported reported unmarked marked)
 
   pub survives_join : (first mid last : D) (texts between after : Texts) (es es' : List Trace) → IsOneOrNone between
-      → Survives view first mid texts between es → Survives view mid last between after es' → Survives view first last texts after (es ++ es')
+      → Survives kind first mid texts between es → Survives kind mid last between after es' → Survives kind first last texts after (es ++ es')
   survives_join first mid last texts between after es es' one_or_none survives survives' =
-      shown view first last texts after (es ++ es')
-      (join first mid last texts between after es es' one_or_none (over view first mid texts between es survives) (over view mid last between after es' survives'))
+      shown kind first last texts after (es ++ es')
+      (join first mid last texts between after es es' one_or_none (over kind first mid texts between es survives) (over kind mid last between after es' survives'))

@@ -1,13 +1,13 @@
 -- Lives begin from worlds that those before them keep.
 use Rattle.std.proofs.Common.{◌≡◌, ◌⊎◌, inl, inr, ⊎_elim, ℕ, List, [], ◌∷◌, refl, sym, ◌∙◌, ap, subst}
 use Rattle.std.proofs.lemmas.List.{append-nil}
-use Rattle.moo_disk.specs.Disk.{DiskView, LeavesOnly}
+use Rattle.moo_disk.specs.Disk.{DiskKind, DiskView, LeavesOnly}
 use Rattle.moo_dbtext_read.specs.Saved.{Saved}
 use Rattle.moo_server_core.specs.Application.{Layer}
 use Rattle.moo_server_core.specs.Traces.{Trace}
 use Rattle.moo_server_core.specs.Crash.{Survives, since_done}
 use Rattle.moo_server_core.specs.Meaning.{Entry}
-use Rattle.moo_server_core.specs.Server.{Lived, done_of, on_its_way, state_of, text_of_open, traces_under}
+use Rattle.moo_server_core.specs.Server.{Lived, done_of, on_its_way, state_of, text_of_open, traces_under, with_disk}
 use Rattle.moo_server_core.proofs.Joining.{Texts, one_of_left}
 use Rattle.moo_server_core.proofs.Running.{lived_of}
 use Rattle.moo_server_core.proofs.Marked.{IsMarkAt, mark_at, mark_is_prefix, place_done}
@@ -16,7 +16,7 @@ use Rattle.moo_server_core.specs.declared.life.LifeStop.TheVariants.{Crash, Serv
 use Rattle.moo_server_core.specs.Lives.{IsLife, IsStopped, LifeRun, Lives}
 use Rattle.moo_server_core.specs.Marks.{BeginFromKept, IsKeptIn, IsMarked, KeptBehind, ReportsNone}
 
-module _ {S Application D : Type 0} (l : Layer S Application Saved) (view : D → DiskView) (honest : D → Type 0) (failures : D → ℕ) (images : D → List (List ℕ)) where
+module _ {S Application D : Type 0} (l : Layer S Application Saved) (kind : DiskKind D) (images : D → List (List ℕ)) where
   -- it spells a world that these lives keep, the last of them first
   abbrev SpellsKept : List (LifeRun S D) → List ℕ → Type 0
   SpellsKept lives c = (saved : Saved) × l.meaning.Spells c saved × IsKeptIn l lives saved
@@ -28,12 +28,12 @@ module _ {S Application D : Type 0} (l : Layer S Application Saved) (view : D �
 
   -- a disk behind these lives, the last of them first
   abbrev IsBehind : List (LifeRun S D) → D → Type 0
-  IsBehind [] disk = LeavesOnly (view disk).main_text (view disk)
-  IsBehind (last ∷ earlier) disk = IsAlone last.stop (view disk) × ((c : List ℕ) → (view disk).may_leave c → SpellsKept (last ∷ earlier) c)
+  IsBehind [] disk = LeavesOnly (kind.view disk).main_text (kind.view disk)
+  IsBehind (last ∷ earlier) disk = IsAlone last.stop (kind.view disk) × ((c : List ℕ) → (kind.view disk).may_leave c → SpellsKept (last ∷ earlier) c)
 
   -- what a crash leaves behind a life: what it left before, where none of its checkpoints was reported done, or the text of a mark
-  left_by : (run : LifeRun S D) → honest run.old → IsLife l view honest failures run → (c : List ℕ) → (view run.new).may_leave c
-      → (ReportsNone l run × (view run.old).may_leave c) ⊎ ((saved : Saved) × l.meaning.Spells c saved × IsMarked l run saved)
+  left_by : (run : LifeRun S D) → kind.honest run.old → IsLife l kind run → (c : List ℕ) → (kind.view run.new).may_leave c
+      → (ReportsNone l run × (kind.view run.old).may_leave c) ⊎ ((saved : Saved) × l.meaning.Spells c saved × IsMarked l run saved)
   left_by run h is c left =
       ⊎_elim (λ was. inl (was.0, at_first was.1))
       (λ one. inr (mark_is_prefix l (state_of l run.start) lived.end run.entries run.entries c lived.run lived.spelled
@@ -43,30 +43,30 @@ module _ {S Application D : Type 0} (l : Layer S Application Saved) (view : D �
       traces : List Trace
       traces = traces_under l.meaning run.entries
 
-      lived : Lived l view honest run.start run.end run.opened run.new run.entries
-      lived = subst (λ (es : List (Entry Saved)). Lived l view honest run.start run.end run.opened run.new es) is.entries
-          (lived_of l view honest run.start run.end run.opened run.new run.events (done_of run.result) is.runs.ran)
+      lived : Lived l kind (with_disk run.start run.opened) (with_disk run.end run.new) run.entries
+      lived = subst (λ (es : List (Entry Saved)). Lived l kind (with_disk run.start run.opened) (with_disk run.end run.new) es) is.entries
+          (lived_of l kind run.start run.end run.opened run.new run.events (done_of run.result) is.runs.ran)
 
-      at_first : (view run.opened).may_leave c → (view run.old).may_leave c
+      at_first : (kind.view run.opened).may_leave c → (kind.view run.old).may_leave c
       at_first left' = ⊎_elim (λ was. was) (λ none. absurd none) ((is.opened.main h).crash.now c left')
 
-      survives : Survives view run.opened run.new [] (on_its_way run.end) traces
-      survives = subst (λ (ts : Texts). Survives view run.opened run.new ts (on_its_way run.end) traces) (ap text_of_open is.opened.no_checkpoint)
+      survives : Survives kind run.opened run.new [] (on_its_way run.end) traces
+      survives = subst (λ (ts : Texts). Survives kind run.opened run.new ts (on_its_way run.end) traces) (ap text_of_open is.opened.no_checkpoint)
           (lived.survives (is.opened.honest_still h))
 
   -- the text that was under main at the start spells the world that the life began from
-  began : (run : LifeRun S D) → IsLife l view honest failures run → l.meaning.Spells run.main run.saved → LeavesOnly (view run.old).main_text (view run.old)
-      → (c : List ℕ) → (view run.old).may_leave c → l.meaning.Spells c run.saved
+  began : (run : LifeRun S D) → IsLife l kind run → l.meaning.Spells run.main run.saved → LeavesOnly (kind.view run.old).main_text (kind.view run.old)
+      → (c : List ℕ) → (kind.view run.old).may_leave c → l.meaning.Spells c run.saved
   began run is spells only c left = subst (λ (t : List ℕ). l.meaning.Spells t run.saved) (is.main ∙ sym (only c left)) spells
 
-  kept_behind : (earlier : List (LifeRun S D)) (run : LifeRun S D) → IsBehind earlier run.old → honest run.old → IsLife l view honest failures run → l.meaning.Spells run.main run.saved
-      → (c : List ℕ) → (view run.new).may_leave c → SpellsKept (run ∷ earlier) c
+  kept_behind : (earlier : List (LifeRun S D)) (run : LifeRun S D) → IsBehind earlier run.old → kind.honest run.old → IsLife l kind run → l.meaning.Spells run.main run.saved
+      → (c : List ℕ) → (kind.view run.new).may_leave c → SpellsKept (run ∷ earlier) c
   kept_behind [] run behind h is spells c left =
       ⊎_elim (λ was. (run.saved, began run is spells behind c was.1, inr (was.0, refl))) (λ mark. (mark.0, mark.1, inl mark.2)) (left_by run h is c left)
   kept_behind (before ∷ earlier) run behind h is spells c left =
       ⊎_elim (λ was. by_stop before.stop refl behind.0 was) (λ mark. (mark.0, mark.1, inl mark.2)) (left_by run h is c left)
     where
-      by_stop : (stop : LifeStop) → before.stop ≡ stop → IsAlone stop (view run.old) → ReportsNone l run × (view run.old).may_leave c → SpellsKept (run ∷ before ∷ earlier) c
+      by_stop : (stop : LifeStop) → before.stop ≡ stop → IsAlone stop (kind.view run.old) → ReportsNone l run × (kind.view run.old).may_leave c → SpellsKept (run ∷ before ∷ earlier) c
       by_stop (Crash i) stop_is alone was = (
         run.saved,
         began run is spells alone c was.1,
@@ -79,24 +79,24 @@ module _ {S Application D : Type 0} (l : Layer S Application Saved) (view : D �
             inr (was.0, subst (λ (s : LifeStop). KeptBehind s (kept.0 ≡ run.saved) (IsKeptIn l (before ∷ earlier) kept.0)) (sym stop_is) kept.2),
           )
 
-  behind_more : (earlier : List (LifeRun S D)) (run : LifeRun S D) (next : D) → IsBehind earlier run.old → honest run.old → IsLife l view honest failures run → l.meaning.Spells run.main run.saved
-      → IsStopped view honest images run.stop run.new next → IsBehind (run ∷ earlier) next
+  behind_more : (earlier : List (LifeRun S D)) (run : LifeRun S D) (next : D) → IsBehind earlier run.old → kind.honest run.old → IsLife l kind run → l.meaning.Spells run.main run.saved
+      → IsStopped kind images run.stop run.new next → IsBehind (run ∷ earlier) next
   behind_more earlier run next behind h is spells stopped = by_stop run.stop refl stopped
     where
-      by_stop : (stop : LifeStop) → run.stop ≡ stop → IsStopped view honest images stop run.new next → IsBehind (run ∷ earlier) next
+      by_stop : (stop : LifeStop) → run.stop ≡ stop → IsStopped kind images stop run.new next → IsBehind (run ∷ earlier) next
       by_stop ServerOnly stop_is same = (
-        subst (λ (s : LifeStop). IsAlone s (view next)) (sym stop_is) tt,
-        λ c left. kept_behind earlier run behind h is spells c (subst (λ (d : D). (view d).may_leave c) same left),
+        subst (λ (s : LifeStop). IsAlone s (kind.view next)) (sym stop_is) tt,
+        λ c left. kept_behind earlier run behind h is spells c (subst (λ (d : D). (kind.view d).may_leave c) same left),
       )
       by_stop (Crash i) stop_is crash =
           let crashed = crash (is.honest_still h) in
           let rest = crashed.left in (
-            subst (λ (s : LifeStop). IsAlone s (view next)) (sym stop_is) rest.only,
-            λ c left. subst (λ (t : List ℕ). SpellsKept (run ∷ earlier) t) (sym (rest.only c left)) (kept_behind earlier run behind h is spells (view next).main_text rest.text),
+            subst (λ (s : LifeStop). IsAlone s (kind.view next)) (sym stop_is) rest.only,
+            λ c left. subst (λ (t : List ℕ). SpellsKept (run ∷ earlier) t) (sym (rest.only c left)) (kept_behind earlier run behind h is spells (kind.view next).main_text rest.text),
           )
 
-  pub begin_from_kept : (reads : (disk : D) → honest disk → (view disk).may_leave (view disk).main_text)
-      (earlier runs : List (LifeRun S D)) (disk last : D) (texts left : Texts) → IsBehind earlier disk → Lives l view honest failures images disk texts runs left last
+  pub begin_from_kept : (reads : (disk : D) → kind.honest disk → (kind.view disk).may_leave (kind.view disk).main_text)
+      (earlier runs : List (LifeRun S D)) (disk last : D) (texts left : Texts) → IsBehind earlier disk → Lives l kind images disk texts runs left last
       → BeginFromKept l earlier runs
   begin_from_kept reads earlier [] disk last texts left behind all = tt
   begin_from_kept reads [] (run ∷ runs) disk last texts left behind all =
@@ -106,7 +106,7 @@ module _ {S Application D : Type 0} (l : Layer S Application Saved) (view : D �
   begin_from_kept reads (before ∷ earlier) (run ∷ runs) disk last texts left behind all =
       let one = all.2 in
       let behind' = subst (λ (d : D). IsBehind (before ∷ earlier) d) (sym one.begins_over) behind in
-      let found = behind'.1 (view run.old).main_text (reads run.old one.honest_then) in
+      let found = behind'.1 (kind.view run.old).main_text (reads run.old one.honest_then) in
       let same : found.0 ≡ run.saved = one.lived.opened.only one.honest_then found.0 found.1 in (
         subst (λ (s : Saved). IsKeptIn l (before ∷ earlier) s) same found.2,
         begin_from_kept reads (run ∷ before ∷ earlier) runs all.1 last all.0 left

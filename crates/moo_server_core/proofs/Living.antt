@@ -4,7 +4,7 @@ use Rattle.std.specs.Prelude.{IfErr, IfOk, slice_get}
 use Rattle.std.proofs.lemmas.Bool.{cases_lt}
 use Rattle.std.proofs.lemmas.List.{append-nil}
 use Rattle.std.specs.Option.{option_map}
-use Rattle.moo_disk.specs.Disk.{DiskView, LeavesOnly}
+use Rattle.moo_disk.specs.Disk.{DiskKind, LeavesOnly}
 use Rattle.moo_dbtext_read.specs.Saved.{Saved}
 use Rattle.moo_server_core.specs.Application.{Layer}
 use Rattle.moo_server_core.specs.Traces.{Trace}
@@ -13,7 +13,7 @@ use Rattle.moo_server_core.specs.Meaning.{Entry, trace_of}
 use Rattle.moo_server_core.specs.declared.event.Event as given
 use Rattle.moo_server_core.specs.declared.event.RunFault.{RunFault}
 use Rattle.moo_server_core.specs.declared.server_core.ServerCore.{ServerCore}
-use Rattle.moo_server_core.specs.Server.{IsAlive, Lived, MarkSpells, MarksSpell, done_of, on_its_way, text_of_open, traces_under}
+use Rattle.moo_server_core.specs.Server.{IsAlive, Lived, MarkSpells, MarksSpell, done_of, on_its_way, text_of_open, traces_under, with_disk}
 use Rattle.moo_server_core.proofs.Joining.{Texts, keeps_all, no_others, one_of_either, over}
 use Rattle.moo_server_core.proofs.Running.{lived_of}
 use Rattle.moo_server_core.specs.declared.life.Life.{Life}
@@ -23,7 +23,7 @@ use Rattle.moo_server_core.specs.declared.life.LifeStop.TheVariants.{Crash, Serv
 use Rattle.moo_server_core.specs.declared.life.LivesCause.{LivesCause}
 use Rattle.moo_server_core.specs.declared.life.LivesCause.TheVariants.{NoSuchImage, Memory}
 use Rattle.moo_server_core.specs.declared.life.LivesCause.TheVariants.{Open as not_open}
-use Rattle.moo_server_core.specs.Lives.{AreTold, EndsBefore, HasLived, HasNoImage, IsLeft, IsLife, IsMet, IsStopped, IsTold, LifeRun, Lives, NextMeets, RanAll, SoFar}
+use Rattle.moo_server_core.specs.Lives.{AreTold, EndsBefore, HasLived, HasNoImage, IsLeft, IsLife, IsMet, IsStopped, IsTold, LifeRun, Lives, RanAll, SoFar}
 
 pub ran_all : {S : Type 0} (result : Result ℕ RunFault) (events told : List given.Event) (end : ServerCore S) → events ≡ told
     → IfOk result (λ n. (n ≡ length events) × IsAlive end) → RanAll result told end
@@ -59,14 +59,14 @@ module _ {S Application : Type 0} (l : Layer S Application Saved) where
   told_push (x ∷ xs) [] zs life run begin all one = absurd all
   told_push (x ∷ xs) (y ∷ ys) [] life run begin all one = absurd all
 
-  module _ {D : Type 0} (view : D → DiskView) (honest : D → Type 0) (failures : D → ℕ) (images : D → List (List ℕ)) where
+  module _ {D : Type 0} (kind : DiskKind D) (images : D → List (List ℕ)) where
     lives_push : (disk : D) (texts left after : Texts) (runs : List (LifeRun S D)) (run : LifeRun S D) (last new : D)
-        → Lives l view honest failures images disk texts runs left last
-        → run.old ≡ last → IsOneOf left run.main → l.meaning.Spells run.main run.saved → honest run.old → IsLife l view honest failures run
-        → IsLeft run.stop (since_done left (traces_under l.meaning run.entries)) after → IsStopped view honest images run.stop run.new new
-        → Lives l view honest failures images disk texts (runs ++ run ∷ []) after new
+        → Lives l kind images disk texts runs left last
+        → run.old ≡ last → IsOneOf left run.main → l.meaning.Spells run.main run.saved → kind.honest run.old → IsLife l kind run
+        → IsLeft run.stop (since_done left (traces_under l.meaning run.entries)) after → IsStopped kind images run.stop run.new new
+        → Lives l kind images disk texts (runs ++ run ∷ []) after new
     lives_push disk texts left after [] run last new same old_is one spells h is goes stopped =
-        subst (λ (ts : Texts). Lives l view honest failures images disk ts (run ∷ []) after new) same.0 (
+        subst (λ (ts : Texts). Lives l kind images disk ts (run ∷ []) after new) same.0 (
           after,
           new,
           record { begins_over = old_is ∙ same.1; honest_then = h; reads = one; begins_from = spells; lived = is; leaves = goes; ends = stopped },
@@ -83,29 +83,29 @@ module _ {S Application : Type 0} (l : Layer S Application Saved) where
     traces_in : LifeRun S D → List Trace
     traces_in run = traces_under l.meaning run.entries
 
-    lived_in : (run : LifeRun S D) → IsLife l view honest failures run → Lived l view honest run.start run.end run.opened run.new run.entries
-    lived_in run is = subst (λ (es : List (Entry Saved)). Lived l view honest run.start run.end run.opened run.new es) is.entries
-        (lived_of l view honest run.start run.end run.opened run.new run.events (done_of run.result) is.runs.ran)
+    lived_in : (run : LifeRun S D) → IsLife l kind run → Lived l kind (with_disk run.start run.opened) (with_disk run.end run.new) run.entries
+    lived_in run is = subst (λ (es : List (Entry Saved)). Lived l kind (with_disk run.start run.opened) (with_disk run.end run.new) es) is.entries
+        (lived_of l kind run.start run.end run.opened run.new run.events (done_of run.result) is.runs.ran)
 
     -- what a crash leaves behind a life
-    after_life : (run : LifeRun S D) (texts : Texts) → honest run.old → IsLife l view honest failures run → ((c : List ℕ) → (view run.old).may_leave c → IsOneOf texts c)
-        → (c : List ℕ) → (view run.new).may_leave c → IsOneOf (since_done texts (traces_under l.meaning run.entries)) c
+    after_life : (run : LifeRun S D) (texts : Texts) → kind.honest run.old → IsLife l kind run → ((c : List ℕ) → (kind.view run.old).may_leave c → IsOneOf texts c)
+        → (c : List ℕ) → (kind.view run.new).may_leave c → IsOneOf (since_done texts (traces_under l.meaning run.entries)) c
     after_life run texts h is within c left =
         ⊎_elim (λ was. keeps_all texts traces c was.0 (within c (at_first was.1)))
         (λ one. subst (λ (ts : Texts). IsOneOf (since_done ts traces) c) (append-nil texts) one)
-        ((over view run.opened run.new [] (on_its_way run.end) traces survives).left texts c left)
+        ((over kind run.opened run.new [] (on_its_way run.end) traces survives).left texts c left)
       where
         traces : List Trace
         traces = traces_under l.meaning run.entries
 
-        at_first : (view run.opened).may_leave c → (view run.old).may_leave c
+        at_first : (kind.view run.opened).may_leave c → (kind.view run.old).may_leave c
         at_first left' = ⊎_elim (λ was. was) (λ none. absurd none) ((is.opened.main h).crash.now c left')
 
-        survives : Survives view run.opened run.new [] (on_its_way run.end) traces
-        survives = subst (λ (ts : Texts). Survives view run.opened run.new ts (on_its_way run.end) traces) (ap text_of_open is.opened.no_checkpoint)
+        survives : Survives kind run.opened run.new [] (on_its_way run.end) traces
+        survives = subst (λ (ts : Texts). Survives kind run.opened run.new ts (on_its_way run.end) traces) (ap text_of_open is.opened.no_checkpoint)
             ((lived_in run is).survives (is.opened.honest_still h))
 
-    after_spelled : (run : LifeRun S D) (texts : Texts) → IsLife l view honest failures run → ((c : List ℕ) → IsOneOf texts c → (s : Saved) × l.meaning.Spells c s)
+    after_spelled : (run : LifeRun S D) (texts : Texts) → IsLife l kind run → ((c : List ℕ) → IsOneOf texts c → (s : Saved) × l.meaning.Spells c s)
         → (c : List ℕ) → IsOneOf (since_done texts (traces_under l.meaning run.entries)) c → (s : Saved) × l.meaning.Spells c s
     after_spelled run texts is spelled c one =
         ⊎_elim (λ was. spelled c was) (λ mark. marks_spelled run.entries c (lived_in run is).spelled mark)
@@ -115,65 +115,65 @@ module _ {S Application : Type 0} (l : Layer S Application Saved) where
     pub record Behind (run : LifeRun S D) (texts : Texts) (new : D) : Type 0 where
       pub after : Texts
       pub goes : IsLeft run.stop texts after
-      pub honest_still : honest new
-      pub within : (c : List ℕ) → (view new).may_leave c → IsOneOf after c
+      pub honest_still : kind.honest new
+      pub within : (c : List ℕ) → (kind.view new).may_leave c → IsOneOf after c
       pub spelled : (c : List ℕ) → IsOneOf after c → (s : Saved) × l.meaning.Spells c s
 
-    stopped : (run : LifeRun S D) (texts : Texts) (new : D) (stop : LifeStop) → run.stop ≡ stop → honest run.new → IsStopped view honest images stop run.new new
-        → ((c : List ℕ) → (view run.new).may_leave c → IsOneOf texts c) → ((c : List ℕ) → IsOneOf texts c → (s : Saved) × l.meaning.Spells c s) → Behind run texts new
+    stopped : (run : LifeRun S D) (texts : Texts) (new : D) (stop : LifeStop) → run.stop ≡ stop → kind.honest run.new → IsStopped kind images stop run.new new
+        → ((c : List ℕ) → (kind.view run.new).may_leave c → IsOneOf texts c) → ((c : List ℕ) → IsOneOf texts c → (s : Saved) × l.meaning.Spells c s) → Behind run texts new
     stopped run texts new ServerOnly is_stop h same within spelled = record {
       after = texts;
       goes = subst (λ (s : LifeStop). IsLeft s texts texts) (sym is_stop) refl;
-      honest_still = subst honest (sym same) h;
-      within = λ c left. within c (subst (λ (d : D). (view d).may_leave c) same left);
+      honest_still = subst kind.honest (sym same) h;
+      within = λ c left. within c (subst (λ (d : D). (kind.view d).may_leave c) same left);
       spelled = spelled;
     }
     stopped run texts new (Crash i) is_stop h crash within spelled =
         let crashed = crash h in
         let left = crashed.left in
-        let one = within (view new).main_text left.text in
+        let one = within (kind.view new).main_text left.text in
         record {
-          after = (view new).main_text ∷ [];
-          goes = subst (λ (s : LifeStop). IsLeft s texts ((view new).main_text ∷ [])) (sym is_stop) ((view new).main_text, one, refl);
+          after = (kind.view new).main_text ∷ [];
+          goes = subst (λ (s : LifeStop). IsLeft s texts ((kind.view new).main_text ∷ [])) (sym is_stop) ((kind.view new).main_text, one, refl);
           honest_still = crashed.honest_still;
           within = λ c left'. inl (left.only c left');
-          spelled = λ c is. ⊎_elim (λ same. let found = spelled (view new).main_text one in (found.0, subst (λ (t : List ℕ). l.meaning.Spells t found.0) (sym same) found.1)) (λ none. absurd none) is;
+          spelled = λ c is. ⊎_elim (λ same. let found = spelled (kind.view new).main_text one in (found.0, subst (λ (t : List ℕ). l.meaning.Spells t found.0) (sym same) found.1)) (λ none. absurd none) is;
         }
 
     -- one life more
     pub so_far_more : (lives : List Life) (begins : List LifeBegin) (first old end new : D) (life : Life) (begin : LifeBegin)
-        → (honest old → (view old).may_leave (view old).main_text)
-        → SoFar l view honest failures images lives begins first old → HasLived l view honest failures life old end begin → IsStopped view honest images life.stop end new
-        → SoFar l view honest failures images (lives ++ life ∷ []) (begins ++ begin ∷ []) first new
+        → (kind.honest old → (kind.view old).may_leave (kind.view old).main_text)
+        → SoFar l kind images lives begins first old → HasLived l kind life old end begin → IsStopped kind images life.stop end new
+        → SoFar l kind images (lives ++ life ∷ []) (begins ++ begin ∷ []) first new
     so_far_more lives begins first old end new life begin reads so_far has stop =
         let run = has.run in
-        let h : honest run.old = subst honest (sym has.old_is) so_far.honest_still in
-        let within = subst (λ (d : D). (c : List ℕ) → (view d).may_leave c → IsOneOf so_far.left c) (sym has.old_is) so_far.within in
+        let h : kind.honest run.old = subst kind.honest (sym has.old_is) so_far.honest_still in
+        let within = subst (λ (d : D). (c : List ℕ) → (kind.view d).may_leave c → IsOneOf so_far.left c) (sym has.old_is) so_far.within in
         let main_is = has.is.main in
-        let left_main : IsOneOf so_far.left run.main = subst (λ (t : List ℕ). IsOneOf so_far.left t) (sym main_is) (within (view run.old).main_text (subst (λ (d : D). (view d).may_leave (view d).main_text) (sym has.old_is) (reads so_far.honest_still))) in
+        let left_main : IsOneOf so_far.left run.main = subst (λ (t : List ℕ). IsOneOf so_far.left t) (sym main_is) (within (kind.view run.old).main_text (subst (λ (d : D). (kind.view d).may_leave (kind.view d).main_text) (sym has.old_is) (reads so_far.honest_still))) in
         let found = so_far.spelled run.main left_main in
         let saved_is : found.0 ≡ run.saved = has.is.opened.only h found.0 (subst (λ (t : List ℕ). l.meaning.Spells t found.0) main_is found.1) in
-        let h_new : honest run.new = has.is.honest_still h in
-        let stop' : IsStopped view honest images life.stop run.new new = subst (λ (d : D). IsStopped view honest images life.stop d new) (sym has.new_is) stop in
+        let h_new : kind.honest run.new = has.is.honest_still h in
+        let stop' : IsStopped kind images life.stop run.new new = subst (λ (d : D). IsStopped kind images life.stop d new) (sym has.new_is) stop in
         let behind = stopped run (since_done so_far.left (traces_under l.meaning run.entries)) new life.stop has.told.stop h_new stop'
         (after_life run so_far.left h has.is within) (after_spelled run so_far.left has.is so_far.spelled) in
         record {
           runs = so_far.runs ++ run ∷ [];
           left = behind.after;
-          lived = lives_push first ((view first).main_text ∷ []) so_far.left behind.after so_far.runs run old new so_far.lived has.old_is left_main
+          lived = lives_push first ((kind.view first).main_text ∷ []) so_far.left behind.after so_far.runs run old new so_far.lived has.old_is left_main
               (subst (λ (s : Saved). l.meaning.Spells run.main s) saved_is found.1) h has.is behind.goes
-              (subst (λ (s : LifeStop). IsStopped view honest images s run.new new) (sym has.told.stop) stop');
+              (subst (λ (s : LifeStop). IsStopped kind images s run.new new) (sym has.told.stop) stop');
           told = told_push lives so_far.runs begins life run begin so_far.told has.told;
           honest_still = behind.honest_still;
           within = behind.within;
           spelled = behind.spelled;
         }
 
-    pub so_far_none : (disk : D) (s : Saved) → honest disk → l.meaning.Spells (view disk).main_text s
-        → LeavesOnly (view disk).main_text (view disk) → SoFar l view honest failures images [] [] disk disk
+    pub so_far_none : (disk : D) (s : Saved) → kind.honest disk → l.meaning.Spells (kind.view disk).main_text s
+        → LeavesOnly (kind.view disk).main_text (kind.view disk) → SoFar l kind images [] [] disk disk
     so_far_none disk s h spells only = record {
       runs = [];
-      left = (view disk).main_text ∷ [];
+      left = (kind.view disk).main_text ∷ [];
       lived = (refl, refl);
       told = tt;
       honest_still = h;
@@ -181,22 +181,15 @@ module _ {S Application : Type 0} (l : Layer S Application Saved) where
       spelled = λ c is. ⊎_elim (λ same. (s, subst (λ (t : List ℕ). l.meaning.Spells t s) (sym same) spells)) (λ none. absurd none) is;
     }
 
-    -- what the next life met, by what it is
-    pub meets_of : (lives : List Life) (place : ℕ) (life : Life) (disk : D) (cause : LivesCause) → slice_get lives place ≡ Some life
-        → EndsBefore l view honest failures images life disk cause → NextMeets l view honest failures images lives place cause disk
-    meets_of lives place life disk (not_open fault) is ends = (life, is, ends)
-    meets_of lives place life disk NoSuchImage is ends = (life, is, ends)
-    meets_of lives place life disk Memory is ends = absurd ends
-
     -- a life that didn't begin
-    pub live_met : (life : Life) (old new : D) (cause : LivesCause) → IsMet l view honest failures old new cause → EndsBefore l view honest failures images life old cause
+    pub live_met : (life : Life) (old new : D) (cause : LivesCause) → IsMet l kind old new cause → EndsBefore l kind images life old cause
     live_met life old new (not_open fault) met = (new, met)
     live_met life old new NoSuchImage met = absurd met
     live_met life old new Memory met = absurd met
 
     -- a crash that left no such text
-    pub stop_met : {X : Type 0} (r : Result X LivesCause) (life : Life) (old new : D) (begin : LifeBegin) → HasLived l view honest failures life old new begin
-        → IfErr r (λ cause. (cause ≡ NoSuchImage) × HasNoImage images life.stop new) → IfErr r (λ cause. EndsBefore l view honest failures images life old cause)
+    pub stop_met : {X : Type 0} (r : Result X LivesCause) (life : Life) (old new : D) (begin : LifeBegin) → HasLived l kind life old new begin
+        → IfErr r (λ cause. (cause ≡ NoSuchImage) × HasNoImage images life.stop new) → IfErr r (λ cause. EndsBefore l kind images life old cause)
     stop_met (Ok x) life old new begin lived met = tt
     stop_met (Err cause) life old new begin lived met =
-        subst (λ (c : LivesCause). EndsBefore l view honest failures images life old c) (sym met.0) (new, begin, lived, met.1)
+        subst (λ (c : LivesCause). EndsBefore l kind images life old c) (sym met.0) (new, begin, lived, met.1)

@@ -1,9 +1,9 @@
 -- The report of a checkpoint.
 use Rattle.std.proofs.Common.{◌≡◌, ◌↔◌, ℕ, List, Option, Some, None, Result, Ok, Err, OnOk, Bool, refl, sym, ◌∙◌, ap, subst, inl}
 use Rattle.std.specs.Prelude.{if◌then◌else◌}
-use Rattle.moo_disk.specs.Disk.{DiskView, LeavesOnly}
+use Rattle.moo_disk.specs.Disk.{DiskKind, LeavesOnly}
 use Rattle.moo_checkpoint.specs.Checkpoint.{text_of, turns_left}
-use Rattle.moo_checkpoint.proofs.TurnLemmas.{continues_within, fresh_continues}
+use Rattle.moo_checkpoint.proofs.TurnLemmas.{continues_like, fresh_continues}
 use Rattle.moo_server_core.specs.declared.event.Course.TheVariants.{Closed}
 use Rattle.moo_server_core.specs.declared.server_core.Open.{Open}
 use Rattle.moo_server_core.specs.declared.server_core.ServerCore.{ServerCore}
@@ -18,31 +18,31 @@ pub on_ok_map : {T E P Q : Type 0} (result : Result T E) → (P → Q) → OnOk 
 on_ok_map (Ok x) f p = f p
 on_ok_map (Err e) f p = p
 
--- a disk that shows what the one within shows goes on exactly where that one does
-pub follows_within : {D E : Type 0} (view : D → DiskView) (honest stands : D → Type 0) (inner : E → D) (writing : Option Open) (disk : E)
-    → OpenFollows view honest stands writing (inner disk)
-    ↔ OpenFollows (λ e. view (inner e)) (λ e. honest (inner e)) (λ e. stands (inner e)) writing disk
-follows_within view honest stands inner None disk = (λ t. t, λ t. t)
-follows_within view honest stands inner (Some o) disk = continues_within view honest stands inner o.checkpoint disk
+-- a disk that shows what another one does goes on if that one does
+pub follows_like : {D E : Type 0} (kind : DiskKind D) (kind' : DiskKind E) (writing : Option Open) (disk : D) (disk' : E)
+    → kind'.view disk' ≡ kind.view disk → (kind'.honest disk' → kind.honest disk) → (kind.stands disk → kind'.stands disk')
+    → OpenFollows kind writing disk → OpenFollows kind' writing disk'
+follows_like kind kind' None disk disk' same honest stands follows = tt
+follows_like kind kind' (Some o) disk disk' same honest stands follows = continues_like kind kind' o.checkpoint disk disk' same honest stands follows
 
 some_is : {r s : Report} → Some r ≡ Some s → r ≡ s
 some_is is = cc
 
 -- a mark's checkpoint may be given any disk
-pub opens_follow : {Application Saved D : Type 0} (m : Meaning Application Saved) (view : D → DiskView) (honest stands : D → Type 0) (mark : Option Saved) (old new : Option Open) (disk : D)
-    → Opens m mark old new → OpenFollows view honest stands old disk → OpenFollows view honest stands new disk
-opens_follow m view honest stands None old new disk opens follows = subst (λ (w : Option Open). OpenFollows view honest stands w disk) (sym opens) follows
-opens_follow m view honest stands (Some saved) old new disk opens follows =
-    subst (λ (w : Option Open). OpenFollows view honest stands w disk) (sym opens.1) (fresh_continues view honest stands opens.0.checkpoint disk opens.2)
+pub opens_follow : {Application Saved D : Type 0} (m : Meaning Application Saved) (kind : DiskKind D) (mark : Option Saved) (old new : Option Open) (disk : D)
+    → Opens m mark old new → OpenFollows kind old disk → OpenFollows kind new disk
+opens_follow m kind None old new disk opens follows = subst (λ (w : Option Open). OpenFollows kind w disk) (sym opens) follows
+opens_follow m kind (Some saved) old new disk opens follows =
+    subst (λ (w : Option Open). OpenFollows kind w disk) (sym opens.1) (fresh_continues kind opens.0.checkpoint disk opens.2)
 
-module _ {S Application Saved : Type 0} (l : Layer S Application Saved) {D : Type 0} (view : D → DiskView) (honest : D → Type 0) (failures : D → ℕ) where
+module _ {S Application Saved : Type 0} (l : Layer S Application Saved) {D : Type 0} (kind : DiskKind D) where
   -- a turn that ended the checkpoint, and what `checkpoint_finished` did
   pub turns : (before after : ServerCore S) (taken : Option Open) (o : Open) (old new : D) (report : Report)
       → before.writing ≡ Some o → taken ≡ None → after.writing ≡ taken
-      → (report ≡ Done → honest old → LeavesOnly (text_of o.checkpoint) (view new)) → (report ≡ Done → turns_left o.checkpoint ≡ 1) → CountsReport (Some report) (failures old) (failures new)
+      → (report ≡ Done → kind.honest old → LeavesOnly (text_of o.checkpoint) (kind.view new)) → (report ≡ Done → turns_left o.checkpoint ≡ 1) → CountsReport (Some report) (kind.failures old) (kind.failures new)
       → ((out : Output) × (mid : State Application) × Hears l.meaning (Finishes (is_done report)) (state_of l (record before { writing = taken })) out mid
       × (state_of l after ≡ record mid { course = if o.is_last then Closed else mid.course }) × (under_way_of l after ≡ then_out (under_way_of l before) out))
-      → (r : Option Report) × (out : Output) × Turns l.meaning view honest failures (state_of l before) (state_of l after) before.writing after.writing old new r out
+      → (r : Option Report) × (out : Output) × Turns l.meaning kind (state_of l before) (state_of l after) before.writing after.writing old new r out
       × (under_way_of l after ≡ then_out (under_way_of l before) out)
   turns before after taken o old new report was none left done last counts h = (
     Some report,

@@ -2,7 +2,7 @@
 use Rattle.std.proofs.Common.{◌≡◌, ◌≢◌, inl, inr, ℕ, List, [], ◌∷◌, Option, Some, None, Bool, true, false, refl, sym, ◌∙◌, ap, subst}
 use Rattle.std.specs.Prelude.{MatchBool, ◌&&◌, not}
 use Rattle.std.specs.Option.{option_map}
-use Rattle.moo_disk.specs.Disk.{DiskView, Gains}
+use Rattle.moo_disk.specs.Disk.{DiskKind, Gains}
 use Rattle.moo_checkpoint.specs.Checkpoint.{text_of}
 use Rattle.moo_server_core.specs.Traces.{Report, Done}
 use Rattle.moo_server_core.specs.Crash.{IsOneOf}
@@ -60,20 +60,20 @@ module _ {Application Saved : Type 0} (m : Meaning Application Saved) where
   opens_turns None old new opens = ap turns_of opens
   opens_turns (Some saved) old new opens = ap turns_of opens.1 ∙ opens.4
 
-  module _ {D : Type 0} (view : D → DiskView) (honest : D → Type 0) where
+  module _ {D : Type 0} (kind : DiskKind D) where
     -- an event from its parts
     pub taken : (before reported after : State Application) (was mid is : Option declared.Open) (old new : D) (entry : Entry Saved)
         → Takes m before entry after
         → Opens m entry.mark mid is → MarkSpells m entry.mark
-        → (honest old → Gains (IsOneOf (text_of_open was)) (view old) (view new))
-        → (entry.report ≡ Some Done → honest old → (c : List ℕ) → (view new).may_leave c → IsOneOf (text_of_open was) c)
+        → (kind.honest old → Gains (IsOneOf (text_of_open was)) (kind.view old) (kind.view new))
+        → (entry.report ≡ Some Done → kind.honest old → (c : List ℕ) → (kind.view new).may_leave c → IsOneOf (text_of_open was) c)
         → (entry.report ≡ None → text_of_open mid ≡ text_of_open was) → (entry.report ≢ None → text_of_open mid ≡ [])
         → Counted was mid (is_flush entry.event) entry.report
-        → Does m view honest before after was is old new entry
+        → Does m kind before after was is old new entry
     taken before reported after was mid is old new entry takes opens spelled gains done unreported reported_none counted = record {
       takes = takes;
       spelled = spelled;
-      survives = λ h. survives_one view old new (text_of_open was) (text_of_open mid) (text_of_open is) (trace_of m.text_of entry)
+      survives = λ h. survives_one kind old new (text_of_open was) (text_of_open mid) (text_of_open is) (trace_of m.text_of entry)
           (one_or_none was) (gains h) (λ done_is. done done_is h) unreported reported_none (opens_none entry.mark mid is opens) (opens_some entry.mark mid is opens);
       done = λ h done_is. done done_is h;
       in_time = ((λ one flush none. counted.not_last none flush one), counted.last, tt);
@@ -93,13 +93,13 @@ module _ {Application Saved : Type 0} (m : Meaning Application Saved) where
     }
 
     -- a `Flush`
-    pub flushed : (failures : D → ℕ) (before mid_state after : State Application) (was mid is : Option declared.Open) (old new : D) (report : Option Report) (mark : Option Saved) (finished started : Output)
+    pub flushed : (before mid_state after : State Application) (was mid is : Option declared.Open) (old new : D) (report : Option Report) (mark : Option Saved) (finished started : Output)
         → refusal m before Flush ≡ None → is_passed_over m before Flush ≡ false
-        → Turns m view honest failures before mid_state was mid old new report finished
+        → Turns m kind before mid_state was mid old new report finished
         → Marks m mark mid_state started after → Opens m mark mid is → MarkSpells m mark
-        → (honest old → Gains (IsOneOf (text_of_open was)) (view old) (view new))
-        → Does m view honest before after was is old new (record { event = Flush; report = report; mark = mark; out = then_out finished started })
-    flushed failures before mid_state after was mid is old new report mark finished started accepted counts turns marks opens spelled gains =
+        → (kind.honest old → Gains (IsOneOf (text_of_open was)) (kind.view old) (kind.view new))
+        → Does m kind before after was is old new (record { event = Flush; report = report; mark = mark; out = then_out finished started })
+    flushed before mid_state after was mid is old new report mark finished started accepted counts turns marks opens spelled gains =
         let entry : Entry Saved = record { event = Flush; report = report; mark = mark; out = then_out finished started } in
         taken before mid_state after was mid is old new entry
         (takes_steps before before mid_state after entry silence finished started accepted counts (refl, refl) turns.reports marks refl)
@@ -111,12 +111,12 @@ module _ {Application Saved : Type 0} (m : Meaning Application Saved) where
         → is_flush event ≡ false → refusal m before event ≡ None → is_passed_over m before event ≡ false
         → Acts m event before own mid_state → mid ≡ was
         → Marks m mark mid_state started after → Opens m mark mid is → MarkSpells m mark
-        → Does m view honest before after was is old old (record { event = event; report = None; mark = mark; out = then_out own started })
+        → Does m kind before after was is old old (record { event = event; report = None; mark = mark; out = then_out own started })
     acted before mid_state after was mid is old event mark own started other accepted counts acts same marks opens spelled =
         let entry : Entry Saved = record { event = event; report = None; mark = mark; out = then_out own started } in
         taken before mid_state after was mid is old old entry
         (takes_steps before mid_state mid_state after entry own silence started accepted counts acts (refl, refl) marks refl)
-        opens spelled (λ h. gains_none (view old)) (λ is_done. absurd (cc)) (λ _. ap text_of_open same) (λ some. absurd (some refl))
+        opens spelled (λ h. gains_none (kind.view old)) (λ is_done. absurd (cc)) (λ _. ap text_of_open same) (λ some. absurd (some refl))
         (record {
           one_less = λ _. ap turns_of same ∙ sym (not_flush (is_flush event) (turns_of was) other);
           not_last = λ _ flush. absurd (cc);
@@ -127,7 +127,7 @@ module _ {Application Saved : Type 0} (m : Meaning Application Saved) where
     -- an event that the closing server passes over
     pub passed_over : (state : State Application) (was : Option declared.Open) (disk : D) (event : Event) → is_closing state.course ≡ true → is_flush event ≡ false
         → refusal m state event ≡ None
-        → Does m view honest state state was was disk disk (record { event = event; report = None; mark = None; out = silence })
+        → Does m kind state state was was disk disk (record { event = event; report = None; mark = None; out = silence })
     passed_over state was disk event closing other accepted =
         let entry : Entry Saved = record { event = event; report = None; mark = None; out = silence } in
         let passed : is_passed_over m state event ≡ true = ap (λ (b : Bool). b && not (is_flush event)) closing ∙ ap not other in
@@ -137,7 +137,7 @@ module _ {Application Saved : Type 0} (m : Meaning Application Saved) where
           takes = subst (λ (b : Bool). MatchBool b (Passes m state entry state) (Steps m state entry state)) (sym passed)
               (record { same = refl; report = refl; mark = refl; out = refl });
         })
-        refl tt (λ h. gains_none (view disk)) (λ is_done. absurd (cc)) (λ _. refl) (λ some. absurd (some refl))
+        refl tt (λ h. gains_none (kind.view disk)) (λ is_done. absurd (cc)) (λ _. refl) (λ some. absurd (some refl))
         (record {
           one_less = λ _. sym (not_flush (is_flush event) (turns_of was) other);
           not_last = λ _ flush. absurd (cc);

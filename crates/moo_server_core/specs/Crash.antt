@@ -1,6 +1,6 @@
 -- What a crash may leave, by the marks and the reports of events.
 use Rattle.std.specs.Prelude.{◌≡◌, ◌≢◌, ◌⊎◌, ℕ, List, [], ◌∷◌, ◌++◌, Option, Some, None}
-use Rattle.moo_disk.specs.Disk.{DiskView, Gains}
+use Rattle.moo_disk.specs.Disk.{DiskKind, Gains}
 use Rattle.moo_server_core.specs.Traces.{Report, Done, Trace}
 
 -- one of these texts is c
@@ -47,10 +47,10 @@ IsDoneNext (trace ∷ traces) = (trace.report ≡ Some Done) ⊎ ((trace.report 
 
 -- What a crash may leave of a disk that events carried from old to new. The text of the open checkpoint, if there is one, is in `texts`
 -- before them and in `after` afterwards.
-pub record Survives {D : Type 0} (view : D → DiskView) (old new : D) (texts after : List (List ℕ)) (traces : List Trace) : Type 0 where
+pub record Survives {D : Type 0} (kind : DiskKind D) (old new : D) (texts after : List (List ℕ)) (traces : List Trace) : Type 0 where
   -- at each moment a crash leaves what it left before, the open checkpoint's text, or that of a mark
-  pub always : Gains (IsOneOf (texts ++ texts_of_marks traces)) (view old) (view new)
+  pub always : Gains (IsOneOf (texts ++ texts_of_marks traces)) (kind.view old) (kind.view new)
   -- in the end it leaves none from before the mark of the last report done
-  pub in_the_end : (c : List ℕ) → (view new).may_leave c → (NoneDone traces × (view old).may_leave c) ⊎ IsOneOf (since_done texts traces) c
+  pub in_the_end : (c : List ℕ) → (kind.view new).may_leave c → (NoneDone traces × (kind.view old).may_leave c) ⊎ IsOneOf (since_done texts traces) c
   -- the open checkpoint then writes the text of the last mark
   pub latest : (text : List ℕ) → after ≡ text ∷ [] → last_of (since_done texts traces) ≡ text ∷ []

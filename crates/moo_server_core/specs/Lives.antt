@@ -1,6 +1,6 @@
 -- Lives of a server over one disk. Each ends by a crash, or by an end of the server alone.
 use Rattle.std.specs.Prelude.{◌≡◌, ◌≢◌, ◌⊎◌, ◌<◌, ◌≤◌, ℕ, List, [], ◌∷◌, length, take, slice_get, All, Some, Result, Ok, Err}
-use Rattle.moo_disk.specs.Disk.{DiskView, IsLeftBy, KeepsMain, KeepsSpare}
+use Rattle.moo_disk.specs.Disk.{DiskKind, IsLeftBy, KeepsMain, KeepsSpare, OnlyReads}
 use Rattle.moo_checkpoint.specs.Recovering.{CountsFault}
 use Rattle.moo_checkpoint.specs.declared.open_fault.OpenFault.{OpenFault}
 use Rattle.moo_checkpoint.specs.declared.open_fault.OpenFault.TheVariants.{Device, Memory as no_memory}
@@ -12,7 +12,7 @@ use Rattle.moo_server_core.specs.Meaning.{Entry}
 use Rattle.moo_server_core.specs.declared.event.Event as given
 use Rattle.moo_server_core.specs.declared.event.RunFault.{RunFault}
 use Rattle.moo_server_core.specs.declared.server_core.ServerCore.{ServerCore}
-use Rattle.moo_server_core.specs.Server.{Follows, IsAlive, Runs, done_of, entries_of, traces_under}
+use Rattle.moo_server_core.specs.Server.{Follows, IsAlive, Runs, done_of, entries_of, traces_under, with_disk}
 use Rattle.moo_server_core.specs.Calls.{Opened}
 use Rattle.moo_server_core.specs.declared.life.Life.{Life}
 use Rattle.moo_server_core.specs.declared.life.LifeBegin.{LifeBegin}
@@ -44,15 +44,15 @@ IsLeft ServerOnly texts left = left ≡ texts
 IsLeft (Crash i) texts left = (c : List ℕ) × IsOneOf texts c × (left ≡ c ∷ [])
 
 -- what a crash left of an honest disk: only the text of that number
-pub record IsCrashed {D : Type 0} (view : D → DiskView) (honest : D → Type 0) (images : D → List (List ℕ)) (i : ℕ) (end new : D) : Type 0 where
-  pub left : IsLeftBy (view end) (view new)
-  pub image : slice_get (images end) i ≡ Some (view new).main_text
-  pub honest_still : honest new
+pub record IsCrashed {D : Type 0} (kind : DiskKind D) (images : D → List (List ℕ)) (i : ℕ) (end new : D) : Type 0 where
+  pub left : IsLeftBy (kind.view end) (kind.view new)
+  pub image : slice_get (images end) i ≡ Some (kind.view new).main_text
+  pub honest_still : kind.honest new
 
 -- the disk after the end of a life
-abbrev pub IsStopped : {D : Type 0} → (D → DiskView) → (D → Type 0) → (D → List (List ℕ)) → LifeStop → D → D → Type 0
-IsStopped view honest images (Crash i) end new = honest end → IsCrashed view honest images i end new
-IsStopped view honest images ServerOnly end new = new ≡ end
+abbrev pub IsStopped : {D : Type 0} → DiskKind D → (D → List (List ℕ)) → LifeStop → D → D → Type 0
+IsStopped kind images (Crash i) end new = kind.honest end → IsCrashed kind images i end new
+IsStopped kind images ServerOnly end new = new ≡ end
 
 -- the crash leaves no text of that number
 abbrev pub HasNoImage : {D : Type 0} → (D → List (List ℕ)) → LifeStop → D → Type 0
@@ -70,11 +70,11 @@ RanAll (Err fault) events end = Unit {0}
 
 module _ {S Application : Type 0} (l : Layer S Application Saved) where
   -- a server was opened, and this is the text of the world that it began from
-  pub record IsOpen {D : Type 0} (view : D → DiskView) (honest stands : D → Type 0) (old new : D) (moment : ℕ) (server : ServerCore S) (text : List ℕ) : Type 0 where
+  pub record IsOpen {D : Type 0} (kind : DiskKind D) (old new : D) (moment : ℕ) (server : ServerCore S) (text : List ℕ) : Type 0 where
     pub saved : Saved
-    pub opened : Opened l view honest server old new saved moment
+    pub opened : Opened l kind server old new saved moment
     pub text_is : text ≡ l.meaning.text_of saved
-    pub follows : Follows l view honest stands server new
+    pub follows : Follows l kind (with_disk server new)
 
   -- what is returned of a life
   pub record IsTold {D : Type 0} (life : Life) (run : LifeRun S D) (begin : LifeBegin) : Type 0 where
@@ -89,19 +89,19 @@ module _ {S Application : Type 0} (l : Layer S Application Saved) where
   AreTold (life ∷ lives) (run ∷ runs) (begin ∷ begins) = IsTold life run begin × AreTold lives runs begins
   AreTold lives runs begins = ⊥
 
-  module _ {D : Type 0} (view : D → DiskView) (honest : D → Type 0) (failures : D → ℕ) where
+  module _ {D : Type 0} (kind : DiskKind D) where
     -- It began by an `open` in which the device didn't fail and that left the spare as it was, and then ran its events.
     pub record IsLife (life : LifeRun S D) : Type 0 where
-      pub main : life.main ≡ (view life.old).main_text
-      pub opened : Opened l view honest life.start life.old life.opened life.saved life.moment
-      pub open_counts : failures life.opened ≡ failures life.old
-      pub open_spare : honest life.old → KeepsSpare (view life.old) (view life.opened)
-      pub runs : Runs l view honest failures life.start life.end life.opened life.new life.events life.result
+      pub main : life.main ≡ (kind.view life.old).main_text
+      pub opened : Opened l kind life.start life.old life.opened life.saved life.moment
+      pub open_counts : kind.failures life.opened ≡ kind.failures life.old
+      pub open_spare : kind.honest life.old → KeepsSpare (kind.view life.old) (kind.view life.opened)
+      pub runs : Runs l kind (with_disk life.start life.opened) (with_disk life.end life.new) life.events life.result
       pub entries : entries_of runs.ran.taken ≡ life.entries
       pub all : RanAll life.result life.events life.end
       -- without a `Flush` the disk is as the start left it
       pub still : All (λ event. seen event ≢ Flush) life.events → life.new ≡ life.opened
-      pub honest_still : honest life.old → honest life.new
+      pub honest_still : kind.honest life.old → kind.honest life.new
 
     -- what a life was, and what is returned of it
     pub record HasLived (life : Life) (old new : D) (begin : LifeBegin) : Type 0 where
@@ -111,29 +111,31 @@ module _ {S Application : Type 0} (l : Layer S Application Saved) where
       pub is : IsLife run
       pub told : IsTold life run begin
 
-    -- A life that didn't begin, since no server was opened. Nothing was written. The device is reported if it failed, and where main
+    -- A life that didn't begin, since no server was opened. The disk was read, no other call was made, and nothing was written. The device is reported if it failed, and where main
     -- spells a saved world within the limits, either it failed or memory ran out.
     pub record NotBegun (old new : D) (fault : OpenFault) : Type 0 where
-      pub sound : honest old → (s : Saved) → l.meaning.Spells (view old).main_text s → IsSound fault
-      pub device : CountsFault (honest old) (failures old) (failures new) fault
-      pub main : honest old → KeepsMain (view old) (view new)
-      pub spare : honest old → KeepsSpare (view old) (view new)
+      pub sound : kind.honest old → (s : Saved) → l.meaning.Spells (kind.view old).main_text s → IsSound fault
+      pub device : CountsFault (kind.honest old) (kind.failures old) (kind.failures new) fault
+      pub main : kind.honest old → KeepsMain (kind.view old) (kind.view new)
+      pub spare : kind.honest old → KeepsSpare (kind.view old) (kind.view new)
+      pub reads : OnlyReads kind old new
 
     abbrev pub IsMet : D → D → LivesCause → Type 0
     IsMet old new (not_open fault) = NotBegun old new fault
     IsMet old new cause = ⊥
 
     module _ (images : D → List (List ℕ)) where
-      -- a life that didn't begin, or whose crash leaves no such text
+      -- a life that didn't begin, or whose crash leaves no such text, or that ended before memory ran out for what is returned of it
       abbrev pub EndsBefore : Life → D → LivesCause → Type 0
       EndsBefore life old (not_open fault) = (new : D) × IsMet old new (not_open fault)
       EndsBefore life old NoSuchImage = (new : D) × (begin : LifeBegin) × HasLived life old new begin × HasNoImage images life.stop new
-      EndsBefore life old Memory = ⊥
+      EndsBefore life old Memory =
+          (end : D) × (new : D) × (begin : LifeBegin) × HasLived life old end begin × IsStopped kind images life.stop end new
 
       -- One life, over the disk that the one before it left. One of `texts` is under main before it, and one of `after` afterwards.
       pub record LivesOnce (disk : D) (texts : List (List ℕ)) (life : LifeRun S D) (after : List (List ℕ)) (next : D) : Type 0 where
         pub begins_over : life.old ≡ disk
-        pub honest_then : honest life.old
+        pub honest_then : kind.honest life.old
         pub reads : IsOneOf texts life.main
         -- it begins from the world that main spells within the limits
         pub begins_from : l.meaning.Spells life.main life.saved
@@ -141,7 +143,7 @@ module _ {S Application : Type 0} (l : Layer S Application Saved) where
         -- The texts of the mark of its last report done and of later ones may be left, and those before too if none was done. A crash
         -- leaves one of them, and that alone.
         pub leaves : IsLeft life.stop (since_done texts (traces_under l.meaning life.entries)) after
-        pub ends : IsStopped view honest images life.stop life.new next
+        pub ends : IsStopped kind images life.stop life.new next
 
       -- Lives, the first of which begins over this disk, where one of these texts is under main; the texts and the disk that they leave.
       abbrev pub Lives : D → List (List ℕ) → List (LifeRun S D) → List (List ℕ) → D → Type 0
@@ -153,20 +155,15 @@ module _ {S Application : Type 0} (l : Layer S Application Saved) where
       pub record SoFar (lives : List Life) (begins : List LifeBegin) (first disk : D) : Type 0 where
         pub runs : List (LifeRun S D)
         pub left : List (List ℕ)
-        pub lived : Lives first ((view first).main_text ∷ []) runs left disk
+        pub lived : Lives first ((kind.view first).main_text ∷ []) runs left disk
         pub told : AreTold lives runs begins
         -- what a crash leaves of the disk is one of these texts, each of which spells a saved world
-        pub honest_still : honest disk
-        pub within : (c : List ℕ) → (view disk).may_leave c → IsOneOf left c
+        pub honest_still : kind.honest disk
+        pub within : (c : List ℕ) → (kind.view disk).may_leave c → IsOneOf left c
         pub spelled : (c : List ℕ) → IsOneOf left c → (s : Saved) × l.meaning.Spells c s
 
       abbrev pub LivesSoFar : List Life → List LifeBegin → D → Type 0
       LivesSoFar lives begins first = (disk : D) × SoFar lives begins first disk
-
-      -- what the next life met, if there is one
-      abbrev pub NextMeets : List Life → ℕ → LivesCause → D → Type 0
-      NextMeets lives place Memory disk = Unit {0}
-      NextMeets lives place cause disk = (life : Life) × (slice_get lives place ≡ Some life) × EndsBefore life disk cause
 
       -- the lives before the one that the fault names, and what that one met
       pub record EndsAt (lives : List Life) (first : D) (fault : LivesFault) : Type 0 where
@@ -174,4 +171,6 @@ module _ {S Application : Type 0} (l : Layer S Application Saved) where
         pub begins : List LifeBegin
         pub disk : D
         pub so_far : SoFar (take fault.life lives) begins first disk
-        pub meets : NextMeets lives fault.life fault.cause disk
+        pub life : Life
+        pub life_is : slice_get lives fault.life ≡ Some life
+        pub meets : EndsBefore life disk fault.cause

@@ -1,11 +1,11 @@
 -- The state of a server, and what a run does to it and to its disk.
 use Rattle.std.specs.Prelude.{◌≡◌, ◌≢◌, ◌⊎◌, ◌-◌, ℕ, List, [], ◌∷◌, take, map, slice_get, Result, Ok, Err, IfErr, Option, Some, None, Bool, true, false, eqb, if◌then◌else◌}
 use Rattle.std.specs.Option.{option_map}
-use Rattle.moo_disk.specs.Disk.{DiskView}
+use Rattle.moo_disk.specs.Disk.{DiskKind, MakesOneCall}
 use Rattle.moo_checkpoint.specs.Checkpoint.{Continues, IsFresh, text_of, turns_left}
 use Rattle.moo_server_core.specs.Traces.{Report, Done, Trace}
 use Rattle.moo_server_core.specs.Crash.{IsOneOf, Survives}
-use Rattle.moo_server_core.specs.Turns.{CountsReport, FailsAtMostOnce, IsInTime, turns_after, turns_left_after, turns_for}
+use Rattle.moo_server_core.specs.Turns.{CallsAtMostOnce, CountsReport, FailsAtMostOnce, IsInTime, turns_after, turns_left_after, turns_for}
 use Rattle.moo_server_core.specs.Seen.{Flush, seen}
 use Rattle.moo_server_core.specs.Application.{Layer, Meaning, Output, silence, then_out}
 use Rattle.moo_server_core.specs.Meaning.{State, Entry, Reports, Takes, Run, MayWant, refusal, trace_of, traces_of}
@@ -37,14 +37,22 @@ turns_of (Some o) = turns_left o.checkpoint
 abbrev pub on_its_way : {S : Type 0} → ServerCore S → List (List ℕ)
 on_its_way server = text_of_open server.writing
 
-abbrev pub OpenFollows : {D : Type 0} → (D → DiskView) → (D → Type 0) → (D → Type 0) → Option Open → D → Type 0
-OpenFollows view honest stands None disk = Unit {0}
-OpenFollows view honest stands (Some o) disk = Continues view honest stands o.checkpoint disk
+abbrev pub OpenFollows : {D : Type 0} → DiskKind D → Option Open → D → Type 0
+OpenFollows kind None disk = Unit {0}
+OpenFollows kind (Some o) disk = Continues kind o.checkpoint disk
 
 -- how many events a run took
 abbrev pub done_of : Result ℕ RunFault → ℕ
 done_of (Ok done) = done
 done_of (Err fault) = fault.done
+
+-- a server with its disk
+pub record WithDisk (S D : Type 0) : Type 0 where
+  pub server : ServerCore S
+  pub disk : D
+
+abbrev pub with_disk : {S D : Type 0} → ServerCore S → D → WithDisk S D
+with_disk server disk = record { server = server; disk = disk }
 
 -- an event that a run took, with the server and the disk as it left them
 pub record TakenEvent (S Saved D : Type 0) : Type 0 where
@@ -56,10 +64,10 @@ abbrev pub entries_of : {S Saved D : Type 0} → List (TakenEvent S Saved D) →
 entries_of taken = map (λ one. one.entry) taken
 
 -- From such a disk on, the device failed in each event that reports a checkpoint as failed, and in no other.
-abbrev pub FailsAsReported : {S Saved D : Type 0} → (D → ℕ) → D → List (TakenEvent S Saved D) → Type 0
-FailsAsReported failures disk [] = Unit {0}
-FailsAsReported failures disk (one ∷ taken) =
-    CountsReport one.entry.report (failures disk) (failures one.disk) × FailsAsReported failures one.disk taken
+abbrev pub FailsAsReported : {S Saved D : Type 0} → DiskKind D → D → List (TakenEvent S Saved D) → Type 0
+FailsAsReported kind disk [] = Unit {0}
+FailsAsReported kind disk (one ∷ taken) =
+    CountsReport one.entry.report (kind.failures disk) (kind.failures one.disk) × FailsAsReported kind one.disk taken
 
 -- output of bytes for one number alone, and of lines for the log alone
 abbrev pub sent_alone : ℕ → List ℕ → Output
@@ -90,23 +98,23 @@ module _ {Application Saved : Type 0} (m : Meaning Application Saved) where
   MarksSpell (entry ∷ entries) = MarkSpells entry.mark × MarksSpell entries
 
   -- What a turn of the open checkpoint does, with this report.
-  pub record Turns {D : Type 0} (view : D → DiskView) (honest : D → Type 0) (failures : D → ℕ) (before after : State Application) (was is : Option Open) (old new : D) (report : Option Report) (out : Output) : Type 0 where
+  pub record Turns {D : Type 0} (kind : DiskKind D) (before after : State Application) (was is : Option Open) (old new : D) (report : Option Report) (out : Output) : Type 0 where
     pub reports : Reports m Flush report before out after
     pub unreported : report ≡ None → text_of_open is ≡ text_of_open was
     pub one_less : report ≡ None → (turns_of is ≡ turns_of was - 1) × (turns_of was ≢ 1)
     pub reported : report ≢ None → is ≡ None
-    pub done : report ≡ Some Done → honest old → (c : List ℕ) → (view new).may_leave c → IsOneOf (text_of_open was) c
+    pub done : report ≡ Some Done → kind.honest old → (c : List ℕ) → (kind.view new).may_leave c → IsOneOf (text_of_open was) c
     pub last : report ≡ Some Done → turns_of was ≡ 1
-    pub counts : CountsReport report (failures old) (failures new)
+    pub counts : CountsReport report (kind.failures old) (kind.failures new)
 
   -- What one event does to the state, the open checkpoint and the disk. It is taken as this entry.
-  pub record Does {D : Type 0} (view : D → DiskView) (honest : D → Type 0) (before after : State Application) (was is : Option Open) (old new : D) (entry : Entry Saved) : Type 0 where
+  pub record Does {D : Type 0} (kind : DiskKind D) (before after : State Application) (was is : Option Open) (old new : D) (entry : Entry Saved) : Type 0 where
     pub takes : Takes m before entry after
     pub spelled : MarkSpells entry.mark
     -- what a crash may leave, after the event and at any moment within it
-    pub survives : honest old → Survives view old new (text_of_open was) (text_of_open is) (trace_of m.text_of entry ∷ [])
+    pub survives : kind.honest old → Survives kind old new (text_of_open was) (text_of_open is) (trace_of m.text_of entry ∷ [])
     -- a report done leaves the checkpoint's text alone
-    pub done : honest old → entry.report ≡ Some Done → (c : List ℕ) → (view new).may_leave c → IsOneOf (text_of_open was) c
+    pub done : kind.honest old → entry.report ≡ Some Done → (c : List ℕ) → (kind.view new).may_leave c → IsOneOf (text_of_open was) c
     -- the report of a checkpoint comes in its last turn, or in an earlier one in which the device failed
     pub in_time : IsInTime (turns_of was) (trace_of m.text_of entry ∷ [])
     pub turns : turns_of is ≡ turns_after (turns_of was) (trace_of m.text_of entry)
@@ -131,60 +139,62 @@ module _ {S Application Saved : Type 0} (l : Layer S Application Saved) where
   under_way_of server = l.under_way server.sessions
 
   -- No event is being taken, and the disk is as the last call left it, perhaps in a wrapper now.
-  pub record Follows {D : Type 0} (view : D → DiskView) (honest : D → Type 0) (stands : D → Type 0) (server : ServerCore S) (disk : D) : Type 0 where
-    pub still : under_way_of server ≡ silence
-    pub continues : OpenFollows view honest stands server.writing disk
+  pub record Follows {D : Type 0} (kind : DiskKind D) (now : WithDisk S D) : Type 0 where
+    pub still : under_way_of now.server ≡ silence
+    pub continues : OpenFollows kind now.server.writing now.disk
 
   -- What events did, one after another, in however many calls they came, and what a crash may leave.
-  pub record Lived {D : Type 0} (view : D → DiskView) (honest : D → Type 0) (before after : ServerCore S) (old new : D) (entries : List (Entry Saved)) : Type 0 where
+  pub record Lived {D : Type 0} (kind : DiskKind D) (from to : WithDisk S D) (entries : List (Entry Saved)) : Type 0 where
     pub end : State Application
-    pub run : Run l.meaning (state_of before) entries end
-    pub state : IsAlive after → state_of after ≡ end
+    pub run : Run l.meaning (state_of from.server) entries end
+    pub state : IsAlive to.server → state_of to.server ≡ end
     -- each mark's text spells the world that is marked
     pub spelled : MarksSpell l.meaning entries
     -- what a crash may leave, at the end and at any moment since the start
-    pub survives : honest old → Survives view old new (on_its_way before) (on_its_way after) (traces_under l.meaning entries)
+    pub survives : kind.honest from.disk → Survives kind from.disk to.disk (on_its_way from.server) (on_its_way to.server) (traces_under l.meaning entries)
     -- the report of a checkpoint comes in its last turn, or in an earlier one in which the device failed
-    pub in_time : IsInTime (turns_of before.writing) (traces_under l.meaning entries)
-    pub turns : IsAlive after → turns_of after.writing ≡ turns_left_after (turns_of before.writing) (traces_under l.meaning entries)
+    pub in_time : IsInTime (turns_of from.server.writing) (traces_under l.meaning entries)
+    pub turns : IsAlive to.server → turns_of to.server.writing ≡ turns_left_after (turns_of from.server.writing) (traces_under l.meaning entries)
     -- a halted server does nothing
-    pub rests : before.halted ≡ true → (entries ≡ []) × (after.halted ≡ true)
+    pub rests : from.server.halted ≡ true → (entries ≡ []) × (to.server.halted ≡ true)
 
-  module _ {D : Type 0} (view : D → DiskView) (honest : D → Type 0) where
+  module _ {D : Type 0} (kind : DiskKind D) where
     -- What one event did to a server and its disk.
-    pub record DoesTo (before : ServerCore S) (old : D) (one : TakenEvent S Saved D) : Type 0 where
-      pub alive_before : IsAlive before
+    pub record DoesTo (from : WithDisk S D) (one : TakenEvent S Saved D) : Type 0 where
+      pub alive_before : IsAlive from.server
       pub alive_after : IsAlive one.server
-      pub does : Does l.meaning view honest (state_of before) (state_of one.server) before.writing one.server.writing old one.disk one.entry
+      pub does : Does l.meaning kind (state_of from.server) (state_of one.server) from.server.writing one.server.writing from.disk one.disk one.entry
       -- what it sent waits, after what waited before, and nothing else does
-      pub waiting : waiting_of one.server ≡ then_out (waiting_of before) one.entry.out
-      -- only a `Flush` makes a call of the disk, and only while a checkpoint is open
-      pub still : (one.entry.event ≢ Flush) ⊎ (before.writing ≡ None) → one.disk ≡ old
-      pub honest_still : honest old → honest one.disk
+      pub waiting : waiting_of one.server ≡ then_out (waiting_of from.server) one.entry.out
+      -- only a `Flush` makes a call of the disk, and only while a checkpoint is open; then it makes one
+      pub still : (one.entry.event ≢ Flush) ⊎ (from.server.writing ≡ None) → one.disk ≡ from.disk
+      pub call : one.entry.event ≡ Flush → from.server.writing ≢ None → MakesOneCall kind from.disk one.disk
+      pub honest_still : kind.honest from.disk → kind.honest one.disk
 
     -- Each of these events did so, one after another: they lead from a server and its disk to another state of both.
-    abbrev pub EachDoes : ServerCore S → D → List (TakenEvent S Saved D) → ServerCore S → D → Type 0
-    EachDoes before old [] after new = (after ≡ before) × (new ≡ old)
-    EachDoes before old (one ∷ taken) after new = DoesTo before old one × EachDoes one.server one.disk taken after new
+    abbrev pub EachDoes : WithDisk S D → List (TakenEvent S Saved D) → WithDisk S D → Type 0
+    EachDoes from [] to = (to.server ≡ from.server) × (to.disk ≡ from.disk)
+    EachDoes from (one ∷ taken) to = DoesTo from one × EachDoes (with_disk one.server one.disk) taken to
 
-    -- An event halted the server. Nothing of what it sent waits, and its turn may have changed the disk.
-    pub record Halts (before after : ServerCore S) (old new : D) : Type 0 where
-      pub alive_before : IsAlive before
-      pub halted : after.halted ≡ true
-      pub waiting : waiting_of after ≡ waiting_of before
-      pub survives : honest old → Survives view old new (on_its_way before) (on_its_way after) []
+    -- An event halted the server. Nothing of what it sent waits, and its turn may have called the disk once.
+    pub record Halts (from to : WithDisk S D) : Type 0 where
+      pub alive_before : IsAlive from.server
+      pub halted : to.server.halted ≡ true
+      pub waiting : waiting_of to.server ≡ waiting_of from.server
+      pub survives : kind.honest from.disk → Survives kind from.disk to.disk (on_its_way from.server) (on_its_way to.server) []
+      pub calls : CallsAtMostOnce kind from.disk to.disk
 
     -- A run took the first `done` events.
-    pub record Ran (before after : ServerCore S) (old new : D) (events : List given.Event) (done : ℕ) : Type 0 where
+    pub record Ran (from to : WithDisk S D) (events : List given.Event) (done : ℕ) : Type 0 where
       -- the events that were taken, with their reports and marks, what went out, and what the server and the disk then were
       pub taken : List (TakenEvent S Saved D)
       pub events_are : map (λ entry. entry.event) (entries_of taken) ≡ map seen (take done events)
       -- the server and the disk as the last of them left them
       pub reached : ServerCore S
       pub disk : D
-      pub each : EachDoes before old taken reached disk
+      pub each : EachDoes from taken (with_disk reached disk)
       -- nothing else was done, or a further event halted the server
-      pub ends : ((after ≡ reached) × (new ≡ disk)) ⊎ Halts reached after disk new
+      pub ends : ((to.server ≡ reached) × (to.disk ≡ disk)) ⊎ Halts (with_disk reached disk) to
 
   -- nothing but the output that waits differs
   pub record Same (one other : ServerCore S) : Type 0 where
@@ -210,11 +220,11 @@ module _ {S Application Saved : Type 0} (l : Layer S Application Saved) where
         → HasCause before reached after (Some event) cause
 
   -- A run returns this result: it took so many events, the device failed in those that report a failure, and this is why it ended.
-  pub record Runs {D : Type 0} (view : D → DiskView) (honest : D → Type 0) (failures : D → ℕ) (before after : ServerCore S) (old new : D) (events : List given.Event) (result : Result ℕ RunFault) : Type 0 where
-    pub ran : Ran view honest before after old new events (done_of result)
-    pub fails : FailsAsReported failures old ran.taken
+  pub record Runs {D : Type 0} (kind : DiskKind D) (from to : WithDisk S D) (events : List given.Event) (result : Result ℕ RunFault) : Type 0 where
+    pub ran : Ran kind from to events (done_of result)
+    pub fails : FailsAsReported kind from.disk ran.taken
     -- in an event that halted the server the device may have failed once more
-    pub at_most_once : FailsAtMostOnce (failures ran.disk) (failures new)
+    pub at_most_once : FailsAtMostOnce (kind.failures ran.disk) (kind.failures to.disk)
     -- the event after those that were taken makes a call of the disk only if it is a `Flush` and a checkpoint is open
-    pub still : (event : given.Event) → slice_get events (done_of result) ≡ Some event → (seen event ≢ Flush) ⊎ (ran.reached.writing ≡ None) → new ≡ ran.disk
-    pub refused : IfErr result (λ fault. HasCause before ran.reached after (slice_get events fault.done) fault.cause)
+    pub still : (event : given.Event) → slice_get events (done_of result) ≡ Some event → (seen event ≢ Flush) ⊎ (ran.reached.writing ≡ None) → to.disk ≡ ran.disk
+    pub refused : IfErr result (λ fault. HasCause from.server ran.reached to.server (slice_get events fault.done) fault.cause)

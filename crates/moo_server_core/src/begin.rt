@@ -1,6 +1,6 @@
 //! The start of a life: a server, and the text of the world that it begins from.
 ghost use Rattle.std.specs.Prelude.{◌≡◌, ◌↔◌, IfOk, IfErr};
-ghost use Rattle.moo_disk.specs.Disk.{KeepsMain, KeepsSpare};
+ghost use Rattle.moo_disk.specs.Disk.{KeepsMain, KeepsSpare, OnlyReads};
 ghost use Rattle.moo_dbtext_read.specs.Saved.{Saved};
 ghost use Rattle.moo_checkpoint.specs.Recovering.{CountsDevice};
 ghost use Rattle.moo_server_core.specs.Lives.{IsOpen, IsSound};
@@ -17,12 +17,13 @@ pub(crate) fn open<S: StartApplication, D: Disk>(
     disk: &mut D,
     moment: u32,
 ) -> Result<(ServerCore<S>, Vec<u8>), OpenFault>
-    ensures opened { IfOk result (λ given. IsOpen S.layer D.view D.honest D.stands disk.old disk.new moment given.0 given.1.items) }
-    ensures accepted { D.honest disk.old → (s : Saved) → S.layer.meaning.Spells (D.view disk.old).main_text s → IfErr result IsSound }
-    ensures device { CountsDevice (D.honest disk.old) (D.failures disk.old) (D.failures disk.new) result }
-    ensures main { D.honest disk.old → KeepsMain (D.view disk.old) (D.view disk.new) }
-    ensures spare { D.honest disk.old → KeepsSpare (D.view disk.old) (D.view disk.new) }
-    ensures honest { D.honest disk.old ↔ D.honest disk.new }
+    ensures opened { IfOk result (λ given. IsOpen S.layer D.kind disk.old disk.new moment given.0 given.1.items) }
+    ensures accepted { D.kind.honest disk.old → (s : Saved) → S.layer.meaning.Spells (D.kind.view disk.old).main_text s → IfErr result IsSound }
+    ensures device { CountsDevice (D.kind.honest disk.old) (D.kind.failures disk.old) (D.kind.failures disk.new) result }
+    ensures main { D.kind.honest disk.old → KeepsMain (D.kind.view disk.old) (D.kind.view disk.new) }
+    ensures spare { D.kind.honest disk.old → KeepsSpare (D.kind.view disk.old) (D.kind.view disk.new) }
+    ensures reads { OnlyReads D.kind disk.old disk.new }
+    ensures honest { D.kind.honest disk.old ↔ D.kind.honest disk.new }
 {
     let saved = recover(alloc, disk)?;
     let text = write_db(alloc, &saved)?;

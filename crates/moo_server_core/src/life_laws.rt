@@ -1,16 +1,17 @@
 //! Laws of one run, and of lives one after another.
 ghost use Rattle.std.specs.Prelude.{◌↔◌, ℕ, List, []};
 ghost use Rattle.moo_disk.specs.Disk.{LeavesOnly};
-ghost use Rattle.moo_disk.specs.StopAt.{inner_of};
+ghost use Rattle.moo_disk.specs.Memory.{memory_kind};
+ghost use Rattle.moo_disk.specs.StopAt.{inner_of, stopping_kind};
 ghost use Rattle.moo_disk.specs.declared.stop_at.StopAt.{StopAt};
-ghost use Rattle.moo_server_core.specs.Server.{Follows};
+ghost use Rattle.moo_server_core.specs.Server.{Follows, with_disk};
 ghost use Rattle.moo_server_core.specs.declared.server_core.ServerCore.{ServerCore};
 ghost use Rattle.moo_server_core.specs.Lives.{LifeRun, Lives};
 ghost use Rattle.moo_server_core.specs.Runs.{HaveOneResult, OneRun};
 ghost use Rattle.moo_server_core.specs.Marks.{BeginFromKept};
 
 use crate::Application;
-use moo_disk::{CrashDisk, Disk, MemoryDisk, StopAt};
+use moo_disk::CrashDisk;
 
 /// Shows that a run has one result, if each input and each start has one. The saved world, the moment, the events and
 /// their reports then determine the output, the worlds that are marked, and the state after the run.
@@ -27,8 +28,8 @@ pub fn one_run<S: Application>()
 #[tactic(none)]
 pub fn lives_begin_from_marks<S: Application, D: CrashDisk>()
     ensures { (first last : D) (runs : List (LifeRun S D)) (texts left : List (List ℕ))
-        → LeavesOnly (D.view first).main_text (D.view first)
-        → Lives S.layer D.view D.honest D.failures D.images first texts runs left last
+        → LeavesOnly (D.kind.view first).main_text (D.kind.view first)
+        → Lives S.layer D.kind D.images first texts runs left last
         → BeginFromKept S.layer [] runs }
 {}
 
@@ -36,6 +37,6 @@ pub fn lives_begin_from_marks<S: Application, D: CrashDisk>()
 #[tactic(none)]
 pub fn a_stopping_disk_goes_on<S: Application>()
     ensures { (server : ServerCore S) (disk : StopAt)
-        → Follows S.layer ⟦<MemoryDisk as Disk>⟧.view ⟦<MemoryDisk as Disk>⟧.honest ⟦<MemoryDisk as Disk>⟧.stands server (inner_of disk)
-        ↔ Follows S.layer ⟦<StopAt as Disk>⟧.view ⟦<StopAt as Disk>⟧.honest ⟦<StopAt as Disk>⟧.stands server disk }
+        → Follows S.layer memory_kind (with_disk server (inner_of disk))
+        ↔ Follows S.layer stopping_kind (with_disk server disk) }
 {}

@@ -16,9 +16,9 @@ fn live<S: StartApplication, D: Disk>(
     disk: &mut D,
     life: &Life,
 ) -> Result<LifeBegin, LivesCause>
-    ensures lived { IfOk result (λ begin. HasLived S.layer D.view D.honest D.failures life.now disk.old disk.new begin) }
-    ensures met { IfErr result (λ cause. IsMet S.layer D.view D.honest D.failures disk.old disk.new cause) }
-    ensures honest { D.honest disk.old ↔ D.honest disk.new }
+    ensures lived { IfOk result (λ begin. HasLived S.layer D.kind life.now disk.old disk.new begin) }
+    ensures met { IfErr result (λ cause. IsMet S.layer D.kind disk.old disk.new cause) }
+    ensures honest { D.kind.honest disk.old ↔ D.kind.honest disk.new }
 {
     match open::<S, D>(alloc, disk, life.moment) {
         Ok((mut server, text)) => {
@@ -35,9 +35,9 @@ fn live_and_stop<S: StartApplication, D: CrashDisk + Drop>(
     disk: D,
     life: &Life,
 ) -> Result<(D, LifeBegin), LivesCause>
-    ensures lived { IfOk result (λ given. (end : D) × HasLived S.layer D.view D.honest D.failures life.now disk end given.1
-        × IsStopped D.view D.honest D.images life.now.stop end given.0) }
-    ensures met { IfErr result (λ cause. EndsBefore S.layer D.view D.honest D.failures D.images life.now disk cause) }
+    ensures lived { IfOk result (λ given. (end : D) × HasLived S.layer D.kind life.now disk end given.1
+        × IsStopped D.kind D.images life.now.stop end given.0) }
+    ensures met { IfErr result (λ cause. EndsBefore S.layer D.kind D.images life.now disk cause) }
 {
     let mut disk = disk;
     match live::<S, D>(alloc, &mut disk, life) {
@@ -51,7 +51,7 @@ fn stop<D: CrashDisk + Drop>(
     stop: LifeStop,
     begin: LifeBegin,
 ) -> Result<(D, LifeBegin), LivesCause>
-    ensures stopped { IfOk result (λ given. (given.1 ≡ begin) × IsStopped D.view D.honest D.images stop disk given.0) }
+    ensures stopped { IfOk result (λ given. (given.1 ≡ begin) × IsStopped D.kind D.images stop disk given.0) }
     ensures met { IfErr result (λ cause. (cause ≡ LivesCause.NoSuchImage) × HasNoImage D.images stop disk) }
 {
     match stop {
@@ -73,11 +73,11 @@ pub fn run_lives<S: StartApplication, D: CrashDisk + Drop>(
 ) -> Result<Vec<LifeBegin>, LivesFault>
     // Suppose that the disk is honest, that a crash leaves only its main text, and that this spells a saved world within
     // the limits. Then these lives were lived, and this is returned of them.
-    ensures lives { D.honest disk → (s : Saved) → S.layer.meaning.Spells (D.view disk).main_text s → LeavesOnly (D.view disk).main_text (D.view disk)
-        → IfOk result (λ begins. LivesSoFar S.layer D.view D.honest D.failures D.images lives.now begins.items disk) }
+    ensures lives { D.kind.honest disk → (s : Saved) → S.layer.meaning.Spells (D.kind.view disk).main_text s → LeavesOnly (D.kind.view disk).main_text (D.kind.view disk)
+        → IfOk result (λ begins. LivesSoFar S.layer D.kind D.images lives.now begins.items disk) }
     // At a fault the lives before that of its place were lived, and that one met what the fault says.
-    ensures fault { D.honest disk → (s : Saved) → S.layer.meaning.Spells (D.view disk).main_text s → LeavesOnly (D.view disk).main_text (D.view disk)
-        → IfErr result (λ fault. EndsAt S.layer D.view D.honest D.failures D.images lives.now disk fault) }
+    ensures fault { D.kind.honest disk → (s : Saved) → S.layer.meaning.Spells (D.kind.view disk).main_text s → LeavesOnly (D.kind.view disk).main_text (D.kind.view disk)
+        → IfErr result (λ fault. EndsAt S.layer D.kind D.images lives.now disk fault) }
 {
     let mut disk = disk;
     let mut begins = Vec::new(alloc);

@@ -2,7 +2,7 @@
 ghost use Rattle.std.specs.Prelude.{◌≡◌, ◌≢◌, ◌↔◌, IfOk, IfErr, None};
 ghost use Rattle.moo_dbtext_record.specs.declared.fault.DbFault.{DbFault};
 ghost use Rattle.moo_dbtext_record.specs.declared.fault.DbFaultKind.TheVariants as kind;
-ghost use Rattle.moo_disk.specs.Disk.{KeepsMain, KeepsSpare};
+ghost use Rattle.moo_disk.specs.Disk.{KeepsMain, KeepsSpare, OnlyReads};
 ghost use Rattle.moo_dbtext_read.specs.Saved as saving;
 ghost use Rattle.moo_dbtext_read.specs.Saved.{saved_of, SpellsSavedWithin};
 ghost use Rattle.moo_server_core.specs.Application.{silence};
@@ -18,7 +18,7 @@ use moo_disk::Disk;
 use std::alloc::{AllocError, Global};
 
 impl<S: StartApplication> ServerCore<S> {
-    ghost use Rattle.moo_server_core.specs.Server.{Follows, IsAlive, state_of, under_way_of, waiting_of};
+    ghost use Rattle.moo_server_core.specs.Server.{Follows, IsAlive, state_of, under_way_of, waiting_of, with_disk};
 
     /// Opens a server that starts from the world that a disk's main text spells. `moment` is in seconds. Writes nothing.
     pub fn open<D: Disk>(
@@ -27,22 +27,23 @@ impl<S: StartApplication> ServerCore<S> {
         moment: u32,
     ) -> Result<ServerCore<S>, OpenFault>
         // It begins from a saved world that main spells within the limits of database texts.
-        ensures opened { IfOk result (λ server. (s : saving.Saved) × (D.honest disk.old → SpellsSavedWithin (D.view disk.old).main_text s)
-            × Opened S.layer D.view D.honest server disk.old disk.new s moment) }
-        ensures follows { IfOk result (λ server. Follows S.layer D.view D.honest D.stands server disk.new) }
+        ensures opened { IfOk result (λ server. (s : saving.Saved) × (D.kind.honest disk.old → SpellsSavedWithin (D.kind.view disk.old).main_text s)
+            × Opened S.layer D.kind server disk.old disk.new s moment) }
+        ensures follows { IfOk result (λ server. Follows S.layer D.kind (with_disk server disk.new)) }
         // If the text is refused, the fault says why. Running out of memory is a fault of its own.
-        ensures refused { D.honest disk.old → IfErr result (λ e. (f : DbFault) → e ≡ OpenFault.Db f
-            → RefusesText (D.view disk.old).main_text f × (f.kind ≢ kind.Memory)) }
+        ensures refused { D.kind.honest disk.old → IfErr result (λ e. (f : DbFault) → e ≡ OpenFault.Db f
+            → RefusesText (D.kind.view disk.old).main_text f × (f.kind ≢ kind.Memory)) }
         // A text that spells a saved world within the limits is refused only if the device fails or memory runs out.
-        ensures accepted { D.honest disk.old → (s : saving.Saved) → SpellsSavedWithin (D.view disk.old).main_text s
+        ensures accepted { D.kind.honest disk.old → (s : saving.Saved) → SpellsSavedWithin (D.kind.view disk.old).main_text s
             → IfErr result (λ e. (f : DbFault) → e ≢ OpenFault.Db f) }
         // The fault is the device's exactly if the device failed in this call.
-        ensures device { CountsDevice (D.honest disk.old) (D.failures disk.old) (D.failures disk.new) result }
-        // Nothing is written.
-        ensures main { D.honest disk.old → KeepsMain (D.view disk.old) (D.view disk.new) }
-        ensures spare { D.honest disk.old → KeepsSpare (D.view disk.old) (D.view disk.new) }
-        ensures stands { D.stands disk.old → D.stands disk.new }
-        ensures honest { D.honest disk.old ↔ D.honest disk.new }
+        ensures device { CountsDevice (D.kind.honest disk.old) (D.kind.failures disk.old) (D.kind.failures disk.new) result }
+        // Nothing is written, and no call is made but `read_main`.
+        ensures reads { OnlyReads D.kind disk.old disk.new }
+        ensures main { D.kind.honest disk.old → KeepsMain (D.kind.view disk.old) (D.kind.view disk.new) }
+        ensures spare { D.kind.honest disk.old → KeepsSpare (D.kind.view disk.old) (D.kind.view disk.new) }
+        ensures stands { D.kind.stands disk.old → D.kind.stands disk.new }
+        ensures honest { D.kind.honest disk.old ↔ D.kind.honest disk.new }
     {
         let saved = recover(alloc, disk)?;
         let server = ServerCore::<S>::start(alloc, saved, moment)?;

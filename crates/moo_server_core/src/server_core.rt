@@ -35,7 +35,7 @@ pub struct ServerCore<S: Application> {
 }
 
 impl<S: Application> ServerCore<S> {
-    ghost use Rattle.moo_server_core.specs.Server.{IsAlive, Follows, Hands, Runs, Same, logged_alone, sent_alone, state_of, under_way_of, waiting_of};
+    ghost use Rattle.moo_server_core.specs.Server.{Follows, Hands, IsAlive, Runs, Same, logged_alone, sent_alone, state_of, under_way_of, waiting_of, with_disk};
 
     /// Returns a server over an application that has just started at a moment, and whose hooks made these requests.
     pub(crate) fn over(sessions: S, asked: Requests, moment: u32) -> ServerCore<S>
@@ -139,13 +139,13 @@ impl<S: Application> ServerCore<S> {
     /// The disk must be the one that the last call left, or that disk in a wrapper. A refused event changes nothing and
     /// ends the run. If memory runs out, the server halts.
     pub fn run<D: Disk>(&mut self, disk: &mut D, events: &[Event]) -> Result<usize, RunFault>
-        requires { Follows S.layer D.view D.honest D.stands self.old disk.old }
+        requires { Follows S.layer D.kind (with_disk self.old disk.old) }
 
         // All are taken, and the server goes on.
         ensures all { IfOk result (λ n. (n ≡ length events.now) × IsAlive self.new) }
 
         // What each event did that was taken, what a crash may leave, and why the event after them wasn't taken.
-        ensures ran { Runs S.layer D.view D.honest D.failures self.old self.new disk.old disk.new events.now result }
+        ensures ran { Runs S.layer D.kind (with_disk self.old disk.old) (with_disk self.new disk.new) events.now result }
 
         // A halted server does nothing.
         ensures halted { self.old.halted ≡ true
@@ -153,8 +153,8 @@ impl<S: Application> ServerCore<S> {
 
         // Only a `Flush` makes a call of the disk.
         ensures still { All (λ event. seen event ≢ Flush) events.now → disk.new ≡ disk.old }
-        ensures follows { Follows S.layer D.view D.honest D.stands self.new disk.new }
-        ensures honest { D.honest disk.old ↔ D.honest disk.new }
+        ensures follows { Follows S.layer D.kind (with_disk self.new disk.new) }
+        ensures honest { D.kind.honest disk.old ↔ D.kind.honest disk.new }
     {
         if self.halted {
             return Err(RunFault {

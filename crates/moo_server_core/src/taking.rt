@@ -1,10 +1,10 @@
 //! What a server does in one event.
 ghost use Rattle.std.specs.Prelude.{ℕ, ◌≡◌, ◌≢◌, ◌↔◌, ◌||◌, None, false, true, OnOk, IfErr, Err, IsOk, Some, [], if◌then◌else◌};
-ghost use Rattle.moo_disk.specs.Disk.{Gains};
+ghost use Rattle.moo_disk.specs.Disk.{Gains, MakesOneCall};
 ghost use Rattle.moo_dbtext_read.specs.Saved.{Saved};
 ghost use Rattle.moo_server_core.specs.Application.{Finishes, IsApt, Output, is_dropped, seen_happening, then_out};
 ghost use Rattle.moo_server_core.specs.Crash.{IsOneOf, Survives};
-ghost use Rattle.moo_server_core.specs.Turns.{CountsReport, FailsAtMostOnce};
+ghost use Rattle.moo_server_core.specs.Turns.{CallsAtMostOnce, CountsReport, FailsAtMostOnce};
 ghost use Rattle.moo_server_core.specs.Seen.{Flush, seen};
 ghost use Rattle.moo_server_core.specs.Meaning.{State, Acts, Entry, FindsFree, Hears, Marks, is_due, MayWant, is_for_leaving, is_passed_over, refusal, refusal_in};
 
@@ -16,7 +16,7 @@ use moo_disk::Disk;
 use std::alloc::AllocError;
 
 impl<S: Application> ServerCore<S> {
-    ghost use Rattle.moo_server_core.specs.Server.{IsAlive, Does, Follows, OpenFollows, Opens, MarkSpells, Turns, on_its_way, state_of, under_way_of, waiting_of};
+    ghost use Rattle.moo_server_core.specs.Server.{Does, Follows, IsAlive, MarkSpells, OpenFollows, Opens, Turns, on_its_way, state_of, under_way_of, waiting_of, with_disk};
 
     // Gives the application an input, and notes the requests that result.
     fn apply(&mut self, happening: Input) -> Result<(), AllocError>
@@ -129,18 +129,20 @@ impl<S: Application> ServerCore<S> {
 
     // Gives the open checkpoint a turn.
     fn flush<D: Disk>(&mut self, disk: &mut D) -> Result<(), AllocError>
-        requires { OpenFollows D.view D.honest D.stands self.old.writing disk.old }
+        requires { OpenFollows D.kind self.old.writing disk.old }
         ensures turns { OnOk result ((report : _) × (out : Output)
-            × Turns S.layer.meaning D.view D.honest D.failures (state_of S.layer self.old) (state_of S.layer self.new)
+            × Turns S.layer.meaning D.kind (state_of S.layer self.old) (state_of S.layer self.new)
             self.old.writing self.new.writing disk.old disk.new report out
             × (under_way_of S.layer self.new ≡ then_out (under_way_of S.layer self.old) out)) }
         ensures waiting { waiting_of S.layer self.new ≡ waiting_of S.layer self.old }
         ensures halted { self.new.halted ≡ self.old.halted }
-        ensures follows { OnOk result (OpenFollows D.view D.honest D.stands self.new.writing disk.new) }
-        ensures gains { D.honest disk.old → Gains (IsOneOf (on_its_way self.old)) (D.view disk.old) (D.view disk.new) }
-        ensures at_most_once { FailsAtMostOnce (D.failures disk.old) (D.failures disk.new) }
+        ensures follows { OnOk result (OpenFollows D.kind self.new.writing disk.new) }
+        ensures gains { D.kind.honest disk.old → Gains (IsOneOf (on_its_way self.old)) (D.kind.view disk.old) (D.kind.view disk.new) }
+        ensures at_most_once { FailsAtMostOnce (D.kind.failures disk.old) (D.kind.failures disk.new) }
+        ensures call { self.old.writing ≢ None → MakesOneCall D.kind disk.old disk.new }
+        ensures calls { CallsAtMostOnce D.kind disk.old disk.new }
         ensures idle { self.old.writing ≡ None → disk.new ≡ disk.old }
-        ensures honest { D.honest disk.old ↔ D.honest disk.new }
+        ensures honest { D.kind.honest disk.old ↔ D.kind.honest disk.new }
     {
         let Some(mut open) = self.writing.take() else {
             return Ok(());
@@ -199,22 +201,24 @@ impl<S: Application> ServerCore<S> {
 
     // Takes an event that isn't refused.
     fn try_take<D: Disk>(&mut self, disk: &mut D, event: &Event) -> Result<(), AllocError>
-        requires follows { Follows S.layer D.view D.honest D.stands self.old disk.old }
+        requires follows { Follows S.layer D.kind (with_disk self.old disk.old) }
         requires accepted { refusal S.layer.meaning (state_of S.layer self.old) (seen event.now) ≡ None }
         requires counts { is_passed_over S.layer.meaning (state_of S.layer self.old) (seen event.now) ≡ false }
         ensures takes { OnOk result ((entry : Entry Saved) × (entry.event ≡ seen event.now)
-            × Does S.layer.meaning D.view D.honest (state_of S.layer self.old) (state_of S.layer self.new)
+            × Does S.layer.meaning D.kind (state_of S.layer self.old) (state_of S.layer self.new)
             self.old.writing self.new.writing disk.old disk.new entry
-            × CountsReport entry.report (D.failures disk.old) (D.failures disk.new)
+            × CountsReport entry.report (D.kind.failures disk.old) (D.kind.failures disk.new)
             × (under_way_of S.layer self.new ≡ entry.out)) }
         ensures waiting { waiting_of S.layer self.new ≡ waiting_of S.layer self.old }
         ensures halted { self.new.halted ≡ self.old.halted }
-        ensures follows { OnOk result (OpenFollows D.view D.honest D.stands self.new.writing disk.new) }
-        ensures gains { D.honest disk.old → Gains (IsOneOf (on_its_way self.old)) (D.view disk.old) (D.view disk.new) }
-        ensures at_most_once { FailsAtMostOnce (D.failures disk.old) (D.failures disk.new) }
+        ensures follows { OnOk result (OpenFollows D.kind self.new.writing disk.new) }
+        ensures gains { D.kind.honest disk.old → Gains (IsOneOf (on_its_way self.old)) (D.kind.view disk.old) (D.kind.view disk.new) }
+        ensures at_most_once { FailsAtMostOnce (D.kind.failures disk.old) (D.kind.failures disk.new) }
+        ensures call { seen event.now ≡ Flush → self.old.writing ≢ None → MakesOneCall D.kind disk.old disk.new }
+        ensures calls { CallsAtMostOnce D.kind disk.old disk.new }
         ensures idle { self.old.writing ≡ None → disk.new ≡ disk.old }
         ensures still { seen event.now ≢ Flush → disk.new ≡ disk.old }
-        ensures honest { D.honest disk.old ↔ D.honest disk.new }
+        ensures honest { D.kind.honest disk.old ↔ D.kind.honest disk.new }
         ensures memory { IfErr result (λ _. MayWant S.layer.meaning (state_of S.layer self.old) (seen event.now)) }
     {
         if event.is_flush() {
@@ -227,25 +231,27 @@ impl<S: Application> ServerCore<S> {
 
     // Takes one event. If memory runs out, the server halts. A refused event changes nothing.
     pub(crate) fn take<D: Disk>(&mut self, disk: &mut D, event: &Event) -> Result<(), Cause>
-        requires follows { Follows S.layer D.view D.honest D.stands self.old disk.old }
+        requires follows { Follows S.layer D.kind (with_disk self.old disk.old) }
         requires alive { IsAlive self.old }
         ensures takes { OnOk result ((entry : Entry Saved) × (entry.event ≡ seen event.now)
-            × Does S.layer.meaning D.view D.honest (state_of S.layer self.old) (state_of S.layer self.new)
+            × Does S.layer.meaning D.kind (state_of S.layer self.old) (state_of S.layer self.new)
             self.old.writing self.new.writing disk.old disk.new entry
-            × CountsReport entry.report (D.failures disk.old) (D.failures disk.new)
+            × CountsReport entry.report (D.kind.failures disk.old) (D.kind.failures disk.new)
             × (waiting_of S.layer self.new ≡ then_out (waiting_of S.layer self.old) entry.out)
             × IsAlive self.new) }
         ensures memory { result ≡ Err Cause.Memory → (self.new.halted ≡ true)
             × (waiting_of S.layer self.new ≡ waiting_of S.layer self.old)
-            × (D.honest disk.old → Survives D.view disk.old disk.new (on_its_way self.old) (on_its_way self.new) []) }
+            × (D.kind.honest disk.old → Survives D.kind disk.old disk.new (on_its_way self.old) (on_its_way self.new) []) }
         ensures wanting { result ≡ Err Cause.Memory → MayWant S.layer.meaning (state_of S.layer self.old) (seen event.now) }
         ensures refused { IfErr result (λ cause. cause ≢ Cause.Memory
             → (refusal S.layer.meaning (state_of S.layer self.old) (seen event.now) ≡ Some cause) × (self.new ≡ self.old) × (disk.new ≡ disk.old)) }
-        ensures follows { Follows S.layer D.view D.honest D.stands self.new disk.new }
-        ensures at_most_once { FailsAtMostOnce (D.failures disk.old) (D.failures disk.new) }
+        ensures follows { Follows S.layer D.kind (with_disk self.new disk.new) }
+        ensures at_most_once { FailsAtMostOnce (D.kind.failures disk.old) (D.kind.failures disk.new) }
+        ensures call { OnOk result (seen event.now ≡ Flush → self.old.writing ≢ None → MakesOneCall D.kind disk.old disk.new) }
+        ensures calls { CallsAtMostOnce D.kind disk.old disk.new }
         ensures idle { self.old.writing ≡ None → disk.new ≡ disk.old }
         ensures still { seen event.now ≢ Flush → disk.new ≡ disk.old }
-        ensures honest { D.honest disk.old ↔ D.honest disk.new }
+        ensures honest { D.kind.honest disk.old ↔ D.kind.honest disk.new }
     {
         if let Some(cause) = self.refusal(event) {
             return Err(cause);

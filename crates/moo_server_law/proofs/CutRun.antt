@@ -1,6 +1,6 @@
 -- In a run, bytes in two events do what they do in one, unless a mark is made between them.
 use Rattle.std.proofs.Common.{◌≡◌, ℕ, List, [], ◌∷◌, ◌++◌, Option, Some, None, Bool, true, false, cond, ◌&&◌, ◌||◌, refl, sym, ◌∙◌, ap, subst}
-use Rattle.std.specs.Prelude.{MatchBool, not, ◌==◌, filter}
+use Rattle.std.specs.Prelude.{MatchBool, map, not, ◌==◌, filter}
 use Rattle.std.specs.List.{flat_map}
 use Rattle.std.proofs.lemmas.Grind.{flat_map-append}
 use Rattle.std.proofs.lemmas.List.Elements.{filter-append}
@@ -23,7 +23,7 @@ use Rattle.moo_server.specs.Live.{LiveHappens, live_meaning, settled, told_of}
 use Rattle.moo_server_law.proofs.Joined.{heard_at_once, preceded}
 use Rattle.moo_server_law.proofs.Order.{IsOrdered, begun_ordered, takes_ordered}
 use Rattle.moo_server_law.proofs.Quiet.{IsQuiet, begun_quiet, nobody_left, takes_quiet}
-use Rattle.moo_server_law.specs.Cutting.{CuttingChangesOnlyMarks, joined}
+use Rattle.moo_server_law.specs.Cutting.{ArePieces, CuttingChangesOnlyMarks, Piece, all_joined, bytes_of, joined}
 
 -- what is sent for a number, one list after another
 stream_append : (c : ℕ) (xs ys : List Sent) → stream c (xs ++ ys) ≡ stream c xs ++ stream c ys
@@ -229,15 +229,29 @@ module _ (n : ℕ) (a b : List ℕ) (old mid new : State WorldState) (first seco
     takes = by_course old.course refl;
   }
 
+joined_is : (n : ℕ) (a : List ℕ) (first : Entry Saved) (pieces : List Piece) → ArePieces n a first pieces → (all_joined n a first pieces).event ≡ Bytes n (bytes_of a pieces)
+joined_is n a first [] are = are
+joined_is n a first (next ∷ pieces) are = refl
+
+-- any number of pieces
+all_at_once : (n : ℕ) (a : List ℕ) (first : Entry Saved) (pieces : List Piece) (start end : State WorldState) (after : List (Entry Saved)) → IsQuiet start → IsOrdered start → ArePieces n a first pieces →
+    Run (live_meaning Faults) start (first ∷ (map (λ (piece : Piece). piece.entry) pieces ++ after)) end → Run (live_meaning Faults) start (all_joined n a first pieces ∷ after) end
+all_at_once n a first [] start end after quiet ordered are d = d
+all_at_once n a first (next ∷ pieces) start end after quiet ordered are d =
+    let rest = all_at_once n next.bytes next.entry pieces d.0 end after (takes_quiet start first d.0 d.1 quiet) (takes_ordered start first d.0 d.1 ordered) are.2 d.2 in (
+      rest.0,
+      pieces_at_once n a (bytes_of next.bytes pieces) start d.0 rest.0 first (all_joined n next.bytes next.entry pieces) quiet ordered
+          are.0 (joined_is n next.bytes next.entry pieces are.2) are.1 d.1 rest.1,
+      rest.2,
+    )
+
 -- anywhere in a run
-run_at_once : (n : ℕ) (a b : List ℕ) (start end : State WorldState) (before after : List (Entry Saved)) (first second : Entry Saved) → IsQuiet start → IsOrdered start → first.event ≡ Bytes n a → second.event ≡ Bytes n b → first.mark ≡ None →
-    Run (live_meaning Faults) start (before ++ first ∷ second ∷ after) end → Run (live_meaning Faults) start (before ++ joined n a b first second ∷ after) end
-run_at_once n a b start end [] after first second quiet ordered one two unmarked d =
-    let next = d.2 in
-    (next.0, pieces_at_once n a b start d.0 next.0 first second quiet ordered one two unmarked d.1 next.1, next.2)
-run_at_once n a b start end (entry ∷ before) after first second quiet ordered one two unmarked d =
-    (d.0, d.1, run_at_once n a b d.0 end before after first second (takes_quiet start entry d.0 d.1 quiet) (takes_ordered start entry d.0 d.1 ordered) one two unmarked d.2)
+run_at_once : (n : ℕ) (a : List ℕ) (first : Entry Saved) (pieces : List Piece) (start end : State WorldState) (before after : List (Entry Saved)) → IsQuiet start → IsOrdered start → ArePieces n a first pieces →
+    Run (live_meaning Faults) start (before ++ first ∷ (map (λ (piece : Piece). piece.entry) pieces ++ after)) end → Run (live_meaning Faults) start (before ++ all_joined n a first pieces ∷ after) end
+run_at_once n a first pieces start end [] after quiet ordered are d = all_at_once n a first pieces start end after quiet ordered are d
+run_at_once n a first pieces start end (entry ∷ before) after quiet ordered are d =
+    (d.0, d.1, run_at_once n a first pieces d.0 end before after (takes_quiet start entry d.0 d.1 quiet) (takes_ordered start entry d.0 d.1 ordered) are d.2)
 
 pub cutting_changes_only_marks : CuttingChangesOnlyMarks
-cutting_changes_only_marks saved moment out start end before after first second n a b begins runs one two unmarked =
-    run_at_once n a b start end before after first second (begun_quiet saved moment out start begins) (begun_ordered saved moment out start begins) one two unmarked runs
+cutting_changes_only_marks saved moment out start end before after n a first pieces begins runs are =
+    run_at_once n a first pieces start end before after (begun_quiet saved moment out start begins) (begun_ordered saved moment out start begins) are runs

@@ -32,8 +32,8 @@ pub fn marks_name_players_by_rising_numbers()
 #[tactic(none)]
 pub fn lives_begin_from_marks<D: CrashDisk>()
     ensures { (first last : D) (runs : List (LifeRun MooApplication D)) (texts left : List (List ℕ))
-        → LeavesOnly (D.view first).main_text (D.view first)
-        → Lives live_layer D.view D.honest D.failures D.images first texts runs left last
+        → LeavesOnly (D.kind.view first).main_text (D.kind.view first)
+        → Lives live_layer D.kind D.images first texts runs left last
         → BeginFromKept live_layer [] runs }
 {
     moo_server_core::laws::lives_begin_from_marks::<MooApplication, D>();

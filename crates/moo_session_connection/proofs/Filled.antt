@@ -1,7 +1,6 @@
 -- Numbers without bytes.
 use Rattle.std.proofs.Common.{◌≡◌, ℕ, Bool, true, false, List, [], Contains, refl, sym, ap, subst}
 use Rattle.std.specs.BTreeSet.{BTreeSet, contains}
-use Rattle.std.specs.Prelude.{IsTrue}
 use Rattle.std.specs.Ordering.{nat_cmp}
 use Rattle.std.proofs.lemmas.Cmp.{nat_cmp_total}
 use Rattle.std.proofs.lemmas.Map.Lookups.{exact_unsigned}
@@ -16,5 +15,5 @@ none_waits rows filled numbers c only all none = by_test (contains nat_cmp fille
   where
     by_test : (b : Bool) → contains nat_cmp filled c ≡ b → (row rows c).waiting ≡ []
     by_test true there =
-        absurd (none (subst (λ (ns : List ℕ). Contains ns c) (sym all) ((btree_set_contains_iff nat_cmp_total exact_unsigned filled c).0 (subst IsTrue (sym there) tt))))
+        absurd (none (subst (λ (ns : List ℕ). Contains ns c) (sym all) ((btree_set_contains_iff nat_cmp_total exact_unsigned filled c).0 there)))
     by_test false other = ap (λ (b : Bytes). b.waiting) (only c other)

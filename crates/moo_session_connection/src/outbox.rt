@@ -121,15 +121,12 @@ impl Outbox {
         self.log.truncate(self.settled);
     }
 
-    /// Returns the numbers for which bytes wait, perhaps with others, by rising number. The time depends only on their
-    /// count. Fails only if memory runs out.
+    /// Returns the numbers for which bytes wait, perhaps with others. The time depends only on their count. Fails only if
+    /// memory runs out.
     pub fn numbers(&self) -> Result<Vec<u16>, AllocError>
         ensures { IfOk result (λ numbers. (c : ℕ) → (Contains numbers.items c → ⊥) → sent_waiting self.now c ≡ []) }
     {
-        let mut numbers = Vec::new(self.alloc);
-        for number in &self.filled {
-            numbers.push(*number)?;
-        }
+        let numbers = elements_of(self.alloc, &self.filled)?;
         Ok(numbers)
     }
 
@@ -161,6 +158,17 @@ impl Outbox {
         self.settled = 0;
         mem::replace(&mut self.log, Vec::new(self.alloc))
     }
+}
+
+// Returns the elements of a set, by rising number.
+fn elements_of(alloc: Global, set: &BTreeSet<u16>) -> Result<Vec<u16>, AllocError>
+    ensures { IfOk result (λ elements. elements.items ≡ set.now.keys) }
+{
+    let mut elements = Vec::new(alloc);
+    for element in set {
+        elements.push(*element)?;
+    }
+    Ok(elements)
 }
 
 fn push_all(log: &mut Vec<MooStr>, lines: &[MooStr]) -> Result<(), AllocError>

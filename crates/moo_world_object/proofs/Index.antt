@@ -1,18 +1,20 @@
 -- A verb is in the bucket of each name that matches it.
-use Rattle.std.proofs.Common.{◌≡◌, ◌≢◌, ◌⊎◌, inl, inr, ℕ, zero, suc, ◌+◌, ◌*◌, ◌-◌, ◌/◌, ◌%◌, ◌≤◌, ◌<◌, Bool, true, false, not, ◌&&◌, ◌||◌, cond, List, [], ◌∷◌, ◌++◌, length, take, drop, get_or, set, filter, refl, sym, ap, ◌∙◌, subst, bit_and, arith, eqb, ltb, min, max, IsTrue, ◌↔◌}
+use Rattle.std.proofs.Common.{◌≡◌, ◌≢◌, ◌⊎◌, inl, inr, ℕ, zero, suc, ◌+◌, ◌*◌, ◌-◌, ◌/◌, ◌%◌, ◌≤◌, ◌<◌, Bool, true, false, not, ◌&&◌, ◌||◌, cond, List, [], ◌∷◌, ◌++◌, length, take, drop, get_or, set, filter, refl, sym, ap, ◌∙◌, subst, bit_and, arith, nat_lt, eqb, ltb, min, max, IsTrue, ◌↔◌}
 use Rattle.std.proofs.lemmas.Bool.{cases_Bool, or_parts, eqb-true, eq-eqb, false≢true, ltb-true, ltb-false}
 use Rattle.std.proofs.lemmas.Bool.Decides.{nat_tests, same_from_decides}
-use Rattle.std.proofs.lemmas.List.{get_or-map, length-map, length-append, map-append, get_or_default}
+use Rattle.std.proofs.lemmas.List.{get_or-map, length-map, length-append, map-append, get_or_default, get_or_append_left}
 use Rattle.std.proofs.Math.Seq.{take-append_seam}
 use Rattle.std.specs.List.{list_any, slice_split}
 use Rattle.std.specs.Char.{to_ascii_lowercase}
 use Rattle.moo_value.specs.Compare.{folded}
 use Rattle.moo_world_object.specs.Patterns.{is_star, is_blank, is_word, base, least, ends_in_star, fits, fits_names, Fits, Begins, EndsInStar}
 use Rattle.moo_world_object.specs.Verbs.{fits_verb, is_needed, changed_at}
-use Rattle.moo_world_object.specs.Index.{letter_at, hash_of, no_verbs, Holds, Grows, CoversPattern, Covers, AreIndexed}
+use Rattle.moo_world_object.specs.Index.{letter_at, letters_hash, class_of, hash_of, bucket_of, no_verbs, Holds, Grows, CoversPattern, Covers, AreIndexed}
 use Rattle.moo_world_object.specs.declared.verb.Verb.{Verb}
 use Rattle.moo_world_object.specs.declared.verb.Need.{Need}
 use Rattle.moo_world_object.specs.declared.verb_index.Bucket.{Bucket}
+use Rattle.moo_world_object.specs.Letters.{first_letter}
+use Rattle.moo_world_object.proofs.Letters.{begins_so}
 use Rattle.moo_world_object.proofs.Patterns.{fits_is, ends_in_star_is}
 
 -- names that differ in the case of letters alone have one hash
@@ -35,8 +37,14 @@ same_letter (x ∷ a) [] i same = absurd (cc)
 same_letter (x ∷ a) (y ∷ b) zero same = letter_head x y (cc)
 same_letter (x ∷ a) (y ∷ b) (suc i) same = same_letter a b i (cc)
 
-pub same_hash : (a b : List ℕ) → folded a ≡ folded b → hash_of a ≡ hash_of b
-same_hash a b same =
+same_first : (a b : List ℕ) → folded a ≡ folded b → first_letter a ≡ first_letter b
+same_first [] [] same = refl
+same_first [] (y ∷ b) same = absurd (cc)
+same_first (x ∷ a) [] same = absurd (cc)
+same_first (x ∷ a) (y ∷ b) same = (cc)
+
+same_letters_hash : (a b : List ℕ) → folded a ≡ folded b → letters_hash a ≡ letters_hash b
+same_letters_hash a b same =
     let many : length a ≡ length b = sym (length-map a to_ascii_lowercase) ∙ ap length same ∙ length-map b to_ascii_lowercase in
     let letters = λ (i : ℕ). same_letter a b i same in
     let middle = letters (length b / 2) in
@@ -44,6 +52,45 @@ same_hash a b same =
     let second = letters (length b - 2) in
     let last = letters (length b - 1) in
     rw (many, middle, third, second, last) refl
+
+pub same_hash : (a b : List ℕ) → folded a ≡ folded b → hash_of a ≡ hash_of b
+same_hash a b same = ap (λ n. n * 2 + class_of (first_letter a)) (same_letters_hash a b same) ∙ ap (λ n. letters_hash b * 2 + class_of n) (same_first a b same)
+
+-- the bucket of a name is even or odd as its class
+class_low : (first : ℕ) → class_of first < 2
+class_low first = elim (cases_Bool (ltb first 65)) [
+  | inl low ↦ rw (low) (omega arith)
+  | inr high ↦ rw (high) (omega arith)
+]
+
+class_of_sum : (n c m : ℕ) → c < 2 → (m * 2 + (n * 2 + c) % 2) % 2 ≡ c
+class_of_sum n c m low = omega (arith, low)
+
+class_of_bucket : (mask : ℕ) (name : List ℕ) → bucket_of mask (hash_of name) % 2 ≡ class_of (first_letter name)
+class_of_bucket mask name = class_of_sum (letters_hash name) (class_of (first_letter name)) (bit_and (hash_of name / 2) mask) (class_low (first_letter name))
+
+-- a name that fits a pattern is of its class, if that begins with no star
+star_low : (b : ℕ) → is_star (to_ascii_lowercase b) ≡ false → is_star b ≡ false
+star_low b off = elim (cases_Bool (eqb b 42)) [
+  | inl is ↦ absurd (false≢true (sym off ∙ ap (λ n. is_star (to_ascii_lowercase n)) (eqb-true b 42 is)))
+  | inr other ↦ other
+]
+
+first_of_fit : (pattern name : List ℕ) → is_star (first_letter pattern) ≡ false → Fits pattern name → first_letter name ≡ first_letter pattern
+first_of_fit [] [] plain fit = refl
+first_of_fit [] (n ∷ ns) plain (inl ((behind, is), long)) = absurd (cc)
+first_of_fit [] (n ∷ ns) plain (inr ((front, is), begins)) = absurd (omega (arith, ap length is, length-append front (42 ∷ [])))
+first_of_fit (b ∷ bs) name plain fit = begins_so b bs name (star_low b plain) fit
+
+pub open_covers : (buckets : List Bucket) (i : ℕ) (pattern : List ℕ) → is_star (first_letter pattern) ≡ false → ((j : ℕ) → j % 2 ≡ class_of (first_letter pattern) → Holds buckets j i) → (mask : ℕ) → CoversPattern buckets mask pattern i
+open_covers buckets i pattern plain all mask = λ name fit.
+    all (bucket_of mask (hash_of name)) (class_of_bucket mask name ∙ ap class_of (first_of_fit pattern name plain ((fits_is pattern name).0 fit)))
+
+pub class_more : (buckets later : List Bucket) (i j class : ℕ) → Grows buckets later → ((k : ℕ) → k < j → k % 2 ≡ class → Holds buckets k i) → (j % 2 ≡ class → Holds later j i) → (k : ℕ) → k < j + 1 → k % 2 ≡ class → Holds later k i
+class_more buckets later i j class grows below here k low is = elim (cases_Bool (ltb k j)) [
+  | inl less ↦ grows.1 k i (below k (ltb-true k j less) is)
+  | inr more ↦ let e : k ≡ j = omega (arith, low, ltb-false k j more) in subst (λ n. Holds later n i) (sym e) (here (sym (ap (λ n. n % 2) e) ∙ is))
+]
 
 -- a name that matches a pattern without a star at its end is a prefix of the base
 pub prefix_of_base : (pattern name : List ℕ) → ends_in_star pattern ≡ false → fits pattern name ≡ true →
@@ -66,12 +113,12 @@ prefix_of_base pattern name closed fit = elim ((fits_is pattern name).0 fit) [
 
 -- the buckets of all prefixes of the base
 abbrev pub HoldsPrefixes : List Bucket → ℕ → List ℕ → ℕ → ℕ → Type 0
-HoldsPrefixes buckets mask pattern i end = (n : ℕ) → least pattern ≤ n → n < end → Holds buckets (bit_and (hash_of (take n (base pattern))) mask) i
+HoldsPrefixes buckets mask pattern i end = (n : ℕ) → least pattern ≤ n → n < end → Holds buckets (bucket_of mask (hash_of (take n (base pattern)))) i
 
 pub prefixes_cover : (buckets : List Bucket) (mask : ℕ) (pattern : List ℕ) (i : ℕ) → HoldsPrefixes buckets mask pattern i (length (base pattern) + 1) → ends_in_star pattern ≡ false → CoversPattern buckets mask pattern i
 prefixes_cover buckets mask pattern i all closed = λ name fit.
     let p = prefix_of_base pattern name closed fit in
-    subst (λ h. Holds buckets (bit_and h mask) i) (same_hash (take (length name) (base pattern)) name p.2) (all (length name) p.0 (omega (arith, p.1)))
+    subst (λ h. Holds buckets (bucket_of mask h) i) (same_hash (take (length name) (base pattern)) name p.2) (all (length name) p.0 (omega (arith, p.1)))
 
 -- ends_in_star as a relation is the test
 pub star_test : (pattern : List ℕ) (r : Bool) → (IsTrue r ↔ EndsInStar pattern) → r ≡ ends_in_star pattern
@@ -79,7 +126,7 @@ star_test pattern r both = same_from_decides r (ends_in_star pattern) both (ends
 
 -- patterns as names
 pub parts_cover : (buckets : List Bucket) (mask i : ℕ) (parts : List (List ℕ)) → ((k : ℕ) → k < length parts → CoversPattern buckets mask (get_or parts k []) i)
-    → (name : List ℕ) → list_any (λ pattern. fits pattern name) (filter is_word parts) ≡ true → Holds buckets (bit_and (hash_of name) mask) i
+    → (name : List ℕ) → list_any (λ pattern. fits pattern name) (filter is_word parts) ≡ true → Holds buckets (bucket_of mask (hash_of name)) i
 parts_cover buckets mask i [] all name some = absurd (false≢true some)
 parts_cover buckets mask i (part ∷ parts) all name some = elim (cases_Bool (is_word part)) [
   | inl word ↦
@@ -96,22 +143,16 @@ covers_patterns buckets mask i names all = λ name fit. parts_cover buckets mask
 
 -- what an earlier index covers
 pub covers_later : (buckets later : List Bucket) (mask i : ℕ) (names : List ℕ) → Grows buckets later → Covers buckets mask names i → Covers later mask names i
-covers_later buckets later mask i names grows covers = λ name fit. grows.1 (bit_and (hash_of name) mask) i (covers name fit)
+covers_later buckets later mask i names grows covers = λ name fit. grows.1 (bucket_of mask (hash_of name)) i (covers name fit)
 
 pub pattern_later : (buckets later : List Bucket) (mask i : ℕ) (pattern : List ℕ) → Grows buckets later → CoversPattern buckets mask pattern i → CoversPattern later mask pattern i
-pattern_later buckets later mask i pattern grows covers = λ name fit. grows.1 (bit_and (hash_of name) mask) i (covers name fit)
+pattern_later buckets later mask i pattern grows covers = λ name fit. grows.1 (bucket_of mask (hash_of name)) i (covers name fit)
 
 pub grows_more : (one two three : List Bucket) → Grows one two → Grows two three → Grows one three
 grows_more one two three first second = (second.0 ∙ first.0, λ j i holds. second.1 j i (first.1 j i holds))
 
--- none of some parts
-pub none_of : (p : List ℕ → Bool) (parts : List (List ℕ)) (k : ℕ) (d : List ℕ) → list_any p parts ≡ false → k < length parts → p (get_or parts k d) ≡ false
-none_of p [] k d none low = absurd (omega (arith, low))
-none_of p (part ∷ parts) zero d none low = (or_parts (p part) (list_any p parts) none).0
-none_of p (part ∷ parts) (suc k) d none low = none_of p parts k d (or_parts (p part) (list_any p parts) none).1 (omega (arith, low))
-
 -- a verb outside the bucket of a name does not match it
-pub outside : (buckets : List Bucket) (mask : ℕ) (verbs : List Verb) (need : Need) (name : List ℕ) (k : ℕ) (d : Verb) → AreIndexed buckets mask verbs → k < length verbs → (Holds buckets (bit_and (hash_of name) mask) k → ⊥) → fits_verb need name (get_or verbs k d) ≡ false
+pub outside : (buckets : List Bucket) (mask : ℕ) (verbs : List Verb) (need : Need) (name : List ℕ) (k : ℕ) (d : Verb) → AreIndexed buckets mask verbs → k < length verbs → (Holds buckets (bucket_of mask (hash_of name)) k → ⊥) → fits_verb need name (get_or verbs k d) ≡ false
 outside buckets mask verbs need name k d indexed low out = elim (cases_Bool (fits_verb need name (get_or verbs k d))) [
   | inl fit ↦ absurd (out (indexed k (get_or verbs k d) low (get_or_default verbs k d (get_or verbs k d) low) name (and_second (is_needed need (get_or verbs k d)) fit)))
   | inr off ↦ off
@@ -148,21 +189,20 @@ holds_more buckets later i j grows below here k low = elim (cases_Bool (ltb k j)
   | inr more ↦ let e : j ≡ k = omega (arith, low, ltb-false k j more) in subst (λ n. Holds later n i) e here
 ]
 
-pub prefixes_more : (buckets later : List Bucket) (mask : ℕ) (pattern : List ℕ) (i end : ℕ) → Grows buckets later → HoldsPrefixes buckets mask pattern i end → Holds later (bit_and (hash_of (take end (base pattern))) mask) i → HoldsPrefixes later mask pattern i (end + 1)
+pub prefixes_more : (buckets later : List Bucket) (mask : ℕ) (pattern : List ℕ) (i end : ℕ) → Grows buckets later → HoldsPrefixes buckets mask pattern i end → Holds later (bucket_of mask (hash_of (take end (base pattern)))) i → HoldsPrefixes later mask pattern i (end + 1)
 prefixes_more buckets later mask pattern i end grows all here = λ n enough low. elim (cases_Bool (ltb n end)) [
-  | inl less ↦ grows.1 (bit_and (hash_of (take n (base pattern))) mask) i (all n enough (ltb-true n end less))
-  | inr more ↦ let e : end ≡ n = omega (arith, low, ltb-false n end more) in subst (λ m. Holds later (bit_and (hash_of (take m (base pattern))) mask) i) e here
+  | inl less ↦ grows.1 (bucket_of mask (hash_of (take n (base pattern)))) i (all n enough (ltb-true n end less))
+  | inr more ↦ let e : end ≡ n = omega (arith, low, ltb-false n end more) in subst (λ m. Holds later (bucket_of mask (hash_of (take m (base pattern)))) i) e here
 ]
 
 pub patterns_more : (buckets later : List Bucket) (mask i : ℕ) (parts : List (List ℕ)) (n : ℕ) (part : List ℕ) → Grows buckets later → ((k : ℕ) → k < n → CoversPattern buckets mask (get_or parts k []) i) → n < length parts → part ≡ get_or parts n part
-    → list_any ends_in_star parts ≡ false → (ends_in_star part ≡ false → CoversPattern later mask part i) → (k : ℕ) → k < n + 1 → CoversPattern later mask (get_or parts k []) i
-patterns_more buckets later mask i parts n part grows all inside here closed covers k low = elim (cases_Bool (ltb k n)) [
+    → CoversPattern later mask part i → (k : ℕ) → k < n + 1 → CoversPattern later mask (get_or parts k []) i
+patterns_more buckets later mask i parts n part grows all inside here covers k low = elim (cases_Bool (ltb k n)) [
   | inl less ↦ pattern_later buckets later mask i (get_or parts k []) grows (all k (ltb-true k n less))
   | inr more ↦
       let e : n ≡ k = omega (arith, low, ltb-false k n more) in
       let is : part ≡ get_or parts n [] = here ∙ get_or_default parts n part [] inside in
-      let plain : ends_in_star part ≡ false = ap ends_in_star is ∙ none_of ends_in_star parts n [] closed inside in
-      subst (λ m. CoversPattern later mask (get_or parts m []) i) e (subst (λ p. CoversPattern later mask p i) is (covers plain))
+      subst (λ m. CoversPattern later mask (get_or parts m []) i) e (subst (λ p. CoversPattern later mask p i) is covers)
 ]
 
 pub verbs_more : (buckets later : List Bucket) (mask : ℕ) (verbs : List Verb) (i : ℕ) (w : Verb) → Grows buckets later → ((k : ℕ) (v : Verb) → k < i → v ≡ get_or verbs k v → Covers buckets mask v.names k) → w ≡ get_or verbs i w → i < length verbs
@@ -174,6 +214,15 @@ verbs_more buckets later mask verbs i w grows all here inside covers k v low rea
       let same : w ≡ v = here ∙ get_or_default verbs i w v inside ∙ ap (λ n. get_or verbs n v) e ∙ sym read in
       subst (λ n. Covers later mask v.names n) e (subst (λ (u : Verb). Covers later mask u.names i) same covers)
 ]
+
+-- one verb more
+pub last_indexed : (buckets later : List Bucket) (mask : ℕ) (front : List Verb) (v w : Verb) (verbs : List Verb) (n : ℕ) → verbs ≡ front ++ v ∷ [] → length verbs ≡ n + 1 → AreIndexed buckets mask front → Grows buckets later → w ≡ get_or verbs n w → Covers later mask w.names n → AreIndexed later mask verbs
+last_indexed buckets later mask front v w verbs n is many indexed grows here covers =
+    let long : length front ≡ n = omega (arith, many, ap length is, length-append front (v ∷ [])) in
+    let below = λ (k : ℕ) (u : Verb) (low : k < n) (read : u ≡ get_or verbs k u).
+    let inside : k < length front = omega (arith, low, long) in
+    indexed k u inside (read ∙ ap (λ vs. get_or vs k u) is ∙ get_or_append_left front (v ∷ []) u k inside) in
+    λ k u low read. verbs_more buckets later mask verbs n w grows below here (omega (arith, many)) covers k u (omega (arith, low, many)) read
 
 -- a slice that is written back over a vector of its length
 pub written : (len : ℕ) (new old : List Bucket) → length new ≡ length old → len ≡ length old → take len (new ++ drop (length new) old) ≡ new

@@ -12,7 +12,7 @@ use Rattle.moo_world_object.specs.declared.verb.Verb.{Verb}
 use Rattle.moo_world_object.proofs.Patterns.{fits_is}
 
 -- a name that fits a pattern begins with its letter, where that is no star
-begins_so : (b : ℕ) (bs name : List ℕ) → is_star b ≡ false → Fits (b ∷ bs) name → first_letter name ≡ to_ascii_lowercase b
+pub begins_so : (b : ℕ) (bs name : List ℕ) → is_star b ≡ false → Fits (b ∷ bs) name → first_letter name ≡ to_ascii_lowercase b
 begins_so b bs [] plain (inl ((behind, is), long)) =
     let some : least (b ∷ bs) ≡ 1 + least bs = (rw plain refl) in
     absurd (omega (arith, some, long))

@@ -1,6 +1,7 @@
 -- The index of the verbs of an object by the hash of a name.
-use Rattle.std.specs.Prelude.{◌≡◌, ℕ, ◌+◌, ◌*◌, ◌-◌, ◌/◌, ◌%◌, ◌<◌, ◌≤◌, true, List, length, slice_index_or, bit_and}
+use Rattle.std.specs.Prelude.{◌≡◌, ℕ, ◌+◌, ◌*◌, ◌-◌, ◌/◌, ◌%◌, ◌<◌, ◌≤◌, true, List, length, slice_index_or, bit_and, nat_lt, if◌then◌else◌}
 use Rattle.moo_world_object.specs.Patterns.{fits, fits_names}
+use Rattle.moo_world_object.specs.Letters.{first_letter}
 use Rattle.moo_world_object.specs.declared.verb.Verb.{Verb}
 use Rattle.moo_world_object.specs.declared.verb_index.Bucket.{Bucket}
 
@@ -8,9 +9,21 @@ use Rattle.moo_world_object.specs.declared.verb_index.Bucket.{Bucket}
 abbrev pub letter_at : List ℕ → ℕ → ℕ
 letter_at name i = slice_index_or name i 0 % 32
 
--- the hash of a name: by its length, its middle letter and its last three
+-- a number of a name's length, its middle letter and its last three
+abbrev pub letters_hash : List ℕ → ℕ
+letters_hash name = length name % 256 + letter_at name (length name / 2) * 50653 + letter_at name (length name - 3) * 1369 + letter_at name (length name - 2) * 37 + letter_at name (length name - 1)
+
+-- the class of a name with this first letter: 0 before the letters, else 1
+abbrev pub class_of : ℕ → ℕ
+class_of first = if nat_lt first 65 then 0 else 1
+
+-- the hash of a name
 abbrev pub hash_of : List ℕ → ℕ
-hash_of name = length name % 256 + letter_at name (length name / 2) * 50653 + letter_at name (length name - 3) * 1369 + letter_at name (length name - 2) * 37 + letter_at name (length name - 1)
+hash_of name = letters_hash name * 2 + class_of (first_letter name)
+
+-- the number of the bucket of names with this hash, even or odd as their class
+abbrev pub bucket_of : ℕ → ℕ → ℕ
+bucket_of mask hash = bit_and (hash / 2) mask * 2 + hash % 2
 
 abbrev pub no_verbs : Bucket
 no_verbs = record { first = 65535; last = 0 }
@@ -25,11 +38,11 @@ Grows buckets later = (length later ≡ length buckets) × ((j i : ℕ) → Hold
 
 -- the bucket of each name that a pattern matches holds the place i
 abbrev pub CoversPattern : List Bucket → ℕ → List ℕ → ℕ → Type 0
-CoversPattern buckets mask pattern i = (name : List ℕ) → fits pattern name ≡ true → Holds buckets (bit_and (hash_of name) mask) i
+CoversPattern buckets mask pattern i = (name : List ℕ) → fits pattern name ≡ true → Holds buckets (bucket_of mask (hash_of name)) i
 
 -- the bucket of each name that a verb with these names has holds the place i
 abbrev pub Covers : List Bucket → ℕ → List ℕ → ℕ → Type 0
-Covers buckets mask names i = (name : List ℕ) → fits_names names name ≡ true → Holds buckets (bit_and (hash_of name) mask) i
+Covers buckets mask names i = (name : List ℕ) → fits_names names name ≡ true → Holds buckets (bucket_of mask (hash_of name)) i
 
 -- each verb is in the buckets of all names that match it
 abbrev pub AreIndexed : List Bucket → ℕ → List Verb → Type 0

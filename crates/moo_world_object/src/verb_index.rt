@@ -1,8 +1,9 @@
 //! An index of the verbs of an object by the hash of a name.
-ghost use Rattle.std.specs.Prelude.{◌≡◌, ◌<◌, ◌≤◌, ℕ, [], false, length, OnOk, IsOk, IfOk, slice_index_or, bit_and, min, max};
-ghost use Rattle.std.specs.List.{list_any, slice_split};
-ghost use Rattle.moo_world_object.specs.Patterns.{is_blank, base, ends_in_star};
-ghost use Rattle.moo_world_object.specs.Index.{letter_at, hash_of, no_verbs, Holds, Grows, CoversPattern, Covers, AreIndexed};
+ghost use Rattle.std.specs.Prelude.{◌≡◌, ◌<◌, ◌≤◌, ◌%◌, ◌++◌, ◌∷◌, ℕ, List, [], false, length, IsTrue, OnOk, IfOk, min, max};
+ghost use Rattle.moo_world_object.specs.Patterns.{base, ends_in_star};
+ghost use Rattle.moo_world_object.specs.declared.verb.Verb.{Verb};
+ghost use Rattle.moo_world_object.specs.Letters.{first_letter};
+ghost use Rattle.moo_world_object.specs.Index.{letter_at, letters_hash, class_of, hash_of, bucket_of, Holds, Grows, CoversPattern, Covers, AreIndexed};
 
 use crate::pattern::{ends_in_star, is_blank, is_star, least_length};
 use crate::verb::Verb;
@@ -22,8 +23,8 @@ pub(crate) struct Bucket {
 }
 
 /// An index by the hash of a name. A name matches no verb outside the bucket of its hash, so that a search goes through
-/// one bucket alone. The bucket is the one at the hash's bits that are set in `mask`. If there is no such bucket, any
-/// verb may match.
+/// one bucket alone. Half of the buckets are for names of class 0, as those of commands that begin with `@`, and half for
+/// the others: so a pattern that ends in a star is in one half alone. If there is no such bucket, any verb may match.
 #[derive(Drop)]
 pub(crate) struct VerbIndex {
     buckets: Vec<Bucket>,
@@ -51,22 +52,57 @@ impl VerbIndex {
         }
     }
 
+    /// Adds the last of these verbs to the index of the others. Makes the index anew if it has too few buckets, and has no
+    /// buckets after it ran out of memory.
+    pub(crate) fn add_last(&mut self, alloc: Global, verbs: &[Verb])
+        requires { 0 < length verbs.now }
+        ensures { (front : List Verb) (v : Verb) → verbs.now ≡ front ++ v ∷ [] → AreIndexed self.old.buckets.items self.old.mask front → AreIndexed self.new.buckets.items self.new.mask verbs.now }
+    {
+        if !self.has_room(verbs.len()) {
+            *self = VerbIndex::from_verbs(alloc, verbs);
+            return;
+        }
+        let place = verbs.len() - 1;
+        let names = verbs[place].names.as_bytes();
+        match add_names(&mut self.buckets, alloc, self.mask, names, place as u16) {
+            Ok(()) => {}
+            Err(_) => *self = VerbIndex::new(alloc),
+        }
+    }
+
+    // Is true if there are as many buckets as an index of `many` verbs has.
+    fn has_room(&self, many: usize) -> bool
+        ensures { IsTrue result → many ≤ 1024 }
+    {
+        !self.buckets.is_empty() && many <= MOST_INDEXED && mask_for(many) == self.mask
+    }
+
     /// Returns the first and the last place at which a name with this hash may match one of `many` verbs.
     #[inline]
     pub(crate) fn range(&self, hash: usize, many: usize) -> (usize, usize)
-        ensures { (i : ℕ) → i < many → Holds self.now.buckets.items (bit_and hash self.now.mask) i → (result.0 ≤ i) × (i ≤ result.1) }
+        ensures { (i : ℕ) → i < many → Holds self.now.buckets.items (bucket_of self.now.mask hash) i → (result.0 ≤ i) × (i ≤ result.1) }
     {
-        match self.buckets.get(hash & self.mask) {
+        match self.buckets.get(bucket_of(self.mask, hash)) {
             Some(bucket) => (usize::from(bucket.first), usize::from(bucket.last)),
             None => (0, many),
         }
     }
 }
 
-/// Returns the hash of a name. Names that differ in the case of their letters alone have one hash.
+/// Returns the hash of a name. Names that differ in the case of their letters alone have one hash. Its lowest bit is the
+/// class of the name's first letter.
 #[inline]
 pub fn hash_of(name: &[u8]) -> usize
     ensures { result ≡ hash_of name.now }
+{
+    letters_hash(name) * 2 + class_of(first_letter(name))
+}
+
+// Returns a number of a name's length, its middle letter and its last three.
+#[inline]
+fn letters_hash(name: &[u8]) -> usize
+    ensures value { result ≡ letters_hash name.now }
+    ensures small { result < 1700000 }
 {
     let many = name.len();
     many % 256
@@ -87,6 +123,34 @@ fn letter_at(name: &[u8], index: usize) -> usize
     }
 }
 
+/// Returns the first letter of a name in lower case, or 0 if the name is empty.
+#[inline]
+pub(crate) fn first_letter(name: &[u8]) -> u8
+    ensures { result ≡ first_letter name.now }
+{
+    match name {
+        [first, ..] => first.to_ascii_lowercase(),
+        [] => 0,
+    }
+}
+
+// Returns the class of a name with this first letter: 0 if it comes before the letters, as `@` does, and else 1.
+#[inline]
+fn class_of(first: u8) -> usize
+    ensures value { result ≡ class_of first }
+    ensures small { result < 2 }
+{
+    if first < b'A' { 0 } else { 1 }
+}
+
+// Returns the number of the bucket of names with this hash. It is even if their class is 0 and odd if it is 1.
+#[inline]
+fn bucket_of(mask: usize, hash: usize) -> usize
+    ensures { result ≡ bucket_of mask hash }
+{
+    (hash / 2 & mask) * 2 + hash % 2
+}
+
 // Returns the index of verbs. It has no buckets if there are no verbs or too many.
 fn indexed(alloc: Global, verbs: &[Verb]) -> Result<VerbIndex, AllocError>
     ensures { IfOk result (λ index. AreIndexed index.buckets.items index.mask verbs.now) }
@@ -99,20 +163,15 @@ fn indexed(alloc: Global, verbs: &[Verb]) -> Result<VerbIndex, AllocError>
         first: u16::MAX,
         last: 0,
     };
-    let mut buckets = vec![in alloc; empty; mask + 1]?;
+    let mut buckets = vec![in alloc; empty; (mask + 1) * 2]?;
     for i in 0..verbs.len() {
-        add_names(
-            &mut buckets,
-            alloc,
-            mask,
-            verbs[i].names.as_bytes(),
-            i as u16,
-        )?;
+        let names = verbs[i].names.as_bytes();
+        add_names(&mut buckets, alloc, mask, names, i as u16)?;
     }
     Ok(VerbIndex { buckets, mask })
 }
 
-// Returns the mask for a number of verbs. There are at least four buckets for each.
+// Returns the mask for a number of verbs. Each class has at least four buckets for each verb.
 fn mask_for(many: usize) -> usize
     ensures { result < 4096 }
 {
@@ -137,7 +196,7 @@ fn add_names(
     ensures grows { Grows buckets.old buckets.new }
     ensures covers { OnOk result (Covers buckets.new mask names.now place) }
 {
-    if names.len() > LONGEST_INDEXED || some_ends_in_star(names) {
+    if names.len() > LONGEST_INDEXED {
         add_everywhere(buckets, place);
         return Ok(());
     }
@@ -147,24 +206,41 @@ fn add_names(
     Ok(())
 }
 
-fn some_ends_in_star(names: &[u8]) -> bool
-    ensures { result ≡ list_any ends_in_star (slice_split is_blank names.now) }
-{
-    names
-        .split(|byte| is_blank(*byte))
-        .any(|part| is_open(part))
-}
-
-// Is true if a pattern ends in a star, so that names of any length match it.
-fn is_open(pattern: &[u8]) -> bool
-    ensures { result ≡ ends_in_star pattern.now }
-{
-    ends_in_star(pattern)
-}
-
-// Adds a place to the buckets of all names that a pattern matches. Such a name is a prefix of the base, unless the
-// pattern ends in a star.
+// Adds a place to the buckets of all names that a pattern matches.
 fn add_pattern(
+    buckets: &mut [Bucket],
+    alloc: Global,
+    mask: usize,
+    pattern: &[u8],
+    place: u16,
+) -> Result<(), AllocError>
+    ensures grows { Grows buckets.old buckets.new }
+    ensures covers { OnOk result (CoversPattern buckets.new mask pattern.now place) }
+{
+    if ends_in_star(pattern) {
+        add_open(buckets, pattern, place);
+        return Ok(());
+    }
+    add_prefixes(buckets, alloc, mask, pattern, place)?;
+    Ok(())
+}
+
+// Adds a place to the buckets of all names that may begin as the pattern does.
+fn add_open(buckets: &mut [Bucket], pattern: &[u8], place: u16)
+    ensures grows { Grows buckets.old buckets.new }
+    ensures covers { (mask : ℕ) → CoversPattern buckets.new mask pattern.now place }
+{
+    let first = first_letter(pattern);
+    if is_star(first) {
+        add_everywhere(buckets, place);
+        return;
+    }
+    add_class(buckets, class_of(first), place);
+}
+
+// Adds a place to the buckets of the names that match a pattern that doesn't end in a star. Such a name is a prefix of
+// the base.
+fn add_prefixes(
     buckets: &mut [Bucket],
     alloc: Global,
     mask: usize,
@@ -176,7 +252,7 @@ fn add_pattern(
 {
     let base = base_of(alloc, pattern)?;
     for end in least_length(pattern)..base.len() + 1 {
-        add(buckets, hash_of(&base[..end]) & mask, place);
+        add(buckets, bucket_of(mask, hash_of(&base[..end])), place);
     }
     Ok(())
 }
@@ -199,6 +275,26 @@ fn add_everywhere(buckets: &mut [Bucket], place: u16)
     ensures holds { (j : ℕ) → Holds buckets.new j place }
 {
     for j in 0..buckets.len() {
+        add(buckets, j, place);
+    }
+}
+
+// Adds a place to the buckets of a class.
+fn add_class(buckets: &mut [Bucket], class: usize, place: u16)
+    ensures grows { Grows buckets.old buckets.new }
+    ensures holds { (j : ℕ) → j % 2 ≡ class → Holds buckets.new j place }
+{
+    for j in 0..buckets.len() {
+        add_if_class(buckets, class, j, place);
+    }
+}
+
+// Adds a place to the bucket at `j` if it is of this class.
+fn add_if_class(buckets: &mut [Bucket], class: usize, j: usize, place: u16)
+    ensures grows { Grows buckets.old buckets.new }
+    ensures holds { j % 2 ≡ class → Holds buckets.new j place }
+{
+    if j % 2 == class {
         add(buckets, j, place);
     }
 }

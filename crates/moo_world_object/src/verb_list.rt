@@ -10,7 +10,7 @@ ghost use Rattle.moo_world_object.specs.Index.{hash_of, AreIndexed};
 use crate::pattern::{is_blank, is_star};
 use crate::verb::{Need, Verb, VerbPerms, change_args, change_info, change_program};
 use crate::verb_args::VerbArgs;
-use crate::verb_index::{VerbIndex, hash_of};
+use crate::verb_index::{VerbIndex, first_letter, hash_of};
 use moo_syntax_grammar::Program;
 use moo_value::MooStr;
 use std::alloc::{AllocError, Global};
@@ -120,7 +120,7 @@ impl VerbList {
         let many = self.verbs.len();
         self.verbs.push(verb)?;
         push_letter(&mut self.letters, many, letter);
-        self.index = VerbIndex::from_verbs(*self.verbs.allocator(), &self.verbs);
+        self.index.add_last(*self.verbs.allocator(), &self.verbs);
         Ok(())
     }
 
@@ -232,17 +232,6 @@ fn begins_otherwise(part: &[u8], letter: u8) -> bool
     match part {
         [first, ..] => is_star(*first) || first.to_ascii_lowercase() != letter,
         [] => false,
-    }
-}
-
-// Returns the first letter of a name in lower case, or 0 if the name is empty.
-#[inline]
-fn first_letter(name: &[u8]) -> u8
-    ensures { result ≡ first_letter name.now }
-{
-    match name {
-        [first, ..] => first.to_ascii_lowercase(),
-        [] => 0,
     }
 }
 

@@ -29,3 +29,4 @@ pub mod NamesMet
 pub mod Placing
 pub mod NewNames
 pub mod Once
+mod Distances

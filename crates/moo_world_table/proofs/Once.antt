@@ -4,7 +4,7 @@ use Rattle.std.specs.List.{position, position_or_len, list_any}
 use Rattle.std.proofs.lemmas.Bool.{cases_Bool, false≢true, lt-ltb, or_parts}
 use Rattle.std.proofs.lemmas.Option.{slice_get_within, slice_get-get_or}
 use Rattle.moo_world_object.specs.Names.{same_name}
-use Rattle.moo_world_object.specs.Cells.{Cell, Key, AreDistinct, cell_at, is_named, key_of}
+use Rattle.moo_world_object.specs.Cells.{Cell, Key, is_named, key_of}
 use Rattle.moo_world_object.proofs.Names.{same_name-true, eq-same_name}
 use Rattle.moo_world_table.specs.World.{has_twice}
 
@@ -47,12 +47,3 @@ place_found name [] i once low h = absurd (omega (arith, low))
 place_found name (d ∷ ds) i once low h =
     let at = slice_get-get_or (d ∷ ds) i d low in
     sym (place_once name (d ∷ ds) i (get_or (d ∷ ds) i d) once at (rw at at h))
-
--- a cell that has a name and is for what is defined there is the one for the definition
-pub cell_once : (definer : ℕ) (name : List ℕ) (cells : List Cell) (i : ℕ) (c : Cell) → AreDistinct cells → i < length cells → c ≡ get_or cells i c → IfSome (slice_get cells i) (λ d. is_named name d ≡ true) → c.definer ≡ definer → cell_at cells (definer, name) ≡ Some c
-cell_once definer name cells i c distinct low is h own =
-    let at : slice_get cells i ≡ Some c = slice_get-get_or cells i c low ∙ ap (λ d. Some d) (sym is) in
-    let named : is_named name c ≡ true = (rw at at h) in
-    let here : get_or cells i c ≡ c = sym is in
-    let found : cell_at cells (key_of c) ≡ Some c = (rw here at (distinct i c low)) in
-    ap (λ d. cell_at cells (d, name)) (sym own) ∙ ap (λ n. cell_at cells (c.definer, n)) (sym (same_name-true c.name name named)) ∙ found

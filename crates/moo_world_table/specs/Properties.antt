@@ -1,11 +1,11 @@
 -- Properties by their names.
-use Rattle.std.specs.Prelude.{ℕ, List, ◌∷◌, Option, Bool, ◌&&◌, slice_get, length, nat_le}
-use Rattle.std.specs.Option.{unwrap_or, option_and_then}
+use Rattle.std.specs.Prelude.{ℕ, ◌-◌, List, ◌∷◌, Option, None, Bool, ◌&&◌, slice_get, length, nat_le, position, if◌then◌else◌}
+use Rattle.std.specs.Option.{unwrap_or, option_and_then, option_map}
 use Rattle.std.specs.List.{find, filter_map, list_any, range_with_len}
 use Rattle.moo_value.specs.Tree.{Tree}
 use Rattle.moo_world_tree.specs.Forest.{Links, ancestors, is_within}
 use Rattle.moo_world_object.specs.Names.{same_name}
-use Rattle.moo_world_object.specs.Cells.{Key, cell_at}
+use Rattle.moo_world_object.specs.Cells.{Cell, Key, is_key, cell_at}
 use Rattle.moo_world_object.specs.Objects.{Object}
 use Rattle.moo_world_table.specs.World.{World, nothing, object_of, definitions, most}
 
@@ -19,6 +19,21 @@ value_at objects k x = value_in (object_of objects x) k
 -- the values for a definition that one finds on going up from x, the nearest first
 abbrev pub values_above : List (Option Object) → List Links → Key → ℕ → List Tree
 values_above objects tree k x = filter_map (value_at objects k) (x ∷ ancestors tree x)
+
+-- how far the cell of a definition is from the end of a row, or 0 if the row has none
+abbrev pub distance_of : Key → List Cell → ℕ
+distance_of k cells = unwrap_or (option_map (λ place. length cells - place) (position (is_key k) cells)) 0
+
+-- the cell at a distance from the end of a row
+abbrev pub cell_from_end : ℕ → List Cell → Option Cell
+cell_from_end distance cells = if nat_le distance (length cells) then slice_get cells (length cells - distance) else None
+
+-- the value of the cell at a distance from the end of an object's row, if that is not clear
+abbrev pub value_from_end : ℕ → Option Object → Option Tree
+value_from_end distance o = option_and_then (λ c. c.value) (cell_from_end distance (unwrap_or o nothing).cells)
+
+abbrev pub value_from_end_at : List (Option Object) → ℕ → ℕ → Option Tree
+value_from_end_at objects distance x = value_from_end distance (object_of objects x)
 
 -- the definition of a name, letters folded, on an object or an ancestor
 abbrev pub definition_named : World → ℕ → List ℕ → Option Key

@@ -1,19 +1,20 @@
-//! Cells by names that are literals in a program. The search first tries the distance from the last cell at which the
-//! name was last found. That distance is the same on all objects that have the property from one definition.
+//! Cells by names that are literals in a program. The search first tries the distance from the end of the row at which
+//! the name was last found. That distance is the same on all objects that have the property from one definition.
 
 ghost use Rattle.std.specs.Prelude.{◌≡◌, ◌<◌, ◌∷◌, ℕ, Some, IfSome, false, length, map, slice_get};
-ghost use Rattle.std.specs.Option.{option_map, option_copied, unwrap_or};
+ghost use Rattle.std.specs.Option.{option_map, option_copied};
 ghost use Rattle.std.specs.List.{filter_map, position};
 ghost use Rattle.moo_value.specs.Compare.{folded};
 ghost use Rattle.moo_value.specs.View.{tree};
 ghost use Rattle.moo_world_tree.specs.Forest.{ancestors};
-ghost use Rattle.moo_world_object.specs.Cells.{AreDistinct, Key, cell_at, is_named, key_of};
-ghost use Rattle.moo_world_table.specs.World.{has_twice, nothing, thing_of};
-ghost use Rattle.moo_world_table.specs.Properties.{value_in, value_at};
+ghost use Rattle.moo_world_object.specs.Cells.{Key, is_key, is_named, key_of};
+ghost use Rattle.moo_world_table.specs.World.{has_twice, IsStocked};
+ghost use Rattle.moo_world_table.specs.Properties.{value_at, distance_of, cell_from_end, value_from_end, value_from_end_at};
 
+use crate::properties::cells_in;
 use moo_syntax_ast::Text;
 use moo_value::Value;
-use moo_world_object::{Object, PropCell, cell_at, note_place, place_known, place_named_as};
+use moo_world_object::{Object, PropCell, note_place, place_known, place_named_as};
 use moo_world_tree::Forest;
 
 /// Returns the place of the cell of a name. No two cells may have one name.
@@ -39,7 +40,8 @@ fn place_searched(cells: &[PropCell], name: &Text) -> Option<usize>
     Some(place)
 }
 
-/// Returns the value for a definition that is nearest to `x` on its way up.
+/// Returns the value for a definition that is nearest to `x` on its way up. It looks up the name on `x` alone: the cells
+/// of the ancestors for this definition are at the same distance from the ends of their rows.
 pub fn nearest_written<'a>(
     objects: &'a [Option<Object>],
     parents: &Forest,
@@ -49,11 +51,72 @@ pub fn nearest_written<'a>(
 ) -> Option<&'a Value>
     requires many { length objects.now ≡ length parents.now }
     requires first { x < length objects.now }
-    requires distinct { (y : ℕ) → AreDistinct (thing_of objects.now y).cells }
+    requires stocked { IsStocked objects.now parents.now }
     ensures { option_map tree (option_copied result) ≡ slice_get (filter_map (value_at objects.now (definer, folded name.now)) (x ∷ ancestors parents.now x)) 0 }
 {
+    parents.is_forest();
+    let distance = distance_of(cells_in(&objects[x]), definer, name);
+    nearest_from_end(objects, parents, x, distance)
+}
+
+// Returns the distance of the cell for a definition from the end of the row, or 0 if there is none.
+#[inline(always)]
+fn distance_of(cells: &[PropCell], definer: usize, name: &Text) -> usize
+    requires { has_twice (map (λ (k : Key). k.1) (map key_of cells.now)) ≡ false }
+    ensures { result ≡ distance_of (definer, folded name.now) cells.now }
+{
+    match place_of(cells, definer, name) {
+        Some(place) => cells.len().saturating_sub(place),
+        None => 0,
+    }
+}
+
+// Returns the place of the cell for a definition.
+#[inline(always)]
+fn place_of(cells: &[PropCell], definer: usize, name: &Text) -> Option<usize>
+    requires { has_twice (map (λ (k : Key). k.1) (map key_of cells.now)) ≡ false }
+    ensures { result ≡ position (is_key (definer, folded name.now)) cells.now }
+{
+    match place_noted(cells, definer, name) {
+        Some(place) => Some(place),
+        None => place_for(cells, definer, name.string().as_bytes()),
+    }
+}
+
+// Returns the place of the cell for a definition, if the hint at its name leads to it.
+#[inline(always)]
+fn place_noted(cells: &[PropCell], definer: usize, name: &Text) -> Option<usize>
+    requires { has_twice (map (λ (k : Key). k.1) (map key_of cells.now)) ≡ false }
+    ensures { IfSome result (λ place. position (is_key (definer, folded name.now)) cells.now ≡ Some place) }
+{
+    let place = place_known(cells, name)?;
+    if cells[place].definer() == definer {
+        Some(place)
+    } else {
+        None
+    }
+}
+
+#[inline(never)]
+fn place_for(cells: &[PropCell], definer: usize, name: &[u8]) -> Option<usize>
+    ensures { result ≡ position (is_key (definer, folded name.now)) cells.now }
+{
+    cells.iter().position(|cell| cell.is_for(definer, name))
+}
+
+// Returns the nearest value on the way up from `x`, of the cells at one distance from the ends of their rows.
+fn nearest_from_end<'a>(
+    objects: &'a [Option<Object>],
+    parents: &Forest,
+    x: usize,
+    distance: usize,
+) -> Option<&'a Value>
+    requires many { length objects.now ≡ length parents.now }
+    requires first { x < length objects.now }
+    ensures { option_map tree (option_copied result) ≡ slice_get (filter_map (value_from_end_at objects.now distance) (x ∷ ancestors parents.now x)) 0 }
+{
     let mut at = x;
-    if let Some(value) = value_written(&objects[x], definer, name) {
+    if let Some(value) = value_from_end(&objects[x], distance) {
         return Some(value);
     }
     for _ in 0..objects.len() {
@@ -61,48 +124,26 @@ pub fn nearest_written<'a>(
             Some(up) => at = up,
             None => return None,
         }
-        if let Some(value) = value_written(&objects[at], definer, name) {
+        if let Some(value) = value_from_end(&objects[at], distance) {
             return Some(value);
         }
     }
     None
 }
 
-// Returns the value of the cell for a definition.
+// Returns the value of the cell at a distance from the end of an object's row.
 #[inline(always)]
-fn value_written<'a>(slot: &'a Option<Object>, definer: usize, name: &Text) -> Option<&'a Value>
-    requires { AreDistinct (unwrap_or slot.now nothing).cells }
-    ensures { option_map tree (option_copied result) ≡ value_in slot.now (definer, folded name.now) }
+fn value_from_end(slot: &Option<Object>, distance: usize) -> Option<&Value>
+    ensures { option_map tree (option_copied result) ≡ value_from_end distance slot.now }
 {
-    match slot {
-        Some(object) => cell_written(object.cells(), definer, name)?.value(),
-        None => None,
-    }
+    cell_from_end(cells_in(slot), distance)?.value()
 }
 
-// Returns the cell for a definition.
+// Returns the cell at a distance from the end of a row.
 #[inline(always)]
-fn cell_written<'a>(cells: &'a [PropCell], definer: usize, name: &Text) -> Option<&'a PropCell>
-    requires { AreDistinct cells.now }
-    ensures { option_copied result ≡ cell_at cells.now (definer, folded name.now) }
+fn cell_from_end(cells: &[PropCell], distance: usize) -> Option<&PropCell>
+    ensures { option_copied result ≡ cell_from_end distance cells.now }
 {
-    match cell_known(cells, definer, name) {
-        Some(cell) => Some(cell),
-        None => cell_at(cells, definer, name.string().as_bytes()),
-    }
-}
-
-// Returns the cell for a definition, if the hint at its name leads to it.
-#[inline(always)]
-fn cell_known<'a>(cells: &'a [PropCell], definer: usize, name: &Text) -> Option<&'a PropCell>
-    requires { AreDistinct cells.now }
-    ensures { IfSome result (λ c. cell_at cells.now (definer, folded name.now) ≡ Some c.now) }
-{
-    let place = place_known(cells, name)?;
-    let cell = &cells[place];
-    if cell.definer() == definer {
-        Some(cell)
-    } else {
-        None
-    }
+    let place = cells.len().checked_sub(distance)?;
+    cells.get(place)
 }

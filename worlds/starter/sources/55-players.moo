@@ -77,7 +77,11 @@ elseif (argstr)
   this.pagelength = n;
 endif
 n = verb == "@linelength" ? this.linelength | this.pagelength;
-player:tell(verb == "@linelength" ? "Lines are broken at " | "Pages end after ", n ? tostr(n, verb == "@linelength" ? " characters." | " lines.") | "no line.");
+if (verb == "@linelength")
+  player:tell(n == 20000 ? "Your lines aren't broken." | tostr("Lines are broken at ", n, " characters."));
+else
+  player:tell(n ? tostr("Pages end after ", n, " lines.") | "Your texts come whole, however long they are.");
+endif
 .
 
 // May this one speak, to WHO (or to all)? Else it reads why not. KIND is what WHO may refuse.
@@ -232,8 +236,17 @@ names = $string:names(player.contents);
 player:tell_lines(names ? $string:flow("You carry:", names) | {"You carry nothing."});
 .
 
+// @who, or @who NAME NAME
 @program $player:"@who who" any any any rd
-$login:who(player);
+names = args[1..min(20, length(args))];
+people = {};
+for n in (names)
+  o = $match:player(n);
+  people = $match:found_player(o, n, player) ? setadd(people, o) | people;
+endfor
+if (people || !names)
+  $login:who(player, people);
+endif
 .
 
 @program $player:eval any any any rd
@@ -261,14 +274,14 @@ text = $string:trim(argstr[i..$]);
 o = $match:player(args[1]);
 if (!$match:found_player(o, args[1], player) || !player:may_speak(o, "pages"))
   return;
-elseif (!(o in connected_players()))
+elseif ((idle = `idle_seconds(o) ! E_INVARG => -1') < 0)
   player:tell(o.name, " isn't connected.", $isa(player, $builder) && $isa(o, $builder) ? tostr(" To leave a letter:  @send ", o.name, " ", text[1..min(30, length(text))], length(text) > 30 ? ".." | "") | "");
 else
   here = player.location;
   notify(o, tostr(player.name, " pages you", valid(here) ? " from " + here.name | "", ": ", text));
   player:tell("You page ", o.name, ".");
-  if (idle_seconds(o) >= 300)
-    player:tell(o.name, " has been idle for ", $time:span(idle_seconds(o)), ".");
+  if (idle >= 300)
+    player:tell(o.name, " has been idle for ", $time:span(idle), ".");
   endif
 endif
 .

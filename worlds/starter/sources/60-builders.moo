@@ -67,7 +67,7 @@ endif
 if (is_player(o))
   $match:enter(o);
 endif
-player:tell("It is called ", $string:join(names, ", "), " (", o, ") now.");
+player:tell(o == player ? "You are" | "It is", " called ", $string:join(names, ", "), " (", o, ") now.");
 .
 
 // @create PARENT named NAME,OTHER NAME
@@ -138,9 +138,20 @@ q = `this.ownership_quota ! ANY => 0';
 return typeof(q) == INT ? tostr("You can make ", q, " more.") | "";
 .
 
-@program $builder:@quota none none none rd
-if (player == this)
+// @quota, @quota NAME
+@program $builder:@quota any any any rd
+if (player != this)
+  return;
+elseif (!argstr)
   player:tell(this:quota_text());
+  return;
+elseif (prepstr == "is")
+  player:tell("A wizard types  @newquota NAME is N.");
+  return;
+endif
+o = $match:player(argstr);
+if ($match:found_player(o, argstr, player))
+  player:tell(o.name, " can make ", `o.ownership_quota ! ANY => 0', " more.");
 endif
 .
 
@@ -471,7 +482,9 @@ endif
 here = player.location;
 if (!valid(here) || !$controls(player, here))
   player:tell("This place isn't yours.");
-elseif (!valid(dobj) || dobj.location != here || dobj == player)
+elseif (!$match:found(dobj, dobjstr, player))
+  return;
+elseif (dobj.location != here || dobj == player)
   player:tell("Eject whom, or what?");
 elseif (dobj.wizard)
   player:tell("Not a wizard.");

@@ -29,8 +29,8 @@ pub fn a_chosen_run_may_be()
     crate::laws::sessions::chosen_faults_may_be_told();
 }
 
-/// Proves that how a connection's bytes are cut into events changes nothing but marks. Two events in a row with bytes of one
-/// connection do what one event with all these bytes does, unless a checkpoint begins after the first.
+/// Proves that how a connection's bytes are cut into events changes nothing but marks. Any number of events in a row with bytes
+/// of one connection do what one event with all these bytes does, unless a checkpoint begins after one of them but the last.
 #[tactic(none)]
 pub fn cutting_changes_only_marks()
     ensures { CuttingChangesOnlyMarks }

@@ -2,4 +2,4 @@ use Rattle.moo_checkpoint.proofs.TurnLemmas.{fresh_continues}
 use Rattle.moo_checkpoint.proofs.laws.a_fresh_checkpoint_takes_any_disk.Goals as goal
 
 pub returns : goal.returns
-returns g c checkpoint disk fresh = fresh_continues g.D.Disk.view g.D.Disk.honest g.D.Disk.stands checkpoint disk fresh
+returns g c checkpoint disk fresh = fresh_continues g.D.Disk.kind checkpoint disk fresh

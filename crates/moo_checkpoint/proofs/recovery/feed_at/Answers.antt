@@ -7,7 +7,7 @@ use Rattle.moo_checkpoint.proofs.recovery.feed_at.Goals as goal
 
 pub returns-in_err-feed-clause-told : goal.returns-in_err-feed-clause-told
 returns-in_err-feed-clause-told g c = λ honest fed.
-    let text = (g.D.Disk.view c.args.disk.now).main_text in
+    let text = (g.D.Disk.kind.view c.args.disk.now).main_text in
     let at = c.args.at in
     let count = c.in_ok-count.count in
     let front = front_then text c.read_at.new.buffer at count (c.in_ok-count.ensures.read honest) in
@@ -17,7 +17,7 @@ returns-in_err-feed-clause-told g c = λ honest fed.
 
 pub returns-clause-fed : goal.returns-clause-fed
 returns-clause-fed g c = λ honest fed.
-    let text = (g.D.Disk.view c.args.disk.now).main_text in
+    let text = (g.D.Disk.kind.view c.args.disk.now).main_text in
     let at = c.args.at in
     let front = front_then text c.read_at.new.buffer at c.in_ok-count.count (c.in_ok-count.ensures.read honest) in
     rw c.in_ok-after.ensures.place.0 (subst (λ (b : List ℕ). HasFed c.feed.new.self b) front (c.in_ok-feed.ensures.taken (take at text) fed))

@@ -1,6 +1,7 @@
 use Rattle.std.proofs.Common.{◌<◌, ◌^◌, ℕ, Option, IfSome, Some, None, arith, sym, subst, refl, ◌∙◌}
 use Rattle.std.proofs.lemmas.Result.{err_from_is_err_and}
 use Rattle.std.specs.List.{length_refill}
+use Rattle.moo_disk.specs.Disk.{no_call, one_more}
 use Rattle.moo_checkpoint.proofs.Answered.{counts_on, fed_on, fed_to, keeps_still, keeps_then, tells_on}
 use Rattle.moo_checkpoint.proofs.recovery.feed_main.Goals as goal
 
@@ -10,15 +11,16 @@ loop-buffer-init g c = record {
   buffer = sym c.in_ok-buffer.buffer.ok.0 ∙ c.in_ok-buffer.ensures.len;
   fed = λ honest h. h;
   count = refl;
-  keeps = keeps_still g.D.Disk.view g.D.Disk.honest g.D.Disk.stands c.args.disk.now;
+  keeps = keeps_still g.D.Disk.kind c.args.disk.now;
+  reads = no_call c.args.disk.now;
 }
 
 pub returns-in_err-after-clause-told : goal.returns-in_err-after-clause-told
 returns-in_err-after-clause-told g c = λ honest fed.
     let i = c.loop-buffer.invariant in
     let same = (i.keeps.main honest).text in
-    let old = (g.D.Disk.view c.args.disk.now).main_text in
-    let mid = (g.D.Disk.view c.loop-buffer.disk).main_text in
+    let old = (g.D.Disk.kind.view c.args.disk.now).main_text in
+    let mid = (g.D.Disk.kind.view c.loop-buffer.disk).main_text in
     let p = err_from_is_err_and c.from_residual-in_err-after.result c.from_residual-in_err-after.ensures.1 in
     rw (p.1, p.2) (tells_on old mid c.in_err-after.field-0.0 same (c.in_err-after.ensures.told (i.keeps.honest.0 honest) (fed_on c.loop-buffer.reader old mid c.loop-buffer.at same (i.fed honest fed))))
 
@@ -26,16 +28,19 @@ pub returns-in_err-after-clause-device : goal.returns-in_err-after-clause-device
 returns-in_err-after-clause-device g c =
     let i = c.loop-buffer.invariant in
     let p = err_from_is_err_and c.from_residual-in_err-after.result c.from_residual-in_err-after.ensures.1 in
-    rw (p.1, p.2) (counts_on (g.D.Disk.honest c.args.disk.now) (g.D.Disk.honest c.loop-buffer.disk) (g.D.Disk.failures c.args.disk.now) (g.D.Disk.failures c.loop-buffer.disk) (g.D.Disk.failures c.feed_at.new.disk) c.in_err-after.field-0.0 i.keeps.honest.0 i.count c.in_err-after.ensures.device)
+    rw (p.1, p.2) (counts_on (g.D.Disk.kind.honest c.args.disk.now) (g.D.Disk.kind.honest c.loop-buffer.disk) (g.D.Disk.kind.failures c.args.disk.now) (g.D.Disk.kind.failures c.loop-buffer.disk) (g.D.Disk.kind.failures c.feed_at.new.disk) c.in_err-after.field-0.0 i.keeps.honest.0 i.count c.in_err-after.ensures.device)
 
 pub returns-in_err-after-clause-keeps : goal.returns-in_err-after-clause-keeps
-returns-in_err-after-clause-keeps g c = keeps_then g.D.Disk.view g.D.Disk.honest g.D.Disk.stands c.args.disk.now c.loop-buffer.disk c.feed_at.new.disk c.loop-buffer.invariant.keeps c.in_err-after.ensures.keeps
+returns-in_err-after-clause-keeps g c = keeps_then g.D.Disk.kind c.args.disk.now c.loop-buffer.disk c.feed_at.new.disk c.loop-buffer.invariant.keeps c.in_err-after.ensures.keeps
+
+pub returns-in_err-after-clause-reads : goal.returns-in_err-after-clause-reads
+returns-in_err-after-clause-reads g c = one_more c.args.disk.now c.loop-buffer.disk c.feed_at.new.disk c.loop-buffer.invariant.reads c.feed_at.ensures.made
 
 pub loop-buffer-preserved : goal.loop-buffer-preserved
 loop-buffer-preserved g c =
     let i = c.loop-buffer.invariant in
-    let old = (g.D.Disk.view c.args.disk.now).main_text in
-    let mid = (g.D.Disk.view c.loop-buffer.disk).main_text in
+    let old = (g.D.Disk.kind.view c.args.disk.now).main_text in
+    let mid = (g.D.Disk.kind.view c.loop-buffer.disk).main_text in
     record {
       place = let h = subst (λ (o : Option ℕ). IfSome o (λ (after : ℕ). (c.loop-buffer.at < after) × (after < 2 ^ 63))) c.in-Some.is c.in_ok-after.ensures.place in h.1;
       buffer = sym (length_refill c.loop-buffer.buffer.len c.loop-buffer.buffer.items c.feed_at.new.buffer c.loop-buffer.buffer.ok.0) ∙ c.loop-buffer.buffer.ok.0 ∙ i.buffer;
@@ -43,16 +48,20 @@ loop-buffer-preserved g c =
           let same = (i.keeps.main honest).text in
           fed_to c.feed_at.new.reader old mid c.in_ok-after.field-0 (Some c.in-Some.after) same c.in-Some.is (c.in_ok-after.ensures.fed (i.keeps.honest.0 honest) (fed_on c.loop-buffer.reader old mid c.loop-buffer.at same (i.fed honest fed)));
       count = c.in_ok-after.ensures.device ∙ i.count;
-      keeps = keeps_then g.D.Disk.view g.D.Disk.honest g.D.Disk.stands c.args.disk.now c.loop-buffer.disk c.feed_at.new.disk i.keeps c.in_ok-after.ensures.keeps;
+      keeps = keeps_then g.D.Disk.kind c.args.disk.now c.loop-buffer.disk c.feed_at.new.disk i.keeps c.in_ok-after.ensures.keeps;
+      reads = one_more c.args.disk.now c.loop-buffer.disk c.feed_at.new.disk i.reads c.feed_at.ensures.made;
     }
 
 pub returns-clause-fed : goal.returns-clause-fed
 returns-clause-fed g c = λ honest fed.
     let i = c.loop-buffer.invariant in
     let same = (i.keeps.main honest).text in
-    let old = (g.D.Disk.view c.args.disk.now).main_text in
-    let mid = (g.D.Disk.view c.loop-buffer.disk).main_text in
+    let old = (g.D.Disk.kind.view c.args.disk.now).main_text in
+    let mid = (g.D.Disk.kind.view c.loop-buffer.disk).main_text in
     fed_to c.feed_at.new.reader old mid c.in_ok-after.field-0 None same c.in_default.is (c.in_ok-after.ensures.fed (i.keeps.honest.0 honest) (fed_on c.loop-buffer.reader old mid c.loop-buffer.at same (i.fed honest fed)))
 
 pub returns-clause-keeps : goal.returns-clause-keeps
-returns-clause-keeps g c = keeps_then g.D.Disk.view g.D.Disk.honest g.D.Disk.stands c.args.disk.now c.loop-buffer.disk c.feed_at.new.disk c.loop-buffer.invariant.keeps c.in_ok-after.ensures.keeps
+returns-clause-keeps g c = keeps_then g.D.Disk.kind c.args.disk.now c.loop-buffer.disk c.feed_at.new.disk c.loop-buffer.invariant.keeps c.in_ok-after.ensures.keeps
+
+pub returns-clause-reads : goal.returns-clause-reads
+returns-clause-reads g c = one_more c.args.disk.now c.loop-buffer.disk c.feed_at.new.disk c.loop-buffer.invariant.reads c.feed_at.ensures.made

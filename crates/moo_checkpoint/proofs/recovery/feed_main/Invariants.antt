@@ -1,5 +1,6 @@
 use Rattle.std.proofs.Common.{◌≡◌, ℕ, ◌-◌, ◌<◌, ◌^◌, [], length, take}
 use Rattle.moo_dbtext_read.specs.Feeding.{HasFed}
+use Rattle.moo_disk.specs.Disk.{OnlyReads}
 use Rattle.moo_checkpoint.specs.Recovering.{Keeps}
 use Rattle.moo_checkpoint.proofs.recovery.feed_main.Given as goal
 
@@ -7,9 +8,10 @@ abbrev pub invariant-loop-buffer : goal.invariant-loop-buffer
 invariant-loop-buffer g l = record {
   place : l.at < 2 ^ 63;
   buffer : length l.buffer.items ≡ 65536;
-  fed : g.D.Disk.honest l.fn.disk → HasFed l.fn.reader [] → HasFed l.reader (take l.at (g.D.Disk.view l.fn.disk).main_text);
-  count : g.D.Disk.failures l.disk ≡ g.D.Disk.failures l.fn.disk;
-  keeps : Keeps g.D.Disk.view g.D.Disk.honest g.D.Disk.stands l.fn.disk l.disk;
+  fed : g.D.Disk.kind.honest l.fn.disk → HasFed l.fn.reader [] → HasFed l.reader (take l.at (g.D.Disk.kind.view l.fn.disk).main_text);
+  count : g.D.Disk.kind.failures l.disk ≡ g.D.Disk.kind.failures l.fn.disk;
+  keeps : Keeps g.D.Disk.kind l.fn.disk l.disk;
+  reads : OnlyReads g.D.Disk.kind l.fn.disk l.disk;
 }
 
 abbrev pub decreases-loop-buffer : goal.decreases-loop-buffer

@@ -12,4 +12,5 @@ returns-in-Err-clause-refused g c = record {
   device = c.in-Err.ensures.device;
   main = c.in-Err.ensures.main;
   spare = c.in-Err.ensures.spare;
+  reads = c.open.ensures.reads;
 }

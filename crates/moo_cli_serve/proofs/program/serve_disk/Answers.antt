@@ -15,7 +15,7 @@ returns-in_err-address-clause-ended g c =
       end = s;
       begun = c.in_ok-serving.ensures.begun;
       breaks = inl (c.in_err-address.ensures, refl);
-      course = ([], course_none g.S.Application.layer g.D.Disk.view g.D.Disk.honest s.server s.disk);
+      course = ([], course_none g.S.Application.layer g.D.Disk.kind s.server s.disk);
     }))
 
 pub returns-in_err-tell_address-clause-ended : goal.returns-in_err-tell_address-clause-ended
@@ -26,7 +26,7 @@ returns-in_err-tell_address-clause-ended g c =
       end = s;
       begun = c.in_ok-serving.ensures.begun;
       breaks = inl (c.in_err-tell_address.ensures, refl);
-      course = ([], course_none g.S.Application.layer g.D.Disk.view g.D.Disk.honest s.server s.disk);
+      course = ([], course_none g.S.Application.layer g.D.Disk.kind s.server s.disk);
     }))
 
 pub returns-in_err-serve-clause-ended : goal.returns-in_err-serve-clause-ended

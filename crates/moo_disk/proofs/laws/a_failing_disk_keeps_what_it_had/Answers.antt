@@ -6,18 +6,18 @@ use Rattle.moo_disk.proofs.laws.a_failing_disk_keeps_what_it_had.Goals as goal
 
 pub returns-clause-main : goal.returns-clause-main
 returns-clause-main g c = λ old new same.
-    subst (λ d. KeepsMain (g.D.Disk.view (inner_of old)) (g.D.Disk.view d)) (sym same)
-    (record { text = refl; crash = gains_none NoText (g.D.Disk.view (inner_of old)) })
+    subst (λ d. KeepsMain (g.D.Disk.kind.view (inner_of old)) (g.D.Disk.kind.view d)) (sym same)
+    (record { text = refl; crash = gains_none NoText (g.D.Disk.kind.view (inner_of old)) })
 
 pub returns-clause-spare : goal.returns-clause-spare
 returns-clause-spare g c = λ old new same.
-    subst (λ d. KeepsSpare (g.D.Disk.view (inner_of old)) (g.D.Disk.view d)) (sym same)
+    subst (λ d. KeepsSpare (g.D.Disk.kind.view (inner_of old)) (g.D.Disk.kind.view d)) (sym same)
     (record { text = refl; stable = λ is. is })
 
 pub returns-clause-honest : goal.returns-clause-honest
 returns-clause-honest g c = λ old new same.
-    (λ is. subst g.D.Disk.honest (sym same) is, λ is. subst g.D.Disk.honest same is)
+    (λ is. subst g.D.Disk.kind.honest (sym same) is, λ is. subst g.D.Disk.kind.honest same is)
 
 pub returns-clause-stands : goal.returns-clause-stands
 returns-clause-stands g c = λ old new same.
-    (λ is. subst g.D.Disk.stands (sym same) is, λ is. subst g.D.Disk.stands same is)
+    (λ is. subst g.D.Disk.kind.stands (sym same) is, λ is. subst g.D.Disk.kind.stands same is)

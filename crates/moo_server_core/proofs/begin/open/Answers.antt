@@ -8,7 +8,7 @@ use Rattle.moo_server_core.proofs.begin.open.Goals as goal
 pub returns-in_err-saved-clause-accepted : goal.returns-in_err-saved-clause-accepted
 returns-in_err-saved-clause-accepted g c = λ honest s spells.
     let p = err_from_is_err_and c.from_residual.result c.from_residual.ensures.1 in
-    rw (p.1, p.2) (c.in_err-saved.ensures.within honest s ((g.met.S.StartApplication.spells_is (g.D.Disk.view c.args.disk.now).main_text s).0 spells))
+    rw (p.1, p.2) (c.in_err-saved.ensures.within honest s ((g.met.S.StartApplication.spells_is (g.D.Disk.kind.view c.args.disk.now).main_text s).0 spells))
 
 pub returns-clause-opened : goal.returns-clause-opened
 returns-clause-opened g c = record {
@@ -17,13 +17,14 @@ returns-clause-opened g c = record {
     alive = c.in_ok-server.ensures.alive;
     no_checkpoint = c.in_ok-server.ensures.no_checkpoint;
     begins = c.in_ok-server.ensures.begins;
-    only = λ honest s spells. sym (c.in_ok-saved.ensures.within honest s ((g.met.S.StartApplication.spells_is (g.D.Disk.view c.args.disk.now).main_text s).0 spells));
+    only = λ honest s spells. sym (c.in_ok-saved.ensures.within honest s ((g.met.S.StartApplication.spells_is (g.D.Disk.kind.view c.args.disk.now).main_text s).0 spells));
     main = c.recover.ensures.main;
+    reads = c.recover.ensures.reads;
     honest_still = c.recover.ensures.honest.0;
   };
   text_is = c.in_ok-text.ensures.canonical ∙ sym (g.met.S.StartApplication.text_is (saved_of c.in_ok-saved.saved));
   follows = record {
     still = c.in_ok-server.ensures.still;
-    continues = subst (λ (w : Option Open). OpenFollows g.D.Disk.view g.D.Disk.honest g.D.Disk.stands w c.recover.new.disk) (sym c.in_ok-server.ensures.no_checkpoint) tt;
+    continues = subst (λ (w : Option Open). OpenFollows g.D.Disk.kind w c.recover.new.disk) (sym c.in_ok-server.ensures.no_checkpoint) tt;
   };
 }

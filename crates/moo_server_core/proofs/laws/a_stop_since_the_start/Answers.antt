@@ -1,10 +1,10 @@
-use Rattle.moo_server_core.specs.Calls.{One, lent_honest, lent_view}
+use Rattle.moo_server_core.specs.Calls.{One, lent}
 use Rattle.moo_server_core.proofs.Calling.{since_open, chain_of}
 use Rattle.moo_server_core.proofs.laws.a_stop_since_the_start.Goals as goal
 
 pub returns : goal.returns
 returns g c start end first opened last calls entries saved moment h opening chain =
-    since_open g.S.Application.layer (lent_view g.D.Disk.view g.E.Disk.view) (lent_honest g.D.Disk.honest g.E.Disk.honest) start end (g.D.Disk.view first) (One opened) last calls entries
+    since_open g.S.Application.layer (lent g.D.Disk.kind g.E.Disk.kind) start end (g.D.Disk.kind.view first) (One opened) last calls entries
     opening.no_checkpoint (opening.main h) (opening.honest_still h)
     (λ f left. g.met.D.Disk.only_now first f h left)
-    (chain_of g.S.Application.layer g.D.Disk.view g.D.Disk.honest g.E.Disk.view g.E.Disk.honest calls start end (One opened) last entries chain)
+    (chain_of g.S.Application.layer g.D.Disk.kind g.E.Disk.kind calls start end (One opened) last entries chain)

@@ -6,5 +6,5 @@ use Rattle.moo_server_core.proofs.laws.output_may_be_taken.Goals as goal
 pub returns : goal.returns
 returns g c one other disk same follows = record {
   still = same.under_way follows.still;
-  continues = subst (λ (w : Option Open). OpenFollows g.D.Disk.view g.D.Disk.honest g.D.Disk.stands w disk) (sym same.writing) follows.continues;
+  continues = subst (λ (w : Option Open). OpenFollows g.D.Disk.kind w disk) (sym same.writing) follows.continues;
 }

@@ -2,7 +2,7 @@ use Rattle.std.proofs.Common.{◌≢◌, List, refl, sym, subst}
 use Rattle.std.specs.Prelude.{All}
 use Rattle.moo_server_core.specs.Seen.{Flush, seen}
 use Rattle.moo_server_core.specs.declared.event.Event as given
-use Rattle.moo_server_core.specs.Server.{Runs, entries_of}
+use Rattle.moo_server_core.specs.Server.{Runs, entries_of, with_disk}
 use Rattle.moo_server_core.proofs.Living.{ran_all}
 use Rattle.moo_server_core.proofs.lives.live.Goals as goal
 
@@ -11,11 +11,11 @@ returns-in-Ok-clause-lived g c =
     let l = g.S.Application.layer in
     let o = c.in-Ok.ensures.opened in
     let events = c.args.life.now.events.items in
-    let runs = subst (λ (es : List given.Event). Runs l g.D.Disk.view g.D.Disk.honest g.D.Disk.failures c.in-Ok.server c.run.new.self c.open.new.disk c.run.new.disk es c.run.result)
+    let runs = subst (λ (es : List given.Event). Runs l g.D.Disk.kind (with_disk c.in-Ok.server c.open.new.disk) (with_disk c.run.new.self c.run.new.disk) es c.run.result)
     c.deref.ensures.value c.run.ensures.ran in
     record {
       run = record {
-        main = (g.D.Disk.view c.args.disk.now).main_text;
+        main = (g.D.Disk.kind.view c.args.disk.now).main_text;
         saved = o.saved;
         moment = c.args.life.now.moment;
         events = events;
@@ -45,4 +45,4 @@ returns-in-Ok-clause-lived g c =
     }
 
 pub returns-in-Err-clause-met : goal.returns-in-Err-clause-met
-returns-in-Err-clause-met g c = record { sound = c.in-Err.ensures.accepted; device = c.in-Err.ensures.device; main = c.open.ensures.main; spare = c.open.ensures.spare }
+returns-in-Err-clause-met g c = record { sound = c.in-Err.ensures.accepted; device = c.in-Err.ensures.device; main = c.open.ensures.main; spare = c.open.ensures.spare; reads = c.open.ensures.reads }

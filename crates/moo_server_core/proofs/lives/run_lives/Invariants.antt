@@ -6,6 +6,6 @@ use Rattle.moo_server_core.proofs.lives.run_lives.Given as goal
 
 abbrev pub invariant-loop-place : goal.invariant-loop-place
 invariant-loop-place g l =
-    g.D.Disk.honest l.fn.disk → (s : Saved) → g.S.Application.layer.meaning.Spells (g.D.Disk.view l.fn.disk).main_text s
-    → LeavesOnly (g.D.Disk.view l.fn.disk).main_text (g.D.Disk.view l.fn.disk)
-    → SoFar g.S.Application.layer g.D.Disk.view g.D.Disk.honest g.D.Disk.failures g.D.CrashDisk.images (take l.place l.lives) l.begins.items l.fn.disk l.disk
+    g.D.Disk.kind.honest l.fn.disk → (s : Saved) → g.S.Application.layer.meaning.Spells (g.D.Disk.kind.view l.fn.disk).main_text s
+    → LeavesOnly (g.D.Disk.kind.view l.fn.disk).main_text (g.D.Disk.kind.view l.fn.disk)
+    → SoFar g.S.Application.layer g.D.Disk.kind g.D.CrashDisk.images (take l.place l.lives) l.begins.items l.fn.disk l.disk

@@ -7,13 +7,13 @@ use Rattle.moo_server_core.proofs.lives.stop.Goals as goal
 pub returns-in-ServerOnly-clause-stopped : goal.returns-in-ServerOnly-clause-stopped
 returns-in-ServerOnly-clause-stopped g c = (
   refl,
-  subst (λ (s : LifeStop). IsStopped g.D.Disk.view g.D.Disk.honest g.D.CrashDisk.images s c.args.disk c.args.disk) (sym c.in-ServerOnly.is) refl,
+  subst (λ (s : LifeStop). IsStopped g.D.Disk.kind g.D.CrashDisk.images s c.args.disk c.args.disk) (sym c.in-ServerOnly.is) refl,
 )
 
 pub returns-in-Ok-clause-stopped : goal.returns-in-Ok-clause-stopped
 returns-in-Ok-clause-stopped g c = (
   refl,
-  subst (λ (s : LifeStop). IsStopped g.D.Disk.view g.D.Disk.honest g.D.CrashDisk.images s c.args.disk c.in-Ok.left) (sym c.in-Crash.is)
+  subst (λ (s : LifeStop). IsStopped g.D.Disk.kind g.D.CrashDisk.images s c.args.disk c.in-Ok.left) (sym c.in-Crash.is)
       (λ h. record { left = c.in-Ok.ensures.left h; image = c.in-Ok.ensures.image h; honest_still = c.in-Ok.ensures.honest.0 h }),
 )
 

@@ -1,11 +1,10 @@
-use Rattle.std.proofs.Common.{◌≡◌, ℕ, Some, sym, ◌∙◌, ap, subst, slice_get}
+use Rattle.std.proofs.Common.{◌≡◌, Some, sym, ◌∙◌, ap, subst, slice_get}
 use Rattle.std.specs.Option.{option_map, option_copied}
 use Rattle.moo_value.specs.Compare.{folded}
 use Rattle.moo_value.specs.View.{tree}
-use Rattle.moo_world_object.specs.Cells.{AreDistinct, Key, cell_named}
-use Rattle.moo_world_table.specs.World.{World, thing_of}
+use Rattle.moo_world_object.specs.Cells.{Key, cell_named}
+use Rattle.moo_world_table.specs.World.{World, IsStocked, thing_of}
 use Rattle.moo_world_table.specs.Properties.{read, values_above}
-use Rattle.moo_world_table.proofs.FittedRows.{cells_distinct}
 use Rattle.moo_world_table.proofs.Found.{named_definition, own_read}
 use Rattle.moo_world_table.proofs.ValueChanges.{nearest_read}
 use Rattle.moo_world.proofs.World.value_written.Goals as goal
@@ -26,7 +25,6 @@ returns-in-None c =
     (subst (λ os. option_map tree (option_copied c.nearest_written.result) ≡ slice_get (values_above os w.inheritance k c.args.x) 0) c.deref.ensures.value c.nearest_written.ensures)
     ∙ ap (λ v. read v c.args.x name) c.self.view_is
 
-pub nearest_written-requires-clause-distinct : goal.nearest_written-requires-clause-distinct
-nearest_written-requires-clause-distinct c =
-    let w : World = record { objects = c.self.inside.objects.items; inheritance = c.self.inside.inheritance; containment = c.self.inside.containment; players = c.self.inside.players.items } in
-    subst (λ os. (y : ℕ) → AreDistinct (thing_of os y).cells) (sym c.deref.ensures.value) (λ y. cells_distinct w c.self.invariant.formed y)
+pub nearest_written-requires-clause-stocked : goal.nearest_written-requires-clause-stocked
+nearest_written-requires-clause-stocked c =
+    subst (λ os. IsStocked os c.self.inside.inheritance) (sym c.deref.ensures.value) c.self.invariant.formed.stocked

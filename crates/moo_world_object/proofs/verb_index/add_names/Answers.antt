@@ -1,5 +1,5 @@
 use borrow.Author.Tests.{tests}
-use Rattle.std.proofs.Common.{rules, ◌≡◌, ◌∙◌, sym, length, arith, get_or, []}
+use Rattle.std.proofs.Common.{rules, refl, ◌≡◌, length, arith, get_or, []}
 use Rattle.std.proofs.lemmas.Iterator.Splits.{YieldsList-from_slice_split}
 use Rattle.std.proofs.lemmas.Iterator.Consumers.{YieldsList-turn, YieldsList-end}
 use Rattle.std.proofs.lemmas.List.{length_push}
@@ -10,13 +10,11 @@ use Rattle.moo_world_object.proofs.verb_index.add_names.Goals as goal
 
 pub loop-pattern-preserved : goal.loop-pattern-preserved
 loop-pattern-preserved c =
-    let road = YieldsList-from_slice_split _ is_blank c.args.names.now c.split-pattern-items.ensures.rest c.split-pattern-items.ensures.done c.split-pattern-items.ensures.closure (λ x b q k. search (rules, tests)) in
-    let t = YieldsList-turn road c.loop-pattern.yielded _ c.loop-pattern.yielded_by _ _ c.in-Some.pattern c.in-Some.is c.next.ensures.steps in
-    let closed = sym c.some_ends_in_star.ensures ∙ c.if-some_ends_in_star.false in
+    let t = YieldsList-turn (YieldsList-from_slice_split _ is_blank c.args.names.now (cc) (cc) refl (λ x b q k. search (rules, tests))) c.loop-pattern.yielded _ c.loop-pattern.yielded_by _ _ c.in-Some.pattern c.in-Some.is c.next.ensures.steps in
     record {
       grows = grows_more c.args.buckets.now c.loop-pattern.buckets c.add_pattern.new.buckets c.loop-pattern.invariant.grows c.add_pattern.ensures.grows;
       covers = λ k low. patterns_more c.loop-pattern.buckets c.add_pattern.new.buckets c.args.mask c.args.place (slice_split is_blank c.args.names.now) (length c.loop-pattern.yielded) c.in-Some.pattern.now
-          c.add_pattern.ensures.grows c.loop-pattern.invariant.covers t.0 t.1 closed c.in_ok-add_pattern.ensures.covers k (omega (arith, low, length_push c.loop-pattern.yielded c.in-Some.pattern));
+          c.add_pattern.ensures.grows c.loop-pattern.invariant.covers t.0 t.1 c.in_ok-add_pattern.ensures.covers k (omega (arith, low, length_push c.loop-pattern.yielded c.in-Some.pattern));
     }
 
 pub returns-in_err-add_pattern-clause-grows : goal.returns-in_err-add_pattern-clause-grows
@@ -24,6 +22,5 @@ returns-in_err-add_pattern-clause-grows c = grows_more c.args.buckets.now c.loop
 
 pub returns-clause-covers : goal.returns-clause-covers
 returns-clause-covers c =
-    let road = YieldsList-from_slice_split _ is_blank c.args.names.now c.split-pattern-items.ensures.rest c.split-pattern-items.ensures.done c.split-pattern-items.ensures.closure (λ x b q k. search (rules, tests)) in
-    let t = YieldsList-end road c.loop-pattern.yielded _ c.loop-pattern.yielded_by _ _ c.in-None.is c.next.ensures.steps in
+    let t = YieldsList-end (YieldsList-from_slice_split _ is_blank c.args.names.now (cc) (cc) refl (λ x b q k. search (rules, tests))) c.loop-pattern.yielded _ c.loop-pattern.yielded_by _ _ c.in-None.is c.next.ensures.steps in
     covers_patterns c.loop-pattern.buckets c.args.mask c.args.place c.args.names.now (λ k low. c.loop-pattern.invariant.covers k (omega (arith, low, t.1)))

@@ -1,21 +1,6 @@
-use Rattle.std.proofs.Common.{◌≡◌, ◌+◌, ◌≤◌, ℕ, length, take, ap, ◌∙◌, sym, subst, bit_and, arith}
-use Rattle.moo_world_object.specs.Patterns.{base, least}
-use Rattle.moo_world_object.specs.Index.{hash_of, Holds}
-use Rattle.moo_world_object.proofs.Index.{grows_more, prefixes_more, prefixes_cover, HoldsPrefixes}
+use Rattle.std.proofs.Common.{◌∙◌, sym}
+use Rattle.moo_world_object.proofs.Index.{star_test}
 use Rattle.moo_world_object.proofs.verb_index.add_pattern.Goals as goal
 
-pub loop-end-preserved : goal.loop-end-preserved
-loop-end-preserved c =
-    let letters = c.deref.ensures.value ∙ c.in_ok-base.ensures in
-    let hash : c.hash_of.result ≡ hash_of (take c.loop-end.end (base c.args.pattern.now)) = c.hash_of.ensures ∙ ap (λ ls. hash_of (take c.loop-end.end ls)) letters in
-    let here = subst (λ h. Holds c.add.new.buckets (bit_and h c.args.mask) c.args.place) hash c.add.ensures.holds in
-    record {
-      grows = grows_more c.args.buckets.now c.loop-end.buckets c.add.new.buckets c.loop-end.invariant.grows c.add.ensures.grows;
-      holds = prefixes_more c.loop-end.buckets c.add.new.buckets c.args.mask c.args.pattern.now c.args.place c.loop-end.end c.add.ensures.grows c.loop-end.invariant.holds here;
-    }
-
 pub returns-clause-covers : goal.returns-clause-covers
-returns-clause-covers c =
-    let many = ap length c.in_ok-base.ensures in
-    let all : HoldsPrefixes c.loop-end.buckets c.args.mask c.args.pattern.now c.args.place (length (base c.args.pattern.now) + 1) = λ n enough low. c.loop-end.invariant.holds n enough (omega (arith, low, many, c.len-end-end.ensures, c.in_ok-base.base.ok.0, c.loop-end-test.false)) in
-    prefixes_cover c.loop-end.buckets c.args.mask c.args.pattern.now c.args.place all
+returns-clause-covers c = c.in_ok-add_prefixes.ensures.covers (sym (star_test c.args.pattern.now c.ends_in_star.result c.ends_in_star.ensures) ∙ c.if-ends_in_star.false)

@@ -12,4 +12,10 @@ returns-in-Ok-clause-fits g c =
     record { follows = c.in-Ok.ensures.follows; alive = o.2.alive; moment_is = sym (ap (λ s. s.moment) o.2.begins.state_is); top_fits = omega arith }
 
 pub returns-in-Err-clause-refused : goal.returns-in-Err-clause-refused
-returns-in-Err-clause-refused g c = record { text = c.in-Err.ensures.refused tt; none = λ f is saved spells. c.in-Err.ensures.accepted tt saved spells f is }
+returns-in-Err-clause-refused g c = record {
+  text = c.in-Err.ensures.refused tt;
+  none = λ f is saved spells. c.in-Err.ensures.accepted tt saved spells f is;
+  left = c.open.new.disk;
+  reads = c.open.ensures.reads;
+  device = c.in-Err.ensures.device;
+}

@@ -5,7 +5,7 @@ use Rattle.moo_cli_serve.proofs.serving.Serving.open.Goals as goal
 
 pub returns-in_err-server-clause-refused : goal.returns-in_err-server-clause-refused
 returns-in_err-server-clause-refused g c =
-    let p = err_from_is_err_and c.from_residual.result c.from_residual.ensures.1 in rw (p.1, p.2) (not_started g.S.Application.layer g.D.Disk.view g.D.Disk.honest g.D.Disk.failures _ c.args.disk c.begin.new.disk c.in_err-server.ensures.refused)
+    let p = err_from_is_err_and c.from_residual.result c.from_residual.ensures.1 in rw (p.1, p.2) (not_started g.S.Application.layer g.D.Disk.kind _ c.args.disk c.begin.new.disk c.in_err-server.ensures.refused)
 
 pub returns-in_err-sockets-clause-refused : goal.returns-in_err-sockets-clause-refused
 returns-in_err-sockets-clause-refused g c = let p = err_from_is_err_and c.from_residual-in_err-sockets.result c.from_residual-in_err-sockets.ensures.1 in

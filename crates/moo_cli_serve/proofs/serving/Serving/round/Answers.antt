@@ -10,7 +10,7 @@ pub returns-then-is_closed-clause-follows : goal.returns-then-is_closed-clause-f
 returns-then-is_closed-clause-follows g c = record { still = c.requires.still; continues = c.requires.continues }
 
 pub returns-then-is_closed-clause-course : goal.returns-then-is_closed-clause-course
-returns-then-is_closed-clause-course g c = ([], course_none g.S.Application.layer g.D.Disk.view g.D.Disk.honest c.args.self.now.server c.args.self.now.disk)
+returns-then-is_closed-clause-course g c = ([], course_none g.S.Application.layer g.D.Disk.kind c.args.self.now.server c.args.self.now.disk)
 
 pub returns-then-is_closed-clause-round : goal.returns-then-is_closed-clause-round
 returns-then-is_closed-clause-round g c = let closed : IsClosed c.args.self.now.server = search rules in inl (closed, refl)
@@ -23,12 +23,12 @@ turn-turned-requires g c = record { still = c.requires.still; continues = c.requ
 
 pub returns-in_err-turned-clause-follows : goal.returns-in_err-turned-clause-follows
 returns-in_err-turned-clause-follows g c =
-    follows_end g.S.Application.layer g.D.Disk.view g.D.Disk.honest g.D.Disk.stands
+    follows_end g.S.Application.layer g.D.Disk.kind
     c.turn-turned.new.self.server c.log_lines.new.server c.turn-turned.new.self.disk c.in_err-turned.ensures.follows c.log_lines.ensures.handed
 
 pub returns-in_err-turned-clause-course : goal.returns-in_err-turned-clause-course
 returns-in_err-turned-clause-course g c =
-    course_end g.S.Application.layer g.D.Disk.view g.D.Disk.honest g.D.Disk.stands
+    course_end g.S.Application.layer g.D.Disk.kind
     c.args.self.now.server c.turn-turned.new.self.server c.log_lines.new.server c.args.self.now.disk c.turn-turned.new.self.disk c.in_err-turned.ensures.course c.log_lines.ensures.handed
 
 pub returns-in_err-turned-clause-round : goal.returns-in_err-turned-clause-round
@@ -39,12 +39,12 @@ returns-in_err-turned-clause-over g c = search rules
 
 pub returns-clause-follows : goal.returns-clause-follows
 returns-clause-follows g c =
-    follows_end g.S.Application.layer g.D.Disk.view g.D.Disk.honest g.D.Disk.stands
+    follows_end g.S.Application.layer g.D.Disk.kind
     c.turn-turned.new.self.server c.log_lines.new.server c.turn-turned.new.self.disk c.in_ok-turned.ensures.follows c.log_lines.ensures.handed
 
 pub returns-clause-course : goal.returns-clause-course
 returns-clause-course g c =
-    course_end g.S.Application.layer g.D.Disk.view g.D.Disk.honest g.D.Disk.stands
+    course_end g.S.Application.layer g.D.Disk.kind
     c.args.self.now.server c.turn-turned.new.self.server c.log_lines.new.server c.args.self.now.disk c.turn-turned.new.self.disk c.in_ok-turned.ensures.course c.log_lines.ensures.handed
 
 pub returns-clause-round : goal.returns-clause-round
@@ -65,7 +65,7 @@ pub returns-in_err-turned-clause-ended : goal.returns-in_err-turned-clause-ended
 returns-in_err-turned-clause-ended g c =
     let p = err_from_is_err_and c.from_residual.result c.from_residual.ensures.1 in
     rw (p.1, p.2)
-    (ends_hands g.S.Application.layer g.D.Disk.view g.D.Disk.honest g.D.Disk.failures _
+    (ends_hands g.S.Application.layer g.D.Disk.kind _
     c.args.self.now c.turn-turned.new.self c.log_lines.new.server c.log_lines.new.console c.in_err-turned.ensures.ended c.log_lines.ensures.handed)
 
 pub returns-clause-ended : goal.returns-clause-ended

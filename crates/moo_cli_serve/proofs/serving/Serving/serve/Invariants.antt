@@ -1,5 +1,5 @@
 use Rattle.std.proofs.Common.{◌≤◌, List}
-use Rattle.moo_server_core.specs.Server.{Follows}
+use Rattle.moo_server_core.specs.Server.{Follows, with_disk}
 use Rattle.moo_server_core.specs.declared.event.Event.{Event}
 use Rattle.moo_cli_serve.specs.Course.{Course}
 use Rattle.moo_cli_serve.specs.Service.{Makes}
@@ -7,8 +7,8 @@ use Rattle.moo_cli_serve.proofs.serving.Serving.serve.Given as goal
 
 abbrev pub invariant-loop-made : goal.invariant-loop-made
 invariant-loop-made g l = record {
-  follows : Follows g.S.Application.layer g.D.Disk.view g.D.Disk.honest g.D.Disk.stands l.self.server l.self.disk;
-  course : (events : List Event) × Course g.S.Application.layer g.D.Disk.view g.D.Disk.honest l.initial.self.server l.initial.self.disk events l.self.server l.self.disk;
-  makes : Makes g.S.Application.layer g.D.Disk.view g.D.Disk.honest l._made l.initial.self l.self;
+  follows : Follows g.S.Application.layer g.D.Disk.kind (with_disk l.self.server l.self.disk);
+  course : (events : List Event) × Course g.S.Application.layer g.D.Disk.kind l.initial.self.server l.initial.self.disk events l.self.server l.self.disk;
+  makes : Makes g.S.Application.layer g.D.Disk.kind l._made l.initial.self l.self;
   upto : l._made ≤ l.fn.rounds;
 }

@@ -14,7 +14,7 @@ pub returns-in_err-look-clause-follows : goal.returns-in_err-look-clause-follows
 returns-in_err-look-clause-follows g c = record { still = c.requires.still; continues = c.requires.continues }
 
 pub returns-in_err-look-clause-course : goal.returns-in_err-look-clause-course
-returns-in_err-look-clause-course g c = ([], course_none g.S.Application.layer g.D.Disk.view g.D.Disk.honest c.args.self.now.server c.args.self.now.disk)
+returns-in_err-look-clause-course g c = ([], course_none g.S.Application.layer g.D.Disk.kind c.args.self.now.server c.args.self.now.disk)
 
 pub returns-in_err-look-clause-round : goal.returns-in_err-look-clause-round
 returns-in_err-look-clause-round g c = search rules
@@ -23,7 +23,7 @@ pub returns-in_err-came-clause-follows : goal.returns-in_err-came-clause-follows
 returns-in_err-came-clause-follows g c = record { still = c.requires.still; continues = c.requires.continues }
 
 pub returns-in_err-came-clause-course : goal.returns-in_err-came-clause-course
-returns-in_err-came-clause-course g c = ([], course_none g.S.Application.layer g.D.Disk.view g.D.Disk.honest c.args.self.now.server c.args.self.now.disk)
+returns-in_err-came-clause-course g c = ([], course_none g.S.Application.layer g.D.Disk.kind c.args.self.now.server c.args.self.now.disk)
 
 pub returns-in_err-came-clause-round : goal.returns-in_err-came-clause-round
 returns-in_err-came-clause-round g c = search rules
@@ -49,12 +49,12 @@ write_all-requires g c settled =
 
 pub returns-in_err-parted-clause-follows : goal.returns-in_err-parted-clause-follows
 returns-in_err-parted-clause-follows g c =
-    follows_end g.S.Application.layer g.D.Disk.view g.D.Disk.honest g.D.Disk.stands
+    follows_end g.S.Application.layer g.D.Disk.kind
     c.give-given.new.server c.write_all.new.server c.give-given.new.disk c.in_ok-given.ensures.follows c.in_err-parted.ensures.handed
 
 pub returns-in_err-parted-clause-course : goal.returns-in_err-parted-clause-course
 returns-in_err-parted-clause-course g c =
-    course_end g.S.Application.layer g.D.Disk.view g.D.Disk.honest g.D.Disk.stands
+    course_end g.S.Application.layer g.D.Disk.kind
     c.args.self.now.server c.give-given.new.server c.write_all.new.server c.args.self.now.disk c.give-given.new.disk c.in_ok-given.ensures.course c.in_err-parted.ensures.handed
 
 pub returns-in_err-parted-clause-round : goal.returns-in_err-parted-clause-round
@@ -62,7 +62,7 @@ returns-in_err-parted-clause-round g c = search rules
 
 pub give_if_open-requires : goal.give_if_open-requires
 give_if_open-requires g c =
-    follows_end g.S.Application.layer g.D.Disk.view g.D.Disk.honest g.D.Disk.stands
+    follows_end g.S.Application.layer g.D.Disk.kind
     c.give-given.new.server c.write_all.new.server c.give-given.new.disk c.in_ok-given.ensures.follows c.in_ok-parted.ensures.handed
 
 pub returns-in_err-give_if_open-clause-follows : goal.returns-in_err-give_if_open-clause-follows
@@ -70,7 +70,7 @@ returns-in_err-give_if_open-clause-follows g c = c.in_err-give_if_open.ensures.f
 
 pub returns-in_err-give_if_open-clause-course : goal.returns-in_err-give_if_open-clause-course
 returns-in_err-give_if_open-clause-course g c =
-    course_round g.S.Application.layer g.D.Disk.view g.D.Disk.honest g.D.Disk.stands
+    course_round g.S.Application.layer g.D.Disk.kind
     c.args.self.now.server c.give-given.new.server c.write_all.new.server c.give_if_open.new.server c.args.self.now.disk c.give-given.new.disk c.give_if_open.new.disk
     c.in_ok-given.ensures.course c.in_ok-parted.ensures.handed c.in_err-give_if_open.ensures.course
 
@@ -82,7 +82,7 @@ returns-clause-follows g c = c.in_ok-give_if_open.ensures.follows
 
 pub returns-clause-course : goal.returns-clause-course
 returns-clause-course g c =
-    course_round g.S.Application.layer g.D.Disk.view g.D.Disk.honest g.D.Disk.stands
+    course_round g.S.Application.layer g.D.Disk.kind
     c.args.self.now.server c.give-given.new.server c.write_all.new.server c.give_if_open.new.server c.args.self.now.disk c.give-given.new.disk c.give_if_open.new.disk
     c.in_ok-given.ensures.course c.in_ok-parted.ensures.handed c.in_ok-give_if_open.ensures.course
 
@@ -94,13 +94,13 @@ returns-clause-round g c = record {
       (λ k. c.look.ensures k ∙ c.rest.ensures k) c.in_ok-came.ensures;
   given = c.give-given.new.server;
   between = c.give-given.new.disk;
-  gives = subst (λ (es : List Event). Given g.S.Application.layer g.D.Disk.view g.D.Disk.honest c.args.self.now.server c.args.self.now.disk es c.give-given.new.server c.give-given.new.disk)
+  gives = subst (λ (es : List Event). Given g.S.Application.layer g.D.Disk.kind c.args.self.now.server c.args.self.now.disk es c.give-given.new.server c.give-given.new.disk)
       c.deref.ensures.value c.in_ok-given.ensures.all;
   parted = c.in_ok-parted.parted.items;
   written = c.write_all.new.server;
   writes = c.in_ok-parted.ensures.written;
   handed = c.in_ok-parted.ensures.handed;
-  ends = subst (λ (es : List Event). GivenIfOpen g.S.Application.layer g.D.Disk.view g.D.Disk.honest c.write_all.new.server c.give-given.new.disk es c.give_if_open.new.server c.give_if_open.new.disk)
+  ends = subst (λ (es : List Event). GivenIfOpen g.S.Application.layer g.D.Disk.kind c.write_all.new.server c.give-given.new.disk es c.give_if_open.new.server c.give_if_open.new.disk)
       c.deref-2.ensures.value c.in_ok-give_if_open.ensures.all;
 }
 
@@ -138,7 +138,7 @@ returns-in_err-given-clause-ended g c =
       read = c.come.new.sockets.sockets;
       begins = begins_on c.args.self.now.sockets.sockets c.look.new.self.sockets c.come.new.sockets.sockets c.args.self.now.moment c.come.new.moment c.in_ok-came.came.items
           (λ k. c.look.ensures k ∙ c.rest.ensures k) c.in_ok-came.ensures;
-      refused = inl (refused_of g.S.Application.layer g.D.Disk.view g.D.Disk.honest g.D.Disk.failures _ _ c.in_ok-came.came.items
+      refused = inl (refused_of g.S.Application.layer g.D.Disk.kind _ _ c.in_ok-came.came.items
           c.args.self.now.server c.give-given.new.server c.args.self.now.disk c.give-given.new.disk c.deref.ensures.value c.in_err-given.ensures.refused);
     })
 
@@ -157,14 +157,14 @@ returns-in_err-give_if_open-clause-ended g c =
       refused = inr (record {
         given = c.give-given.new.server;
         between = c.give-given.new.disk;
-        gives = subst (λ (es : List Event). Given g.S.Application.layer g.D.Disk.view g.D.Disk.honest c.args.self.now.server c.args.self.now.disk es c.give-given.new.server c.give-given.new.disk)
+        gives = subst (λ (es : List Event). Given g.S.Application.layer g.D.Disk.kind c.args.self.now.server c.args.self.now.disk es c.give-given.new.server c.give-given.new.disk)
             c.deref.ensures.value c.in_ok-given.ensures.all;
         parted = c.in_ok-parted.parted.items;
         written = c.write_all.new.server;
         left = c.write_all.new.sockets.sockets;
         writes = c.in_ok-parted.ensures.written;
         handed = c.in_ok-parted.ensures.handed;
-        refused = refused_of g.S.Application.layer g.D.Disk.view g.D.Disk.honest g.D.Disk.failures _ _ c.in_ok-parted.parted.items
+        refused = refused_of g.S.Application.layer g.D.Disk.kind _ _ c.in_ok-parted.parted.items
             c.write_all.new.server c.give_if_open.new.server c.give-given.new.disk c.give_if_open.new.disk c.deref-2.ensures.value c.in_err-give_if_open.ensures.refused;
       });
     })

@@ -7,7 +7,7 @@ pub returns-in-Done-clause-turns : goal.returns-in-Done-clause-turns
 returns-in-Done-clause-turns g c =
     let was : c.args.self.now.writing ≡ Some c.in-Some.open = cc in
     on_ok_map c.report.result
-    (turns g.S.Application.layer g.D.Disk.view g.D.Disk.honest g.D.Disk.failures c.args.self.now c.report.new.self c.take.new.self c.in-Some.open c.args.disk.now c.turn.new.disk Done
+    (turns g.S.Application.layer g.D.Disk.kind c.args.self.now c.report.new.self c.take.new.self c.in-Some.open c.args.disk.now c.turn.new.disk Done
     was c.take.ensures.after c.report.ensures.writing (λ _ h. c.turn.ensures.done c.in-Done.is h) (λ _. c.turn.ensures.last c.in-Done.is) (c.turn.ensures.not_failed (λ is. absurd (cc (is, c.in-Done.is)))))
     c.report.ensures.reports
 
@@ -15,7 +15,7 @@ pub returns-in-Failed-clause-turns : goal.returns-in-Failed-clause-turns
 returns-in-Failed-clause-turns g c =
     let was : c.args.self.now.writing ≡ Some c.in-Some.open = cc in
     on_ok_map c.report-in-Failed.result
-    (turns g.S.Application.layer g.D.Disk.view g.D.Disk.honest g.D.Disk.failures c.args.self.now c.report-in-Failed.new.self c.take.new.self c.in-Some.open c.args.disk.now c.turn.new.disk Failed
+    (turns g.S.Application.layer g.D.Disk.kind c.args.self.now c.report-in-Failed.new.self c.take.new.self c.in-Some.open c.args.disk.now c.turn.new.disk Failed
     was c.take.ensures.after c.report-in-Failed.ensures.writing (λ is. absurd (cc)) (λ is. absurd (cc)) (c.turn.ensures.failed c.in-Failed.is))
     c.report-in-Failed.ensures.reports
 

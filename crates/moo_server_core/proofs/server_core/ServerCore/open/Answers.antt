@@ -32,8 +32,9 @@ returns-clause-opened g c = (
     alive = c.in_ok-server.ensures.alive;
     no_checkpoint = c.in_ok-server.ensures.no_checkpoint;
     begins = c.in_ok-server.ensures.begins;
-    only = λ honest s spells. sym (c.in_ok-saved.ensures.within honest s ((g.met.S.StartApplication.spells_is (g.D.Disk.view c.args.disk.now).main_text s).0 spells));
+    only = λ honest s spells. sym (c.in_ok-saved.ensures.within honest s ((g.met.S.StartApplication.spells_is (g.D.Disk.kind.view c.args.disk.now).main_text s).0 spells));
     main = c.recover.ensures.main;
+    reads = c.recover.ensures.reads;
     honest_still = c.recover.ensures.honest.0;
   },
 )
@@ -41,5 +42,5 @@ returns-clause-opened g c = (
 pub returns-clause-follows : goal.returns-clause-follows
 returns-clause-follows g c = record {
   still = c.in_ok-server.ensures.still;
-  continues = subst (λ (w : Option Open). OpenFollows g.D.Disk.view g.D.Disk.honest g.D.Disk.stands w c.recover.new.disk) (sym c.in_ok-server.ensures.no_checkpoint) tt;
+  continues = subst (λ (w : Option Open). OpenFollows g.D.Disk.kind w c.recover.new.disk) (sym c.in_ok-server.ensures.no_checkpoint) tt;
 }

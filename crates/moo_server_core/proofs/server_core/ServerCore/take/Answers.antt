@@ -12,7 +12,7 @@ returns-then-not-is_flush-clause-takes g c =
     let l = g.S.Application.layer in (
       record { event = seen c.args.event.now; report = None; mark = None; out = silence },
       refl,
-      passed_over l.meaning g.D.Disk.view g.D.Disk.honest (state_of l c.args.self.now) c.args.self.now.writing c.args.disk.now (seen c.args.event.now) (cc) (cc) (cc),
+      passed_over l.meaning g.D.Disk.kind (state_of l c.args.self.now) c.args.self.now.writing c.args.disk.now (seen c.args.event.now) (cc) (cc) (cc),
       refl,
       sym (then_silence (waiting_of l c.args.self.now)),
       c.requires.alive,
@@ -22,7 +22,7 @@ pub returns-in-Err-clause-memory : goal.returns-in-Err-clause-memory
 returns-in-Err-clause-memory g c = λ _. (
   refl,
   c.forget.ensures.waiting ∙ c.try_take.ensures.waiting,
-  λ h. survives_halt g.D.Disk.view c.args.disk.now c.try_take.new.disk (on_its_way c.args.self.now) (c.try_take.ensures.gains h),
+  λ h. survives_halt g.D.Disk.kind c.args.disk.now c.try_take.new.disk (on_its_way c.args.self.now) (c.try_take.ensures.gains h),
 )
 
 pub returns-in-Err-clause-wanting : goal.returns-in-Err-clause-wanting

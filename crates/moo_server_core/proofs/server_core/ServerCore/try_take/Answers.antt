@@ -20,7 +20,7 @@ returns-then-is_flush-clause-takes g c =
     (λ marks. (
       record { event = Flush; report = turns.0; mark = marks.0; out = then_out turns.1 marks.1 },
       sym flush,
-      flushed l.meaning g.D.Disk.view g.D.Disk.honest g.D.Disk.failures before (state_of l c.flush.new.self) (state_of l c.begin_due_checkpoint.new.self)
+      flushed l.meaning g.D.Disk.kind before (state_of l c.flush.new.self) (state_of l c.begin_due_checkpoint.new.self)
           c.args.self.now.writing c.flush.new.self.writing c.begin_due_checkpoint.new.self.writing c.args.disk.now c.flush.new.disk turns.0 marks.0 turns.1 marks.1
           (subst (λ (event : Event). refusal l.meaning before event ≡ None) flush c.requires.accepted)
           (subst (λ (event : Event). is_passed_over l.meaning before event ≡ false) flush c.requires.counts)
@@ -33,7 +33,7 @@ returns-then-is_flush-clause-takes g c =
 pub returns-then-is_flush-clause-follows : goal.returns-then-is_flush-clause-follows
 returns-then-is_flush-clause-follows g c =
     on_ok_map c.begin_due_checkpoint.result
-    (λ marks. opens_follow g.S.Application.layer.meaning g.D.Disk.view g.D.Disk.honest g.D.Disk.stands marks.0 c.flush.new.self.writing c.begin_due_checkpoint.new.self.writing c.flush.new.disk marks.3 c.in_ok-flush.ensures.follows)
+    (λ marks. opens_follow g.S.Application.layer.meaning g.D.Disk.kind marks.0 c.flush.new.self.writing c.begin_due_checkpoint.new.self.writing c.flush.new.disk marks.3 c.in_ok-flush.ensures.follows)
     c.begin_due_checkpoint.ensures.marks
 
 pub returns-clause-takes : goal.returns-clause-takes
@@ -47,7 +47,7 @@ returns-clause-takes g c =
     (λ marks. (
       record { event = event; report = None; mark = marks.0; out = then_out acts.0 marks.1 },
       refl,
-      acted l.meaning g.D.Disk.view g.D.Disk.honest before (state_of l c.act.new.self) (state_of l c.begin_due_checkpoint-2.new.self)
+      acted l.meaning g.D.Disk.kind before (state_of l c.act.new.self) (state_of l c.begin_due_checkpoint-2.new.self)
           c.args.self.now.writing c.act.new.self.writing c.begin_due_checkpoint-2.new.self.writing c.args.disk.now event marks.0 acts.0 marks.1 other
           c.requires.accepted c.requires.counts acts.1 c.act.ensures.writing marks.2 marks.3 marks.4,
       refl,
@@ -58,8 +58,8 @@ returns-clause-takes g c =
 pub returns-clause-follows : goal.returns-clause-follows
 returns-clause-follows g c =
     on_ok_map c.begin_due_checkpoint-2.result
-    (λ marks. opens_follow g.S.Application.layer.meaning g.D.Disk.view g.D.Disk.honest g.D.Disk.stands marks.0 c.act.new.self.writing c.begin_due_checkpoint-2.new.self.writing c.args.disk.now marks.3
-    (subst (λ (w : Option Open). OpenFollows g.D.Disk.view g.D.Disk.honest g.D.Disk.stands w c.args.disk.now) (sym c.act.ensures.writing) c.requires.follows.continues))
+    (λ marks. opens_follow g.S.Application.layer.meaning g.D.Disk.kind marks.0 c.act.new.self.writing c.begin_due_checkpoint-2.new.self.writing c.args.disk.now marks.3
+    (subst (λ (w : Option Open). OpenFollows g.D.Disk.kind w c.args.disk.now) (sym c.act.ensures.writing) c.requires.follows.continues))
     c.begin_due_checkpoint-2.ensures.marks
 
 pub returns-in_err-flush-clause-memory : goal.returns-in_err-flush-clause-memory

@@ -64,7 +64,7 @@ opens_after event old mid new same opens = (
   where
     opening : (event : Option Event) → IsOpening mid event → IsOpening old event
     opening None is = tt
-    opening (Some (the.Open c)) is = sym (same c) ∙ is
+    opening (Some (the.Open c)) is = (sym (same c) ∙ is.0, is.1)
     opening (Some (the.Bytes c piece)) is = absurd is
     opening (Some (the.Hangup c)) is = absurd is
     opening (Some (the.Moment moment)) is = absurd is

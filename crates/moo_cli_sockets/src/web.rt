@@ -1,5 +1,5 @@
 //! Browsers: the page that they get, and their WebSockets, which are connections.
-ghost use Rattle.std.specs.Prelude.{◌≡◌, ℕ, IfOk};
+ghost use Rattle.std.specs.Prelude.{◌≡◌, ◌≢◌, ℕ, IfOk};
 ghost use Rattle.moo_cli_sockets.specs.Coming.{Follow, IsOpening, held, only};
 
 use crate::Socket;
@@ -30,8 +30,9 @@ impl Sockets {
         ensures { (c : ℕ) → held self.new.sockets c ≡ held self.old.sockets c }
     {
         let registry = self.poll.registry();
-        let web = WebListener::open(rt, self.alloc, registry, host, port, origins)
-            .map_err(SocketsFault::of_web)?;
+        let web = WebListener::open(rt, self.alloc, registry, host, port, origins).map_err(
+            SocketsFault::of_web,
+        )?;
         let address = web.address().map_err(SocketsFault::of_web)?;
         self.web = Some(web);
         Ok(address)
@@ -110,7 +111,8 @@ impl Sockets {
         c: u16,
         upgrade: Upgrade,
     ) -> Result<Option<Event>, AllocError>
-        requires { c ≡ self.old.sockets.vacant_key }
+        requires vacant { c ≡ self.old.sockets.vacant_key }
+        requires given { c ≢ CONSOLE }
         ensures { IfOk result (λ event. IsOpening self.old.sockets event × Follow (only event) self.old.sockets self.new.sockets) }
     {
         let Upgrade {

@@ -109,15 +109,13 @@ pub past_due : (due : List ℕ) (i n c : ℕ) → ((j d : ℕ) → j < i → get
 past_due due i n c before end from there = omega (arith, from, there.2, before there.0 c (omega (arith, end, there.1)))
 
 -- a number of a list is in it
+among_step : (k : ℕ) (numbers : List ℕ) (c : ℕ) (b : Bool) → eqb k c ≡ b → (b || is_among numbers c) ≡ true → (is_among numbers c ≡ true → Contains numbers c) → Contains (k ∷ numbers) c
+among_step k numbers c true here is below = (0, omega arith, eqb-true k c here)
+among_step k numbers c false other is below = let rest = below is in (suc rest.0, omega (arith, rest.1), rest.2)
+
 among_contains : (numbers : List ℕ) (c : ℕ) → is_among numbers c ≡ true → Contains numbers c
 among_contains [] c is = absurd (true≢false (sym is))
-among_contains (k ∷ numbers) c is = by_test (eqb k c) refl
-  where
-    by_test : (b : Bool) → eqb k c ≡ b → Contains (k ∷ numbers) c
-    by_test true here = (0, omega arith, eqb-true k c here)
-    by_test false other =
-        let rest = among_contains numbers c (sym (ap (λ (b : Bool). b || is_among numbers c) other) ∙ is) in
-        (suc rest.0, omega (arith, rest.1), rest.2)
+among_contains (k ∷ numbers) c is = among_step k numbers c (eqb k c) refl is (among_contains numbers c)
 
 pub not_among : (numbers : List ℕ) (c : ℕ) → (Contains numbers c → ⊥) → is_among numbers c ≡ false
 not_among numbers c none = by_test (is_among numbers c) refl

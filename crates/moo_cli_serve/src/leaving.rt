@@ -1,5 +1,5 @@
 //! The output of a round, and the connections that it closes.
-ghost use Rattle.std.specs.Prelude.{◌≡◌, ◌≢◌, ◌<◌, ℕ, List, None, Contains, false, true, IfOk, OnOk};
+ghost use Rattle.std.specs.Prelude.{◌≡◌, ◌≢◌, ◌<◌, ◌++◌, ℕ, List, None, Contains, false, true, IfOk, OnOk};
 ghost use Rattle.std.specs.List.{AllPairs};
 ghost use Rattle.moo_cli_sockets.specs.Coming.{held};
 ghost use Rattle.moo_cli_serve.specs.Idle.{IsIdle};
@@ -57,23 +57,48 @@ fn due<S: StartApplication>(
     ensures rest { IfOk result (λ due. (c : ℕ) → c < 65536 → (Contains due.items c → ⊥) → IsIdle S.layer is_settled late.now server.now sockets.new.sockets c) }
     ensures same { sockets.new.sockets ≡ sockets.old.sockets }
 {
-    let mut due = server.pending()?;
-    due.extend_from_slice(late)?;
-    due.extend_from_slice(&sockets.take_writable())?;
-    due.extend_from_slice(&unsettled(alloc, sockets, is_settled)?)?;
+    let pending = server.pending()?;
+    let writable = sockets.take_writable();
+    let others = unsettled(alloc, sockets, is_settled)?;
+    let mut due = joined(pending, late, &writable, &others)?;
     sort_numbers(&mut due);
     Ok(due)
+}
+
+// Appends three lists of numbers to the first one.
+fn joined(
+    pending: Vec<u16>,
+    late: &[u16],
+    writable: &[u16],
+    others: &[u16],
+) -> Result<Vec<u16>, AllocError>
+    ensures { IfOk result (λ all. all.items ≡ ((pending.items ++ late.now) ++ writable.now) ++ others.now) }
+{
+    let mut all = pending;
+    all.extend_from_slice(late)?;
+    all.extend_from_slice(writable)?;
+    all.extend_from_slice(others)?;
+    Ok(all)
 }
 
 // Returns the numbers of all sockets, perhaps with others, unless the last round ended well.
 fn unsettled(alloc: Global, sockets: &Sockets, is_settled: bool) -> Result<Vec<u16>, AllocError>
     ensures { IfOk result (λ numbers. is_settled ≡ false → (c : ℕ) → c < 65536 → (Contains numbers.items c → ⊥) → held sockets.now.sockets c ≡ None) }
 {
-    let mut numbers = Vec::new(alloc);
     if is_settled {
-        return Ok(numbers);
+        return Ok(Vec::new(alloc));
     }
-    for key in 0..sockets.capacity() {
+    let capacity = sockets.capacity();
+    let numbers = numbers_below(alloc, capacity)?;
+    Ok(numbers)
+}
+
+// Returns the numbers of connections that are below a bound.
+fn numbers_below(alloc: Global, bound: usize) -> Result<Vec<u16>, AllocError>
+    ensures { IfOk result (λ numbers. (c : ℕ) → c < 65536 → c < bound → Contains numbers.items c) }
+{
+    let mut numbers = Vec::new(alloc);
+    for key in 0..bound {
         let Ok(c) = u16::try_from(key) else { break };
         numbers.push(c)?;
     }

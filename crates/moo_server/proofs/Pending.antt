@@ -7,15 +7,13 @@ use Rattle.std.proofs.lemmas.List.Elements.{Contains-append_left, Contains-appen
 use Rattle.moo_session_connection.specs.Clients.{is_number}
 
 -- a number that is found is in the list
+found_step : (k : ℕ) (numbers : List ℕ) (c : ℕ) (b : Bool) → (k == c) ≡ b → (b || list_any (is_number c) numbers) ≡ true → (list_any (is_number c) numbers ≡ true → Contains numbers c) → Contains (k ∷ numbers) c
+found_step k numbers c true here is below = (0, omega arith, eqb-true k c here)
+found_step k numbers c false other is below = let rest = below is in (suc rest.0, omega (arith, rest.1), rest.2)
+
 found : (numbers : List ℕ) (c : ℕ) → list_any (is_number c) numbers ≡ true → Contains numbers c
 found [] c is = absurd (true≢false (sym is))
-found (k ∷ numbers) c is = by_test (k == c) refl
-  where
-    by_test : (b : Bool) → (k == c) ≡ b → Contains (k ∷ numbers) c
-    by_test true here = (0, omega arith, eqb-true k c here)
-    by_test false other =
-        let rest = found numbers c (sym (ap (λ (b : Bool). b || list_any (is_number c) numbers) other) ∙ is) in
-        (suc rest.0, omega (arith, rest.1), rest.2)
+found (k ∷ numbers) c is = found_step k numbers c (k == c) refl is (found numbers c)
 
 -- a number that is in neither part isn't leaving
 pub none_leaves : (numbers leaving all : List ℕ) (c : ℕ) → all ≡ numbers ++ leaving → (Contains all c → ⊥) → list_any (is_number c) leaving ≡ false

@@ -13,6 +13,7 @@ use crate::console::Console;
 use crate::fault::ServeFault;
 use crate::giving::{give, give_if_open};
 use crate::leaving::{log_lines, write_all};
+use crate::listening::{Web, listen};
 use crate::strangers::{LoginLimits, Strangers};
 use log::Log;
 use moo_cli_file_disk::{News, Watched};
@@ -55,14 +56,15 @@ pub struct Serving<S: StartApplication, D: Disk> {
 }
 
 impl<S: StartApplication, D: Disk + Watched> Serving<S, D> {
-    /// Opens a server over a disk, and listens on a port of an address. Port 0 takes any that is free. If the disk can't be read,
-    /// logs the reason and returns the fault.
+    /// Opens a server over a disk, and listens on a port of an address, and for browsers if they are served. Port 0 takes any that
+    /// is free. If the disk can't be read, logs the reason and returns the fault.
     pub fn open<N: Net + Clock + Log>(
         rt: &N,
         alloc: Global,
         disk: D,
         host: IpAddr,
         port: u16,
+        web: Option<Web<'_>>,
         most_waiting: usize,
         login: LoginLimits,
         has_console: bool,
@@ -77,7 +79,7 @@ impl<S: StartApplication, D: Disk + Watched> Serving<S, D> {
         let mut disk = disk;
         let moment = now(rt).unwrap_or(0);
         let server = begin(rt, alloc, &mut disk, moment)?;
-        let sockets = Sockets::open(rt, alloc, host, port, telnet)?;
+        let sockets = listen(rt, alloc, host, port, telnet, web)?;
         Ok(Serving {
             alloc,
             clients: Clients {

@@ -171,7 +171,7 @@ endif
 if (this == #3 && $login:unclaimed())
   notify(this, "");
   notify(this, "!! Your password is one that the world has made, from the moment of its start.");
-  notify(this, "!! Type  @password NEW  now. (It will stand readable in the world's file.)");
+  notify(this, "!! Type  @password NEW  now. (It will be readable in the world's file.)");
 endif
 .
 
@@ -546,7 +546,7 @@ else
   if (first)
     $login.first_password = 0;
   endif
-  player:tell("Your password is changed. It stands readable in the world's file: use it nowhere else.");
+  player:tell("Your password is changed. It is readable in the world's file: use it nowhere else.");
 endif
 .
 

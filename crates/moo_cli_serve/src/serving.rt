@@ -17,7 +17,6 @@ use crate::listening::{Web, listen};
 use crate::strangers::{LoginLimits, Strangers};
 use log::Log;
 use moo_cli_file_disk::{News, Watched};
-use moo_cli_sockets::Sockets;
 use moo_cli_telnet::Telnet;
 use moo_disk::Disk;
 use moo_server_core::{Phase, ServerCore as Server, StartApplication};

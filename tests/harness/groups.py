@@ -6,11 +6,13 @@ import command_rows
 import database_rows
 import guides
 import launcher_cases
+import page_cases
 import program_rows
 import script_rows
 import serve_cases
 import starter
 import typed
+import web_cases
 from outcome import fault
 from row_file import TOP, Broken, parse
 
@@ -70,7 +72,9 @@ def all_groups(program):
     return [
         ("the launcher", launcher_cases.units()),
         ("servers and their clients", serve_cases.units(program)),
+        ("servers and browsers", web_cases.units(program)),
         *files,
+        ("the page for browsers", page_cases.units()),
         ("the starter world", [("worlds/starter", partial(starter.play_build, program))]),
         ("its transcripts", starter.transcripts(program)),
         ("the example of the page on scripts", [("docs", partial(starter.play_example, program))]),

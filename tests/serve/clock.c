@@ -1,4 +1,5 @@
-/* Loaded before the C library, a clock that a row sets: the seconds since 1970 are those in the file that CLOCK names. */
+/* Loaded before the C library, clocks that a row sets: the seconds of a clock are those in a file. CLOCK names the file of the seconds since
+   1970, and MONOTONIC the file of the clock that is never set. A clock without a file is the system's. */
 #define _GNU_SOURCE
 #include <stdio.h>
 #include <stdlib.h>
@@ -7,8 +8,11 @@
 #include <unistd.h>
 
 int clock_gettime(clockid_t clock, struct timespec *time) {
-    if (clock != CLOCK_REALTIME) return syscall(SYS_clock_gettime, clock, time);
-    FILE *file = fopen(getenv("CLOCK"), "r");
+    const char *name = NULL;
+    if (clock == CLOCK_REALTIME) name = getenv("CLOCK");
+    if (clock == CLOCK_MONOTONIC) name = getenv("MONOTONIC");
+    if (!name) return syscall(SYS_clock_gettime, clock, time);
+    FILE *file = fopen(name, "r");
     long seconds = -1;
     if (file) {
         if (fscanf(file, "%ld", &seconds) != 1) seconds = -1;

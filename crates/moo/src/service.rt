@@ -4,7 +4,7 @@ use moo_cli_args::{Service, Times};
 use moo_cli_file_disk::{Lock, LockFault};
 use moo_cli_io::log_error;
 use moo_cli_log::{LocalTime, LogTimes, TimedLog};
-use moo_cli_serve::{LoginLimits, Served, run_serve};
+use moo_cli_serve::{LoginLimits, Served, Web, run_serve};
 use moo_server::MooApplication;
 use std::fs::File;
 use std::io;
@@ -24,6 +24,10 @@ pub fn serve(rt: &HostRuntime, service: Service) -> io::Result<u8> {
         db: service.database,
         host: service.host,
         port: service.port,
+        web: service.web.map(|port| Web {
+            port,
+            origins: &service.web_origins,
+        }),
         rounds: service.rounds,
         most_waiting: service.most_waiting,
         login: LoginLimits {

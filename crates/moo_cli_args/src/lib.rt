@@ -24,7 +24,7 @@ const TIMES: &[&str] = &["none", "utc", "local"];
 const VERSION: &str = "1.8-integer";
 
 /// The command that the program is to run.
-#[derive(Clone, Copy, Debug, PartialEq, Eq)]
+#[derive(Debug, Drop)]
 pub enum Work<'a> {
     /// Evaluate the first line of the input.
     Expr,
@@ -41,7 +41,7 @@ pub enum Work<'a> {
 }
 
 /// The parameters of a server.
-#[derive(Clone, Copy, Debug, PartialEq, Eq)]
+#[derive(Debug, Drop)]
 pub struct Service<'a> {
     /// The path of the database.
     pub database: &'a str,
@@ -49,6 +49,10 @@ pub struct Service<'a> {
     pub host: IpAddr,
     /// The port, or 0 for any that is free.
     pub port: u16,
+    /// The port for browsers, if they are served, or 0 for any that is free.
+    pub web: Option<u16>,
+    /// The origins of pages that may connect, besides those of this machine.
+    pub web_origins: Vec<&'a str>,
     /// The greatest number of rounds of reading and writing.
     pub rounds: u64,
     /// The number of waiting bytes past which a connection is hung up.
@@ -84,7 +88,7 @@ pub fn read_words<'a>(alloc: Global, words: &'a [String]) -> Result<Option<Work<
     let matches = command(alloc)?.try_get_matches_from(words)?;
     match matches.subcommand() {
         Some(("serve", found)) => match host_of(found) {
-            Some(host) => Ok(service_of(found, host).map(Work::Serve)),
+            Some(host) => Ok(service_of(alloc, found, host)?.map(Work::Serve)),
             None => Err(no_address(alloc)?),
         },
         Some((name, found)) => Ok(work_of(name, found)),
@@ -112,11 +116,29 @@ fn work_of<'a>(name: &str, found: &ArgMatches<'a>) -> Option<Work<'a>> {
     }
 }
 
-fn service_of<'a>(found: &ArgMatches<'a>, host: IpAddr) -> Option<Service<'a>> {
+fn service_of<'a>(
+    alloc: Global,
+    found: &ArgMatches<'a>,
+    host: IpAddr,
+) -> Result<Option<Service<'a>>, AllocError> {
+    let web_origins = match found.get_strs("web-origin") {
+        Some(origins) => Vec::from_slice(alloc, origins)?,
+        None => Vec::new(alloc),
+    };
+    Ok(service_with(found, host, web_origins))
+}
+
+fn service_with<'a>(
+    found: &ArgMatches<'a>,
+    host: IpAddr,
+    web_origins: Vec<&'a str>,
+) -> Option<Service<'a>> {
     Some(Service {
         database: found.get_str("DB")?,
         host,
         port: found.get_one::<u16>("PORT")?,
+        web: found.get_one::<u16>("web"),
+        web_origins,
         rounds: found.get_one::<u64>("rounds")?,
         most_waiting: found.get_one::<usize>("most-waiting")?,
         login_seconds: found.get_one::<u64>("login-seconds")?,
@@ -209,6 +231,8 @@ fn serve<'a>(alloc: Global) -> Result<Command<'a>, AllocError> {
     over_database(alloc, "serve", "Serve a database to connections")?
         .arg(port)?
         .arg(host)?
+        .arg(web(alloc))?
+        .arg(web_origin(alloc)?)?
         .arg(rounds)?
         .arg(most_waiting)?
         .arg(login_seconds(alloc))?
@@ -217,6 +241,23 @@ fn serve<'a>(alloc: Global) -> Result<Command<'a>, AllocError> {
         .arg(telnet(alloc))?
         .arg(must_save(alloc))?
         .arg(log_times(alloc))
+}
+
+fn web<'a>(alloc: Global) -> Arg<'a> {
+    Arg::new(alloc, "web")
+        .long("web")
+        .value_name("PORT")
+        .help("Serve a page for browsers at this port too, or 0 for any that is free")
+        .value_parser(value_parser!(u16))
+}
+
+fn web_origin<'a>(alloc: Global) -> Result<Arg<'a>, AllocError> {
+    Arg::new(alloc, "web-origin")
+        .long("web-origin")
+        .value_name("ORIGIN")
+        .action(ArgAction::Append)
+        .help("An origin of pages that may connect, such as https://moo.example.org")
+        .requires_arg("web")
 }
 
 fn login_seconds<'a>(alloc: Global) -> Arg<'a> {

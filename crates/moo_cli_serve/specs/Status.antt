@@ -17,6 +17,7 @@ opening_status opening.Memory = 4
 
 abbrev pub sockets_status : SocketsFault → ℕ
 sockets_status (listening.Device error) = 3
+sockets_status (listening.Web error) = 3
 sockets_status listening.Memory = 4
 
 -- of an event that is refused

@@ -38,7 +38,7 @@ impl ServeFault {
         match self {
             ServeFault::Open(OpenFault::Db(_)) => 1,
             ServeFault::Open(OpenFault::Device)
-            | ServeFault::Sockets(SocketsFault::Device(_))
+            | ServeFault::Sockets(SocketsFault::Device(_) | SocketsFault::Web(_))
             | ServeFault::Output(_) => 3,
             ServeFault::Open(OpenFault::Memory)
             | ServeFault::Sockets(SocketsFault::Memory)

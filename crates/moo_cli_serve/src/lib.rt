@@ -9,11 +9,13 @@ mod fault;
 mod giving;
 pub mod laws;
 mod leaving;
+mod listening;
 mod program;
 mod serving;
 mod strangers;
 
 pub use fault::ServeFault;
+pub use listening::Web;
 pub use program::{Served, run_serve};
 pub use serving::{Round, Serving};
 pub use strangers::LoginLimits;

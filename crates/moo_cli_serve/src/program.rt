@@ -4,6 +4,7 @@ ghost use Rattle.moo_cli_serve.specs.Program.{FailsFile, NoDisk, ServesFile, Sho
 ghost use Rattle.moo_cli_serve.specs.Service.{Fails, IsOutside, Serves};
 
 use crate::fault::ServeFault;
+use crate::listening::Web;
 use crate::serving::Serving;
 use crate::strangers::LoginLimits;
 use log::{Log, info, warn};
@@ -32,6 +33,8 @@ pub struct Served<'a> {
     pub host: IpAddr,
     /// The port, or 0 for any that is free.
     pub port: u16,
+    /// The port for browsers, if they are served.
+    pub web: Option<Web<'a>>,
     /// The greatest number of rounds.
     pub rounds: u64,
     /// The number of waiting bytes past which a connection is hung up.
@@ -119,6 +122,7 @@ pub fn serve_disk<S: StartApplication, D: Disk + Watched + Drop, R: Net + Clock 
         disk,
         served.host,
         served.port,
+        served.web,
         served.most_waiting,
         served.login,
         served.has_console,
@@ -179,10 +183,17 @@ fn tell_reason<R: Log>(rt: &R, served: Served<'_>, fault: &ServeFault) {
         ServeFault::Sockets(SocketsFault::Device(error)) => {
             warn!(rt; target: "moo::serve", "{}:{}: {error}", served.host, served.port);
         }
+        ServeFault::Sockets(SocketsFault::Web(error)) => tell_no_web(rt, served, error),
         ServeFault::Output(error) => tell_output(rt, error),
         // The reason of a disk was logged when it failed.
         ServeFault::Open(OpenFault::Device) => {}
         other => warn!(rt; target: "moo::serve", "{}: {other}", served.db),
+    }
+}
+
+fn tell_no_web<R: Log>(rt: &R, served: Served<'_>, error: &io::Error) {
+    if let Some(web) = served.web {
+        warn!(rt; target: "moo::serve", "{}:{}: {error}", served.host, web.port);
     }
 }
 

@@ -9,6 +9,7 @@ use crate::console::Console;
 use crate::fault::ServeFault;
 use crate::giving::{give, give_if_open};
 use crate::leaving::{log_lines, write_all};
+use crate::listening::{Web, listen};
 use crate::strangers::{LoginLimits, Strangers};
 use log::Log;
 use moo_cli_file_disk::{News, Watched};
@@ -63,14 +64,15 @@ impl<S: StartApplication, D: Disk + Watched> Serving<S, D> {
     ghost use Rattle.moo_cli_serve.specs.Rounds.{IsClosed, Rounds};
     ghost use Rattle.moo_cli_serve.specs.Service.{Begun, BreaksOff, EndsFor, IsOutside, IsServed, NotStarted, Steps, Turns, Waits};
 
-    /// Opens a server over a disk, and listens on a port of an address. Port 0 takes any that is free. If the disk can't be read,
-    /// logs the reason and returns the fault.
+    /// Opens a server over a disk, and listens on a port of an address, and for browsers if they are served. Port 0 takes any that
+    /// is free. If the disk can't be read, logs the reason and returns the fault.
     pub fn open<N: Net + Clock + Log>(
         rt: &N,
         alloc: Global,
         disk: D,
         host: IpAddr,
         port: u16,
+        web: Option<Web<'_>>,
         most_waiting: usize,
         login: LoginLimits,
         has_console: bool,
@@ -85,7 +87,7 @@ impl<S: StartApplication, D: Disk + Watched> Serving<S, D> {
         let mut disk = disk;
         let moment = now(rt).unwrap_or(0);
         let server = begin(rt, alloc, &mut disk, moment)?;
-        let sockets = Sockets::open(rt, alloc, host, port, telnet)?;
+        let sockets = listen(rt, alloc, host, port, telnet, web)?;
         Ok(Serving {
             alloc,
             sockets,

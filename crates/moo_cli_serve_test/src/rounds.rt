@@ -61,6 +61,7 @@ fn a_client_looks_round_by_round(rt: HostRuntime) -> Result<(), Fail> {
         disk,
         host,
         0,
+        None,
         1_000_000,
         LoginLimits {
             seconds: 0,

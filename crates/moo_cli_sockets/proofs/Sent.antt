@@ -9,7 +9,8 @@ use Rattle.slab.proofs.SlabLemmas.{Updates-with_value}
 use Rattle.moo_cli_sockets.specs.Waiting.{waits_of}
 use Rattle.moo_cli_sockets.specs.declared.socket.Socket.{Socket}
 use Rattle.moo_server_core.specs.declared.event.Event.{Event}
-use Rattle.moo_cli_sockets.specs.Coming.{Closes, Follow, held, held_after}
+use Rattle.moo_server_core.specs.declared.event.Event.TheVariants as the
+use Rattle.moo_cli_sockets.specs.Coming.{Closes, Follow, IsOpening, held, held_after, only}
 use Rattle.moo_cli_sockets.proofs.Counting.{after_append}
 use Rattle.moo_cli_sockets.specs.Sending.{Sends}
 
@@ -46,6 +47,28 @@ closes c key old mid new is updates same k = same k ∙ by_test (eqb c k) refl
     by_test : (b : Bool) → eqb c k ≡ b → held mid k ≡ (if b then None else held old k)
     by_test true here = ap (λ (j : ℕ). held mid j) (sym (is ∙ eqb-true c k here)) ∙ ap waits updates.changed
     by_test false other = ap waits (updates.others k (λ e. eqb-false c k other (sym (e ∙ is))))
+
+-- the close of a WebSocket goes out before that
+pub closes_after : (c key : ℕ) (old sent mid new : Slab Socket) → ((k : ℕ) → held sent k ≡ held old k) → key ≡ c → Updates sent mid key None
+    → ((k : ℕ) → held new k ≡ held mid k) → Closes c old new
+closes_after c key old sent mid new before is updates same k =
+    closes c key sent mid new is updates same k ∙ ap (λ (w : Option (List ℕ)). held_after k w (the.Hangup c ∷ [])) (before k)
+
+-- a connection opens over sockets that hold what they held
+pub opens_after : (event : Option Event) (old mid new : Slab Socket) → ((k : ℕ) → held mid k ≡ held old k)
+    → IsOpening mid event × Follow (only event) mid new → IsOpening old event × Follow (only event) old new
+opens_after event old mid new same opens = (
+  opening event opens.0,
+  λ k. opens.1 k ∙ ap (λ (w : Option (List ℕ)). held_after k w (only event)) (same k),
+)
+  where
+    opening : (event : Option Event) → IsOpening mid event → IsOpening old event
+    opening None is = tt
+    opening (Some (the.Open c)) is = (sym (same c) ∙ is.0, is.1)
+    opening (Some (the.Bytes c piece)) is = absurd is
+    opening (Some (the.Hangup c)) is = absurd is
+    opening (Some (the.Moment moment)) is = absurd is
+    opening (Some the.Flush) is = absurd is
 
 -- events, and others after them
 pub follow_append : (first second all : List Event) (old mid new : Slab Socket) → all ≡ first ++ second → Follow first old mid → Follow second mid new → Follow all old new

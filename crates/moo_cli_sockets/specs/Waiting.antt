@@ -1,5 +1,5 @@
 -- The bytes that wait for a socket, and the result of a read.
-use Rattle.std.specs.Prelude.{ℕ, ◌<◌, ◌≤◌, ◌==◌, Bool, ◌||◌, nat_lt, List, ◌++◌, drop, length, count_by, Vec, vec_len}
+use Rattle.std.specs.Prelude.{◌≡◌, ℕ, ◌<◌, ◌≤◌, ◌==◌, Bool, ◌||◌, nat_lt, List, ◌++◌, drop, length, count_by, Vec, vec_len}
 use Rattle.std.specs.Global.{Global}
 use Rattle.moo_cli_sockets.specs.declared.socket.Came.{Came}
 use Rattle.moo_cli_sockets.specs.declared.socket.Came.TheVariants as came
@@ -34,3 +34,9 @@ abbrev pub IsCame : Came → Type 0
 IsCame (came.Bytes piece) = IsPiece piece
 IsCame came.NothingYet = Unit {0}
 IsCame came.End = Unit {0}
+
+-- these bytes are the front of the input, and the others are left
+abbrev pub IsNext : Came → (was left : List ℕ) → Type 0
+IsNext (came.Bytes piece) was left = was ≡ piece.items ++ left
+IsNext came.NothingYet was left = ⊥
+IsNext came.End was left = ⊥

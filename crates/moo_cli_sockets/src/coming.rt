@@ -29,10 +29,22 @@ impl Sockets {
         ensures { IfOk result (λ events. Comes self.old.sockets self.new.sockets events.items) }
     {
         let mut events = Vec::new(self.alloc);
-        let opened = self.accept(rt)?;
+        let opened = self.open_one(rt)?;
         put(&mut events, opened)?;
         self.read_all(&mut events)?;
         Ok(events)
+    }
+
+    // Opens at most one connection: one that waits at the listener, or a WebSocket of a browser.
+    #[tactic(auto, using(crate::proofs::Sent::opens_after))]
+    fn open_one<L: Clock + Log>(&mut self, rt: &L) -> Result<Option<Event>, AllocError>
+        ensures { IfOk result (λ event. IsOpening self.old.sockets event × Follow (only event) self.old.sockets self.new.sockets) }
+    {
+        self.serve_web(rt)?;
+        match self.accept(rt)? {
+            Some(event) => Ok(Some(event)),
+            None => self.upgrade(rt),
+        }
     }
 
     // Accepts one new connection, if one waits. After a fault it is tried again later, and the other connections go
@@ -111,7 +123,7 @@ impl Sockets {
         self.arrivals = self.arrivals.wrapping_add(1);
         let age = Age::new(rt, self.arrivals);
         self.sockets
-            .insert_reserved(Socket::new(self.alloc, stream, age, self.telnet));
+            .insert_reserved(Socket::new(self.alloc, stream, age, self.telnet, None));
         Ok(Some(Event::Open(c)))
     }
 
@@ -131,7 +143,8 @@ impl Sockets {
         Ok(())
     }
 
-    // Reads once from a socket. Its end or a fault is a hang-up.
+    // Reads once from a socket. Its end or a fault is a hang-up. Lists it as one to which more may be written, if frames
+    // answer what came.
     fn read(&mut self, c: u16) -> Result<Option<Event>, AllocError>
         ensures read { IfOk result (λ event. IsRead (held self.old.sockets c) c event × Follow (only event) self.old.sockets self.new.sockets) }
         ensures others { (k : ℕ) → k ≢ c → get self.new.sockets k ≡ get self.old.sockets k }
@@ -143,7 +156,11 @@ impl Sockets {
         if !socket.is_readable() {
             return Ok(None);
         }
-        match socket.read(self.alloc)? {
+        let came = socket.read(self.alloc)?;
+        if socket.is_writable() {
+            self.writable.push(c)?;
+        }
+        match came {
             Came::Bytes(piece) => Ok(Some(Event::Bytes(c, piece))),
             Came::NothingYet => Ok(None),
             Came::End => {
@@ -154,7 +171,7 @@ impl Sockets {
     }
 
     // Lists a socket again if a read of it may return something.
-    fn keep_readable(&mut self, c: u16) -> Result<(), AllocError>
+    pub(crate) fn keep_readable(&mut self, c: u16) -> Result<(), AllocError>
         ensures listed { OnOk result (IsListed self.new.readable.items self.new.sockets c) }
         ensures others { OnOk result ((k : ℕ) → Contains self.old.readable.items k → Contains self.new.readable.items k) }
         ensures same { self.new.sockets ≡ self.old.sockets }

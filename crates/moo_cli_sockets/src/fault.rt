@@ -9,6 +9,9 @@ pub enum SocketsFault {
     /// The address is not available, or the system can't report which sockets are ready.
     #[error("refused: Device")]
     Device(io::Error),
+    /// The address for browsers is not available.
+    #[error("refused: Device")]
+    Web(io::Error),
     #[error("refused: Memory")]
     Memory,
 }
@@ -18,6 +21,16 @@ impl From<io::Error> for SocketsFault {
         match error.kind() {
             io::ErrorKind::OutOfMemory => SocketsFault::Memory,
             _ => SocketsFault::Device(error),
+        }
+    }
+}
+
+impl SocketsFault {
+    /// Returns why there is no listener for browsers.
+    pub fn of_web(error: io::Error) -> SocketsFault {
+        match error.kind() {
+            io::ErrorKind::OutOfMemory => SocketsFault::Memory,
+            _ => SocketsFault::Web(error),
         }
     }
 }

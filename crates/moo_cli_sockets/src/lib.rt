@@ -3,6 +3,7 @@
 #![tactic(auto)]
 
 mod age;
+mod channel;
 mod coming;
 mod descriptors;
 mod fault;
@@ -12,7 +13,9 @@ mod queue;
 mod sending;
 mod socket;
 mod sockets;
+mod transfer;
 mod waiting;
+mod web;
 
 pub use age::{Age, seconds};
 pub use coming::put;

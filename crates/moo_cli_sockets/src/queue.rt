@@ -1,5 +1,5 @@
 //! The queue of output that waits for a socket.
-ghost use Rattle.std.specs.Prelude.{◌≡◌, ◌≤◌, ◌↔◌, ◌++◌, [], length, drop, IsTrue, OnOk, OnErr};
+ghost use Rattle.std.specs.Prelude.{◌≡◌, ◌≤◌, ◌+◌, ◌↔◌, ◌++◌, [], length, drop, IsTrue, OnOk, OnErr};
 ghost use Rattle.moo_cli_sockets.specs.Waiting.{bytes_of, front_of};
 
 use crate::waiting::Waiting;
@@ -9,7 +9,8 @@ use std::mem;
 impl Waiting {
     /// Returns an empty queue.
     pub fn new(alloc: Global) -> Waiting
-        ensures { bytes_of result ≡ [] }
+        ensures bytes { bytes_of result ≡ [] }
+        ensures front { (result.gone ≡ 0) × (result.going.items ≡ []) }
     {
         Waiting {
             going: Vec::new(alloc),
@@ -36,6 +37,7 @@ impl Waiting {
     pub fn add(&mut self, output: Vec<u8>) -> Result<(), AllocError>
         ensures ok { OnOk result (bytes_of self.new ≡ bytes_of self.old ++ output.items) }
         ensures err { OnErr result (bytes_of self.new ≡ bytes_of self.old) }
+        ensures front { (self.new.going ≡ self.old.going) × (self.new.gone ≡ self.old.gone) }
     {
         if self.behind.is_empty() {
             self.behind = output;
@@ -46,7 +48,8 @@ impl Waiting {
 
     /// If all of the front was written, makes the gathered bytes the new front.
     pub fn turn(&mut self)
-        ensures { bytes_of self.new ≡ bytes_of self.old }
+        ensures bytes { bytes_of self.new ≡ bytes_of self.old }
+        ensures front { length (front_of self.old) ≤ length (front_of self.new) }
     {
         if self.gone == self.going.len() {
             self.gone = 0;
@@ -65,7 +68,8 @@ impl Waiting {
     /// Removes `count` bytes from the front, after they were written.
     pub fn take(&mut self, count: usize)
         requires { count ≤ length (front_of self.old) }
-        ensures { bytes_of self.new ≡ drop count (bytes_of self.old) }
+        ensures bytes { bytes_of self.new ≡ drop count (bytes_of self.old) }
+        ensures front { (self.new.going ≡ self.old.going) × (self.new.gone ≡ self.old.gone + count) }
     {
         self.gone += count;
     }

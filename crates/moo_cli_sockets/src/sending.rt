@@ -14,6 +14,16 @@ impl Sockets {
         ensures sent { IfOk result (λ answer. IfSome answer (λ waiting. Sends output.items (held self.old.sockets c) (held self.new.sockets c) waiting)) }
         ensures others { (k : ℕ) → k ≢ c → held self.new.sockets k ≡ held self.old.sockets k }
     {
+        let waiting = self.write_once(c, output)?;
+        self.keep_readable(c)?;
+        Ok(waiting)
+    }
+
+    // Appends this output to what waits for a connection's socket, and writes once.
+    fn write_once(&mut self, c: u16, output: Vec<u8>) -> Result<Option<usize>, AllocError>
+        ensures sent { IfOk result (λ answer. IfSome answer (λ waiting. Sends output.items (held self.old.sockets c) (held self.new.sockets c) waiting)) }
+        ensures others { (k : ℕ) → k ≢ c → held self.new.sockets k ≡ held self.old.sockets k }
+    {
         let Some(socket) = self.sockets.get_mut(usize::from(c)) else {
             return Ok(None);
         };
@@ -25,13 +35,13 @@ impl Sockets {
         Ok(Some(waiting))
     }
 
-    /// Lists a socket as one to which more may be written, if output waits for it and the system may take some. Fails
-    /// only if memory runs out.
+    /// Lists a socket as one to which more may be written, if output or frames wait for it and the system may take some.
+    /// Fails only if memory runs out.
     pub fn keep_writable(&mut self, c: u16) -> Result<(), AllocError>
         ensures { self.new.sockets ≡ self.old.sockets }
     {
         if let Some(socket) = self.sockets.get(usize::from(c)) {
-            if socket.waiting() != 0 && socket.may_write() {
+            if socket.is_writable() {
                 self.writable.push(c)?;
             }
         }

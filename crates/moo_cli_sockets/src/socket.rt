@@ -1,16 +1,11 @@
 //! A connection's socket.
-ghost use Rattle.std.specs.Prelude.{◌≡◌, ◌≤◌, ◌<◌, ◌++◌, [], length, drop, false, true, IfOk, OnOk, OnErr};
-ghost use Rattle.moo_cli_sockets.specs.Waiting.{IsCame, IsPiece, is_readable, waits_of};
+ghost use Rattle.std.specs.Prelude.{◌+◌, ◌≤◌, vec_len};
 
 use crate::age::Age;
-use crate::piece::{READ_MOST, piece_length};
 use crate::waiting::Waiting;
-use mio::event::Event;
 use mio::net::TcpStream;
 use moo_cli_telnet::Telnet;
-use std::alloc::{AllocError, Global};
-use std::io::{ErrorKind, Read, Write};
-use std::{io, mem};
+use moo_cli_web_frames::Channel;
 
 /// The result of a read.
 #[derive(Debug, Drop)]
@@ -27,163 +22,21 @@ pub enum Came {
 /// once the system reports that the socket is ready.
 #[derive(Drop)]
 pub struct Socket {
-    stream: TcpStream,
-    waiting: Waiting,
-    /// The bytes that were read and not returned yet.
+    pub(crate) stream: TcpStream,
+    pub(crate) waiting: Waiting,
+    /// The bytes that were read and not returned yet. Those of a WebSocket are the payload of its messages.
     pub(crate) input: Vec<u8>,
-    /// Whether the system may have bytes.
+    /// Whether the system may have bytes, or the end may be read.
     pub(crate) may_read: bool,
     /// Whether the system reported that no bytes come after those that it has, or a fault.
-    is_ending: bool,
-    may_write: bool,
-    age: Age,
+    pub(crate) is_ending: bool,
+    pub(crate) may_write: bool,
+    pub(crate) age: Age,
     /// Drops the commands of telnet, if they are to be dropped.
-    telnet: Option<Telnet>,
-}
-
-impl Socket {
-    /// Returns a socket that was just accepted. The system reports later that bytes came.
-    pub fn new(alloc: Global, stream: TcpStream, age: Age, telnet: Option<Telnet>) -> Socket
-        ensures { waits_of result ≡ [] }
-    {
-        Socket {
-            stream,
-            waiting: Waiting::new(alloc),
-            input: Vec::new(alloc),
-            may_read: false,
-            is_ending: false,
-            may_write: true,
-            age,
-            telnet,
-        }
-    }
-
-    /// Returns when it was accepted.
-    pub fn age(&self) -> Age {
-        self.age
-    }
-
-    /// Records what the system reports of the socket.
-    pub fn wake(&mut self, event: &Event)
-        ensures { waits_of self.new ≡ waits_of self.old }
-    {
-        if event.is_read_closed() || event.is_error() {
-            self.is_ending = true;
-        }
-        if event.is_readable() || self.is_ending {
-            self.may_read = true;
-        }
-        if event.is_writable() || event.is_write_closed() || event.is_error() {
-            self.may_write = true;
-        }
-    }
-
-    /// Returns whether a read may return something.
-    pub fn is_readable(&self) -> bool
-        ensures { result ≡ is_readable self.now }
-    {
-        self.may_read || !self.input.is_empty()
-    }
-
-    /// Returns whether a write may succeed.
-    pub fn may_write(&self) -> bool {
-        self.may_write
-    }
-
-    /// Returns the number of bytes that wait for it.
-    pub fn waiting(&self) -> usize
-        ensures { result ≡ length (waits_of self.now) }
-    {
-        self.waiting.count()
-    }
-
-    /// Appends output to what waits for it. Fails only if memory runs out.
-    pub fn give(&mut self, output: Vec<u8>) -> Result<(), AllocError>
-        ensures ok { OnOk result (waits_of self.new ≡ waits_of self.old ++ output.items) }
-        ensures err { OnErr result (waits_of self.new ≡ waits_of self.old) }
-    {
-        self.waiting.add(output)
-    }
-
-    /// Returns the next piece of the input. Reads once from the system if all that was read before was returned. Fails
-    /// only if memory runs out.
-    pub fn read(&mut self, alloc: Global) -> Result<Came, AllocError>
-        ensures came { IfOk result IsCame }
-        ensures waits { waits_of self.new ≡ waits_of self.old }
-    {
-        if self.input.is_empty() && !self.receive(alloc)? {
-            return Ok(Came::End);
-        }
-        if self.input.is_empty() {
-            return Ok(Came::NothingYet);
-        }
-        let piece = self.take_piece(alloc)?;
-        Ok(Came::Bytes(piece))
-    }
-
-    // Reads once from the system. Returns false at the end and after a fault. A read that doesn't fill the buffer has
-    // emptied the system's, and the system reports what comes later. But an end may have been reported before the read.
-    fn receive(&mut self, alloc: Global) -> Result<bool, AllocError>
-        ensures { waits_of self.new ≡ waits_of self.old }
-    {
-        let mut buffer = [0u8; READ_MOST];
-        match self.stream.read(&mut buffer) {
-            Ok(0) => return Ok(false),
-            Ok(count) => {
-                self.may_read = self.is_ending || count == READ_MOST;
-                self.input = self.text(alloc, &buffer[..count])?;
-            }
-            Err(error) if error.kind() == ErrorKind::WouldBlock => self.may_read = false,
-            Err(error) if error.kind() == ErrorKind::Interrupted => {}
-            Err(_) => return Ok(false),
-        }
-        Ok(true)
-    }
-
-    // Removes the first piece from the input.
-    fn take_piece(&mut self, alloc: Global) -> Result<Vec<u8>, AllocError>
-        requires { 0 < length self.old.input.items }
-        ensures piece { IfOk result IsPiece }
-        ensures waits { waits_of self.new ≡ waits_of self.old }
-    {
-        let count = piece_length(&self.input);
-        let rest = self.input[count..].to_vec(alloc)?;
-        self.input.truncate(count);
-        Ok(mem::replace(&mut self.input, rest))
-    }
-
-    // Returns what these bytes of the client are without the commands of telnet, or all of them if none are dropped.
-    fn text(&mut self, alloc: Global, piece: &[u8]) -> Result<Vec<u8>, AllocError>
-        ensures most { IfOk result (λ text. length text.items ≤ length piece.now) }
-        ensures waits { waits_of self.new ≡ waits_of self.old }
-    {
-        match &mut self.telnet {
-            Some(telnet) => telnet.text(alloc, piece),
-            None => piece.to_vec(alloc),
-        }
-    }
-
-    /// Writes once from the front of what waits, if anything does, and returns the number of bytes. A failed write
-    /// removes none.
-    pub fn write(&mut self) -> io::Result<usize>
-        ensures out { IfOk result (λ count. (count ≤ length (waits_of self.old)) × (waits_of self.new ≡ drop count (waits_of self.old))) }
-        ensures failed { OnErr result (waits_of self.new ≡ waits_of self.old) }
-    {
-        if !self.may_write || self.waiting.is_empty() {
-            return Ok(0);
-        }
-        self.waiting.turn();
-        match self.stream.write(self.waiting.front()) {
-            Ok(count) => {
-                self.waiting.take(count);
-                Ok(count)
-            }
-            Err(error) if error.kind() == ErrorKind::WouldBlock => {
-                self.may_write = false;
-                Ok(0)
-            }
-            Err(error) if error.kind() == ErrorKind::Interrupted => Ok(0),
-            Err(error) => Err(error),
-        }
-    }
+    pub(crate) telnet: Option<Telnet>,
+    /// The frames, if the socket is a WebSocket.
+    pub(crate) channel: Option<Channel>,
+    /// The number of bytes at the front of what waits that are in frames.
+    pub(crate) carried: usize,
+    ghost carried_in_range: { carried + waiting.gone ≤ vec_len waiting.going },
 }

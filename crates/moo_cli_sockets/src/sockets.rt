@@ -11,6 +11,7 @@ use mio::event::Event;
 use mio::net::TcpListener;
 use mio::{Events, Interest, Poll, Token};
 use moo_cli_telnet::Telnet;
+use moo_cli_web_listener::WebListener;
 use slab::Slab;
 use std::alloc::{AllocError, Global};
 use std::io::ErrorKind;
@@ -56,6 +57,10 @@ pub struct Sockets {
     has_waited: bool,
     /// Whether a connection was accepted or closed since `rest`.
     pub(crate) is_busy: bool,
+    /// The listener for browsers, if there is one.
+    pub(crate) web: Option<WebListener>,
+    /// The second in which the silence of WebSockets was last looked at.
+    pub(crate) tended: u64,
 }
 
 impl Sockets {
@@ -92,6 +97,8 @@ impl Sockets {
             writable: Vec::new(alloc),
             has_waited: false,
             is_busy: false,
+            web: None,
+            tended: 0,
         })
     }
 
@@ -129,17 +136,29 @@ impl Sockets {
         self.sockets.capacity()
     }
 
-    /// Closes a connection's socket, and drops the output that waits for it.
-    #[tactic(auto, using(crate::proofs::Sent::closes))]
+    /// Closes a connection's socket, and drops the output that waits for it. A WebSocket gets a close before.
+    #[tactic(auto, using(crate::proofs::Sent::closes_after))]
     pub fn close(&mut self, c: u16)
         ensures closes { Closes c self.old.sockets self.new.sockets }
         ensures others { (k : ℕ) → k ≢ c → get self.new.sockets k ≡ get self.old.sockets k }
         ensures readable { self.new.readable ≡ self.old.readable }
     {
+        self.send_close(c);
         self.sockets.try_remove(usize::from(c));
         self.is_busy = true;
         self.is_full = false;
         self.shrink();
+    }
+
+    // Sends the close of a WebSocket.
+    fn send_close(&mut self, c: u16)
+        ensures held { (k : ℕ) → held self.new.sockets k ≡ held self.old.sockets k }
+        ensures others { (k : ℕ) → k ≢ c → get self.new.sockets k ≡ get self.old.sockets k }
+        ensures readable { self.new.readable ≡ self.old.readable }
+    {
+        if let Some(socket) = self.sockets.get_mut(usize::from(c)) {
+            socket.send_close();
+        }
     }
 
     // The search for strangers visits all numbers below the capacity. If most are free, this frees those above the
@@ -210,7 +229,7 @@ impl Sockets {
         Ok(())
     }
 
-    // Marks the socket or the listener that an event names.
+    // Marks the socket, the listener or the browser that an event names.
     fn wake(&mut self, event: &Event) -> Result<(), AllocError>
         ensures held { (c : ℕ) → held self.new.sockets c ≡ held self.old.sockets c }
         ensures named { OnOk result (IsNamed (event_token event.now).0 self.new.sockets self.new.readable.items self.new.writable.items) }
@@ -219,6 +238,9 @@ impl Sockets {
         let Token(key) = event.token();
         if key == LISTENER.0 {
             self.may_accept = true;
+        }
+        if let Some(web) = &mut self.web {
+            web.wake(key);
         }
         let Some(socket) = self.sockets.get_mut(key) else {
             return Ok(());

@@ -16,7 +16,7 @@ returns g c =
       below = read.0;
       all = all;
       opens = c.in_ok-opened.ensures.0;
-      read = each_map (λ k e. IsRead (held c.accept.new.self.sockets k) k e) (λ k e. IsRead (held_after k (held c.args.self.now.sockets k) (only opened)) k e) read.0 read.1
+      read = each_map (λ k e. IsRead (held c.open_one.new.self.sockets k) k e) (λ k e. IsRead (held_after k (held c.args.self.now.sockets k) (only opened)) k e) read.0 read.1
           (λ k less e is. subst (λ (w : Option (List ℕ)). IsRead w k e) (c.in_ok-opened.ensures.1 k) is) read.2;
-      follow = follow_append (only opened) read.1 c.read_all.new.events.items c.args.self.now.sockets c.accept.new.self.sockets c.read_all.new.self.sockets all c.in_ok-opened.ensures.1 read.3;
+      follow = follow_append (only opened) read.1 c.read_all.new.events.items c.args.self.now.sockets c.open_one.new.self.sockets c.read_all.new.self.sockets all c.in_ok-opened.ensures.1 read.3;
     }

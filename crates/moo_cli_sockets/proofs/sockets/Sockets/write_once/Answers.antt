@@ -1,5 +1,5 @@
 use Rattle.moo_cli_sockets.proofs.Sent.{sends}
-use Rattle.moo_cli_sockets.proofs.sockets.Sockets.write.Goals as goal
+use Rattle.moo_cli_sockets.proofs.sockets.Sockets.write_once.Goals as goal
 
 pub returns-clause-sent : goal.returns-clause-sent
 returns-clause-sent c =

@@ -1,0 +1,38 @@
+//! The addresses on which a server listens.
+ghost use Rattle.std.specs.Prelude.{◌≡◌, ℕ, IfOk, None};
+ghost use Rattle.moo_cli_sockets.specs.Coming.{held};
+
+use log::{Log, info};
+use moo_cli_sockets::{Sockets, SocketsFault};
+use moo_cli_telnet::Telnet;
+use std::alloc::Global;
+use std::net::{IpAddr, Net};
+
+/// The port for browsers, and who may connect there.
+#[derive(Clone, Copy, Debug)]
+pub struct Web<'a> {
+    /// The port, or 0 for any that is free.
+    pub port: u16,
+    /// The origins of pages that may connect, besides those of this machine.
+    pub origins: &'a [&'a str],
+}
+
+/// Listens on a port of an address, and for browsers on another if they are served. Logs the address of the page. No connection has
+/// a socket yet. Fails if an address is not available, or if memory runs out.
+pub fn listen<R: Net + Log>(
+    rt: &R,
+    alloc: Global,
+    host: IpAddr,
+    port: u16,
+    telnet: Option<Telnet>,
+    web: Option<Web<'_>>,
+) -> Result<Sockets, SocketsFault>
+    ensures { IfOk result (λ sockets. (c : ℕ) → held sockets.sockets c ≡ None) }
+{
+    let mut sockets = Sockets::open(rt, alloc, host, port, telnet)?;
+    if let Some(web) = web {
+        let address = sockets.open_web(rt, host, web.port, web.origins)?;
+        info!(rt; target: "moo::serve", "the page for browsers is http://{address}/");
+    }
+    Ok(sockets)
+}

@@ -1,0 +1,6 @@
+use Rattle.std.proofs.Common.{◌≡◌, ℕ}
+use Rattle.moo_cli_sockets.specs.Coming.{held}
+use Rattle.moo_cli_sockets.proofs.sockets.Sockets.tend_all.Given as goal
+
+abbrev pub invariant-loop-key : goal.invariant-loop-key
+invariant-loop-key l = (c : ℕ) → held l.self.sockets c ≡ held l.initial.self.sockets c

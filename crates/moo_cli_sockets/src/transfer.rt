@@ -1,0 +1,215 @@
+//! The calls of a socket.
+ghost use Rattle.std.specs.Prelude.{◌≡◌, ◌≤◌, ◌<◌, ◌++◌, [], length, drop, IfOk, OnOk, OnErr};
+ghost use Rattle.moo_cli_sockets.specs.Waiting.{IsCame, IsNext, IsPiece, is_readable, waits_of};
+
+use crate::age::Age;
+use crate::piece::{READ_MOST, piece_length};
+use crate::socket::{Came, Socket};
+use crate::waiting::Waiting;
+use mio::event::Event;
+use mio::net::TcpStream;
+use moo_cli_telnet::Telnet;
+use moo_cli_web_frames::Channel;
+use std::alloc::{AllocError, Global};
+use std::io::{ErrorKind, Read, Write};
+use std::{io, mem};
+
+impl Socket {
+    /// Returns a socket that was just accepted. The system reports later that bytes came. It is a WebSocket if it has
+    /// a channel: then bytes may have come before.
+    pub fn new(
+        alloc: Global,
+        stream: TcpStream,
+        age: Age,
+        telnet: Option<Telnet>,
+        channel: Option<Channel>,
+    ) -> Socket
+        ensures { waits_of result ≡ [] }
+    {
+        let may_read = channel.is_some();
+        Socket {
+            stream,
+            waiting: Waiting::new(alloc),
+            input: Vec::new(alloc),
+            may_read,
+            is_ending: false,
+            may_write: true,
+            age,
+            telnet,
+            channel,
+            carried: 0,
+        }
+    }
+
+    /// Returns when it was accepted.
+    pub fn age(&self) -> Age {
+        self.age
+    }
+
+    /// Records what the system reports of the socket.
+    pub fn wake(&mut self, event: &Event)
+        ensures { waits_of self.new ≡ waits_of self.old }
+    {
+        if event.is_read_closed() || event.is_error() {
+            self.is_ending = true;
+        }
+        if event.is_readable() || self.is_ending {
+            self.may_read = true;
+        }
+        if event.is_writable() || event.is_write_closed() || event.is_error() {
+            self.may_write = true;
+        }
+    }
+
+    /// Returns whether a read may return something.
+    pub fn is_readable(&self) -> bool
+        ensures { result ≡ is_readable self.now }
+    {
+        self.may_read || !self.input.is_empty()
+    }
+
+    /// Returns whether a write may send something: output or frames wait, and the system may take some.
+    pub fn is_writable(&self) -> bool {
+        self.may_write && (self.has_frames() || !self.waiting.is_empty())
+    }
+
+    /// Returns the number of bytes that wait for it.
+    pub fn waiting(&self) -> usize
+        ensures { result ≡ length (waits_of self.now) }
+    {
+        self.waiting.count()
+    }
+
+    /// Appends output to what waits for it. Fails only if memory runs out.
+    pub fn give(&mut self, output: Vec<u8>) -> Result<(), AllocError>
+        ensures ok { OnOk result (waits_of self.new ≡ waits_of self.old ++ output.items) }
+        ensures err { OnErr result (waits_of self.new ≡ waits_of self.old) }
+    {
+        self.waiting.add(output)
+    }
+
+    /// Returns the next piece of the input. Reads once from the system if all that was read before was returned. Fails
+    /// only if memory runs out.
+    pub fn read(&mut self, alloc: Global) -> Result<Came, AllocError>
+        ensures came { IfOk result IsCame }
+        ensures next { IfOk result (λ came. 0 < length self.old.input.items → IsNext came self.old.input.items self.new.input.items) }
+        ensures waits { waits_of self.new ≡ waits_of self.old }
+    {
+        if self.input.is_empty() && !self.receive(alloc)? {
+            return Ok(Came::End);
+        }
+        if self.input.is_empty() {
+            return Ok(Came::NothingYet);
+        }
+        let piece = self.take_piece(alloc)?;
+        Ok(Came::Bytes(piece))
+    }
+
+    // Reads once from the system, unless frames hold a WebSocket up. Returns false at the end and after a fault. A read
+    // that doesn't fill the buffer has emptied the system's, and the system reports what comes later. But an end may have
+    // been reported before the read.
+    fn receive(&mut self, alloc: Global) -> Result<bool, AllocError>
+        ensures { waits_of self.new ≡ waits_of self.old }
+    {
+        if self.is_over() {
+            return Ok(false);
+        }
+        if self.is_held_up() {
+            self.may_read = false;
+            return Ok(true);
+        }
+        let mut buffer = [0u8; READ_MOST];
+        match self.stream.read(&mut buffer) {
+            Ok(0) => return Ok(false),
+            Ok(count) => {
+                self.may_read = self.is_ending || count == READ_MOST;
+                self.keep_input(alloc, &buffer[..count])?;
+            }
+            Err(error) if error.kind() == ErrorKind::WouldBlock => self.may_read = false,
+            Err(error) if error.kind() == ErrorKind::Interrupted => {}
+            Err(_) => return Ok(false),
+        }
+        Ok(true)
+    }
+
+    // Keeps what these bytes of the client say: the payload of the messages that they complete, or text.
+    fn keep_input(&mut self, alloc: Global, bytes: &[u8]) -> Result<(), AllocError>
+        ensures { waits_of self.new ≡ waits_of self.old }
+    {
+        if self.channel.is_some() {
+            return self.keep_payload(alloc, bytes);
+        }
+        self.input = self.text(alloc, bytes)?;
+        Ok(())
+    }
+
+    // Removes the first piece from the input.
+    fn take_piece(&mut self, alloc: Global) -> Result<Vec<u8>, AllocError>
+        requires { 0 < length self.old.input.items }
+        ensures piece { IfOk result IsPiece }
+        ensures next { IfOk result (λ piece. self.old.input.items ≡ piece.items ++ self.new.input.items) }
+        ensures waits { waits_of self.new ≡ waits_of self.old }
+    {
+        let count = piece_length(&self.input);
+        let rest = self.input[count..].to_vec(alloc)?;
+        self.input.truncate(count);
+        Ok(mem::replace(&mut self.input, rest))
+    }
+
+    // Returns what these bytes of the client are without the commands of telnet, or all of them if none are dropped.
+    fn text(&mut self, alloc: Global, piece: &[u8]) -> Result<Vec<u8>, AllocError>
+        ensures most { IfOk result (λ text. length text.items ≤ length piece.now) }
+        ensures waits { waits_of self.new ≡ waits_of self.old }
+    {
+        match &mut self.telnet {
+            Some(telnet) => telnet.text(alloc, piece),
+            None => piece.to_vec(alloc),
+        }
+    }
+
+    /// Writes once from the front of what waits, if anything does, and returns the number of bytes. A failed write
+    /// removes none. The bytes that a frame of a WebSocket carries are out once all of the frame is.
+    pub fn write(&mut self) -> io::Result<usize>
+        ensures out { IfOk result (λ count. (count ≤ length (waits_of self.old)) × (waits_of self.new ≡ drop count (waits_of self.old))) }
+        ensures failed { OnErr result (waits_of self.new ≡ waits_of self.old) }
+    {
+        if self.channel.is_some() {
+            return self.write_frames();
+        }
+        self.write_text()
+    }
+
+    // Writes once from the front of what waits. No frame carries any of it.
+    fn write_text(&mut self) -> io::Result<usize>
+        ensures out { IfOk result (λ count. (count ≤ length (waits_of self.old)) × (waits_of self.new ≡ drop count (waits_of self.old))) }
+        ensures failed { OnErr result (waits_of self.new ≡ waits_of self.old) }
+    {
+        self.carried = 0;
+        self.waiting.turn();
+        let count = write_once(&mut self.stream, &mut self.may_write, self.waiting.front())?;
+        self.waiting.take(count);
+        Ok(count)
+    }
+}
+
+/// Writes bytes once, if there are any and the socket may take some, and returns the number that it took.
+pub(crate) fn write_once(
+    stream: &mut TcpStream,
+    may_write: &mut bool,
+    bytes: &[u8],
+) -> io::Result<usize>
+    ensures { IfOk result (λ count. count ≤ length bytes.now) }
+{
+    if !*may_write || bytes.is_empty() {
+        return Ok(0);
+    }
+    match stream.write(bytes) {
+        Ok(count) => Ok(count),
+        Err(error) if error.kind() == ErrorKind::WouldBlock => {
+            *may_write = false;
+            Ok(0)
+        }
+        Err(error) if error.kind() == ErrorKind::Interrupted => Ok(0),
+        Err(error) => Err(error),
+    }
+}

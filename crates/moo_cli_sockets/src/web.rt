@@ -1,0 +1,150 @@
+//! Browsers: the page that they get, and their WebSockets, which are connections.
+ghost use Rattle.std.specs.Prelude.{◌≡◌, ◌≢◌, ℕ, IfOk};
+ghost use Rattle.moo_cli_sockets.specs.Coming.{Follow, IsOpening, held, only};
+
+use crate::Socket;
+use crate::age::{Age, seconds};
+use crate::descriptors::is_at;
+use crate::fault::SocketsFault;
+use crate::sockets::{CONSOLE, Sockets};
+use log::{Log, warn};
+use mio::{Interest, Token};
+use moo_cli_web_frames::Channel;
+use moo_cli_web_listener::{Upgrade, WebListener};
+use moo_server_core::Event;
+use std::alloc::{AllocError, Global};
+use std::net::{IpAddr, Net, SocketAddr};
+use std::rt::Clock;
+use websocket::handshake::server::write_response;
+
+impl Sockets {
+    /// Listens for browsers on a port of an address, and returns the address. Port 0 takes any free one. Pages of this
+    /// machine and of these further origins may connect. Fails if the address is not available, or if memory runs out.
+    pub fn open_web<N: Net>(
+        &mut self,
+        rt: &N,
+        host: IpAddr,
+        port: u16,
+        origins: &[&str],
+    ) -> Result<SocketAddr, SocketsFault>
+        ensures { (c : ℕ) → held self.new.sockets c ≡ held self.old.sockets c }
+    {
+        let registry = self.poll.registry();
+        let web = WebListener::open(rt, self.alloc, registry, host, port, origins).map_err(
+            SocketsFault::of_web,
+        )?;
+        let address = web.address().map_err(SocketsFault::of_web)?;
+        self.web = Some(web);
+        Ok(address)
+    }
+
+    // Reads requests of browsers and writes responses, once for each. Once in a second, looks which WebSockets are
+    // silent. Fails only if memory runs out.
+    pub(crate) fn serve_web<C: Clock>(&mut self, clock: &C) -> Result<(), AllocError>
+        ensures { (c : ℕ) → held self.new.sockets c ≡ held self.old.sockets c }
+    {
+        let Some(web) = &mut self.web else {
+            return Ok(());
+        };
+        let is_busy = web.serve(self.poll.registry(), self.most_descriptors)?;
+        self.is_busy = self.is_busy || is_busy;
+        let now = seconds(clock);
+        if now != self.tended {
+            self.tended = now;
+            self.tend_all(now)?;
+        }
+        Ok(())
+    }
+
+    // Looks at each WebSocket whether it is silent.
+    fn tend_all(&mut self, now: u64) -> Result<(), AllocError>
+        ensures { (c : ℕ) → held self.new.sockets c ≡ held self.old.sockets c }
+    {
+        for key in 0..self.sockets.capacity() {
+            let Ok(c) = u16::try_from(key) else { break };
+            self.tend(c, now)?;
+        }
+        Ok(())
+    }
+
+    // Looks whether a socket is a WebSocket that is silent. Lists it as one to which more may be written if a ping is to
+    // be sent, and as one that is read from if it is over.
+    fn tend(&mut self, c: u16, now: u64) -> Result<(), AllocError>
+        ensures { (k : ℕ) → held self.new.sockets k ≡ held self.old.sockets k }
+    {
+        if let Some(socket) = self.sockets.get_mut(usize::from(c)) {
+            socket.tend(now);
+        }
+        self.keep_writable(c)?;
+        self.keep_readable(c)
+    }
+
+    // Opens a connection for a browser that asked for a WebSocket, if one did. Closes the WebSocket if no number is left
+    // for it, or if the system can't watch it.
+    pub(crate) fn upgrade<L: Clock + Log>(&mut self, rt: &L) -> Result<Option<Event>, AllocError>
+        ensures { IfOk result (λ event. IsOpening self.old.sockets event × Follow (only event) self.old.sockets self.new.sockets) }
+    {
+        if self.is_full {
+            return Ok(None);
+        }
+        let Some(web) = &mut self.web else {
+            return Ok(None);
+        };
+        let Some(upgrade) = web.take_upgrade()? else {
+            return Ok(None);
+        };
+        self.is_busy = true;
+        match u16::try_from(self.sockets.vacant_key()) {
+            Ok(c) if c != CONSOLE => self.keep_upgrade(rt, c, upgrade),
+            _ => {
+                warn!(rt; target: "moo::serve", "a connection is refused: all numbers are taken");
+                Ok(None)
+            }
+        }
+    }
+
+    // Keeps the socket of a WebSocket under its number. Its handshake is to be written, and frames may have come with the
+    // request.
+    fn keep_upgrade<C: Clock>(
+        &mut self,
+        clock: &C,
+        c: u16,
+        upgrade: Upgrade,
+    ) -> Result<Option<Event>, AllocError>
+        requires vacant { c ≡ self.old.sockets.vacant_key }
+        requires given { c ≢ CONSOLE }
+        ensures { IfOk result (λ event. IsOpening self.old.sockets event × Follow (only event) self.old.sockets self.new.sockets) }
+    {
+        let Upgrade {
+            mut stream,
+            accept,
+            frames,
+        } = upgrade;
+        let both = Interest::READABLE | Interest::WRITABLE;
+        let token = Token(usize::from(c));
+        let registered = self.poll.registry().reregister(&mut stream, token, both);
+        if registered.is_err() || stream.set_nodelay(true).is_err() {
+            return Ok(None);
+        }
+        self.is_full = is_at(&stream, self.most_descriptors);
+        self.arrivals = self.arrivals.wrapping_add(1);
+        let age = Age::new(clock, self.arrivals);
+        let channel = open_channel(self.alloc, &accept, age.second)?;
+        let mut socket = Socket::new(self.alloc, stream, age, None, Some(channel));
+        socket.keep_payload(self.alloc, &frames)?;
+        self.sockets.reserve(1)?;
+        self.readable.push(c)?;
+        self.writable.push(c)?;
+        self.sockets.insert_reserved(socket);
+        Ok(Some(Event::Open(c)))
+    }
+}
+
+// Returns the channel of a WebSocket whose key is accepted by this value. Fails only if memory runs out.
+fn open_channel(alloc: Global, accept: &[u8; 28], second: u64) -> Result<Channel, AllocError> {
+    let mut response = Vec::new(alloc);
+    if write_response(accept, &[], &mut response).is_err() {
+        return Err(AllocError);
+    }
+    Ok(Channel::new(alloc, response, second))
+}

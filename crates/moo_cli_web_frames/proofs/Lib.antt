@@ -1,0 +1,4 @@
+pub mod Accepting
+pub mod Pieces
+pub mod Reading
+pub mod Sending

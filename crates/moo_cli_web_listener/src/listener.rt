@@ -1,0 +1,181 @@
+//! The listener for browsers.
+ghost use Rattle.std.specs.Prelude.{◌≤◌, ◌<◌, ◌+◌};
+
+use crate::caller::{Caller, Progress, Upgrade};
+use crate::names::allowed_names;
+use mio::net::{TcpListener, TcpStream};
+use mio::{Interest, Registry, Token};
+use moo_cli_web_request::Allowed;
+use slab::Slab;
+use std::alloc::{AllocError, Global};
+use std::io;
+use std::net::{IpAddr, Net, SocketAddr};
+use std::os::fd::AsRawFd;
+
+/// The greatest number of callers. The next takes the place of the one that came first.
+const CALLERS_MOST: usize = 64;
+
+/// The token of the listener.
+const LISTENER: Token = Token(usize::MAX - 1);
+
+/// The token of the first caller. The tokens of connections are lower.
+const FIRST_CALLER: usize = 1 << 20;
+
+/// Holds the listener for browsers, and the callers: browsers whose request isn't answered yet.
+#[derive(Drop)]
+pub struct WebListener {
+    alloc: Global,
+    listener: TcpListener,
+    /// Whether a browser may wait to be accepted.
+    may_accept: bool,
+    allowed: Allowed,
+    callers: Slab<Caller>,
+    /// The number of callers that were accepted.
+    arrivals: u64,
+}
+
+impl WebListener {
+    /// Listens for browsers on a port of an address. Port 0 takes any free one. Pages of this machine and of these further origins
+    /// may open a WebSocket. Fails if the address is not available, or if memory runs out.
+    pub fn open<N: Net>(
+        rt: &N,
+        alloc: Global,
+        registry: &Registry,
+        host: IpAddr,
+        port: u16,
+        origins: &[&str],
+    ) -> io::Result<WebListener> {
+        let mut listener = TcpListener::bind(rt, SocketAddr::from((host, port)))?;
+        registry.register(&mut listener, LISTENER, Interest::READABLE)?;
+        let address = listener.local_addr()?;
+        let allowed = allowed_names(alloc, address.port(), origins)?;
+        Ok(WebListener {
+            alloc,
+            listener,
+            may_accept: true,
+            allowed,
+            callers: Slab::new(alloc),
+            arrivals: 0,
+        })
+    }
+
+    /// Returns the address on which it listens.
+    pub fn address(&self) -> io::Result<SocketAddr> {
+        self.listener.local_addr()
+    }
+
+    /// Records that the system reports this token as ready. That of another does nothing.
+    pub fn wake(&mut self, token: usize) {
+        if token == LISTENER.0 {
+            self.may_accept = true;
+            return;
+        }
+        if let Some(key) = token.checked_sub(FIRST_CALLER) {
+            if let Some(caller) = self.callers.get_mut(key) {
+                caller.wake();
+            }
+        }
+    }
+
+    /// Accepts a browser, if one waits, unless its descriptor would be at this number or a higher one. Then makes a step of each
+    /// caller. Returns whether anything was done. Fails only if memory runs out.
+    pub fn serve(
+        &mut self,
+        registry: &Registry,
+        most_descriptors: u64,
+    ) -> Result<bool, AllocError> {
+        let mut is_busy = self.accept(registry, most_descriptors)?;
+        for key in 0..self.callers.capacity() {
+            let progress = self.step(key)?;
+            is_busy = is_busy || progress != Progress::None;
+        }
+        Ok(is_busy)
+    }
+
+    // Makes a step of a caller, and closes its connection once it is done.
+    fn step(&mut self, key: usize) -> Result<Progress, AllocError> {
+        let Some(caller) = self.callers.get_mut(key) else {
+            return Ok(Progress::None);
+        };
+        let progress = caller.step(&self.allowed)?;
+        if progress == Progress::Done {
+            self.callers.try_remove(key);
+        }
+        Ok(progress)
+    }
+
+    // Accepts a browser, if one waits, and returns whether one did.
+    fn accept(&mut self, registry: &Registry, most_descriptors: u64) -> Result<bool, AllocError> {
+        if !self.may_accept {
+            return Ok(false);
+        }
+        let Ok((stream, _)) = self.listener.accept() else {
+            self.may_accept = false;
+            return Ok(false);
+        };
+        let number = u64::try_from(stream.as_raw_fd());
+        if number.is_ok_and(|number| number < most_descriptors) {
+            self.keep(registry, stream)?;
+        }
+        Ok(true)
+    }
+
+    // Keeps a new caller. Closes its connection if the system can't watch it.
+    fn keep(&mut self, registry: &Registry, mut stream: TcpStream) -> Result<(), AllocError> {
+        self.make_room();
+        self.callers.reserve(1)?;
+        let key = self.callers.vacant_key();
+        let Some(token) = key.checked_add(FIRST_CALLER) else {
+            return Ok(());
+        };
+        let both = Interest::READABLE | Interest::WRITABLE;
+        if registry.register(&mut stream, Token(token), both).is_err() {
+            return Ok(());
+        }
+        self.arrivals = self.arrivals.wrapping_add(1);
+        let caller = Caller::new(self.alloc, stream, self.arrivals);
+        self.callers.insert_reserved(caller);
+        Ok(())
+    }
+
+    // Closes the connection of the caller that came first, if there are as many callers as there may be.
+    fn make_room(&mut self) {
+        if self.callers.len() < CALLERS_MOST {
+            return;
+        }
+        let mut first = None;
+        for key in 0..self.callers.capacity() {
+            if let Some(caller) = self.callers.get(key) {
+                first = earlier(first, (caller.arrival, key));
+            }
+        }
+        if let Some((_, key)) = first {
+            self.callers.try_remove(key);
+        }
+    }
+
+    /// Removes a caller that waits to become a WebSocket, and returns its connection. Fails only if memory runs out.
+    pub fn take_upgrade(&mut self) -> Result<Option<Upgrade>, AllocError> {
+        for key in 0..self.callers.capacity() {
+            if self
+                .callers
+                .get(key)
+                .is_some_and(|caller| caller.is_upgrading())
+            {
+                return match self.callers.try_remove(key) {
+                    Some(caller) => caller.upgrade(self.alloc),
+                    None => Ok(None),
+                };
+            }
+        }
+        Ok(None)
+    }
+}
+
+// Returns the one with the lower arrival.
+fn earlier(first: Option<(u64, usize)>, caller: (u64, usize)) -> Option<(u64, usize)> {
+    match first {
+        Some(first) if first.0 <= caller.0 => Some(first),
+        _ => Some(caller),
+    }
+}

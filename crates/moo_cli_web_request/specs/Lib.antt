@@ -1,0 +1,2 @@
+-- What a browser's request asks for.
+pub mod Requests

@@ -1,0 +1,60 @@
+-- What a request asks for, by the grammar of its head, and which hosts and origins may ask.
+use Rattle.std.specs.Prelude.{◌≡◌, ◌⊎◌, ℕ, Bool, true, false, not, List, codes, bytes_eq, take, map, length, Option, None, Some, Result, Ok, Err}
+use Rattle.std.specs.List.{list_any}
+use Rattle.std.specs.Global.{Vec}
+use Rattle.httparse.specs.Grammar.{RequestHead, print_request}
+use Rattle.httparse.specs.Spans.{name_and_value}
+use Rattle.httparse.specs.declared.spans.HeaderSpan.{HeaderSpan}
+use Rattle.httparse.specs.declared.spans.RequestSpans.{RequestSpans}
+use Rattle.websocket.specs.Headers.{Fields, eq_ignore_case, fields_of, header_value}
+use Rattle.websocket.specs.Handshake.{IsValidKey, accept_key_of, requested_key}
+use Rattle.websocket.specs.declared.handshake.failure.HandshakeError.{HandshakeError}
+use Rattle.moo_cli_web_request.specs.declared.allowed.Allowed.{Allowed}
+use Rattle.moo_cli_web_request.specs.declared.request.Request.{Request}
+use Rattle.moo_cli_web_request.specs.declared.request.Request.TheVariants as the
+use Rattle.moo_cli_web_request.specs.declared.refusal.Refusal.TheVariants as refused
+
+-- the text differs from one of these in the case of letters alone
+abbrev pub is_one_of : List (Vec ℕ) → List ℕ → Bool
+is_one_of names text = list_any (λ name. eq_ignore_case name.items text) names
+
+abbrev pub is_among : List (Vec ℕ) → Option (List ℕ) → Bool
+is_among values None = false
+is_among values (Some value) = is_one_of values value
+
+-- the first field of this name has one of these values
+abbrev pub is_named : Fields → List ℕ → List (Vec ℕ) → Bool
+is_named fields name values = is_among values (header_value fields name)
+
+abbrev pub fields_in : List ℕ → List HeaderSpan → RequestSpans → Fields
+fields_in bytes spans head = fields_of bytes (take head.headers spans)
+
+-- a valid key is accepted, after a head of this length; all else is no handshake
+abbrev pub AcceptsKey : Result (List ℕ) HandshakeError → ℕ → Request → Type 0
+AcceptsKey (Ok key) n asked = (IsValidKey key × (asked ≡ the.Upgrade (accept_key_of key) n)) ⊎ (¬ (IsValidKey key) × (asked ≡ the.Refused refused.UpgradeRequired))
+AcceptsKey (Err e) n asked = asked ≡ the.Refused refused.UpgradeRequired
+
+-- one of two facts
+abbrev pub Choose : Bool → Type 0 → Type 0 → Type 0
+Choose true A B = A
+Choose false A B = B
+
+-- a WebSocket is opened for a page of an allowed origin, by the handshake of RFC 6455
+abbrev pub Upgrades : Allowed → List ℕ → ℕ → Fields → ℕ → Request → Type 0
+Upgrades allowed method version fields n asked =
+    Choose (is_named fields (codes "Origin") allowed.origins.items)
+    (AcceptsKey (requested_key method version fields) n asked)
+    (asked ≡ the.Refused refused.Forbidden)
+
+-- what a head of these parts and this length asks for
+abbrev pub RequestsBy : Allowed → List ℕ → List ℕ → ℕ → Fields → ℕ → Request → Type 0
+RequestsBy allowed method target version fields n asked =
+    Choose (not (is_named fields (codes "Host") allowed.hosts.items)) (asked ≡ the.Refused refused.Forbidden)
+    (Choose (not (bytes_eq method (codes "GET"))) (asked ≡ the.Refused refused.MethodNotAllowed)
+    (Choose (bytes_eq target (codes "/")) (asked ≡ the.Page)
+    (Choose (bytes_eq target (codes "/ws")) (Upgrades allowed method version fields n asked)
+    (asked ≡ the.Refused refused.NotFound))))
+
+-- what a head asks for
+abbrev pub Requests : Allowed → RequestHead → Request → Type 0
+Requests allowed h asked = RequestsBy allowed h.method h.target h.minor (map name_and_value h.fields) (length (print_request h)) asked

@@ -16,6 +16,10 @@ MANY = '{player,"rxd",s},{"this","none","this"}'
 # A program with 62,500 variables.
 VARIABLES = 'b="";i=0;while(i<250)i=i+1;b=tostr(b,"?",i,";");endwhile t="return 0;";i=0;while(i<250)i=i+1;t=t+strsub(b,"?",tostr("v",i,"_"));endwhile '
 NAMES = 's="a ";while(length(s)<500000)s=s+s;endwhile i=0;while(i<100)i=i+1;add_verb(player,' + MANY + ');endwhile '
+# 1,000 verbs with names of 127 bytes each, of which the text before `while` is the first pattern.
+ALIKE = 'while(length(s)<125)s=s+%s;endwhile i=0;while(i<1000)i=i+1;add_verb(player,' + MANY + ');endwhile '
+ABBREVIATED = 's="a*";' + ALIKE % '"b"'
+OPEN = 's="a*";' + ALIKE % '" a*"'
 
 # By world: a name, what comes before the loop, its body, and how many ticks it runs.
 PROGRAMS = {
@@ -56,6 +60,8 @@ PROGRAMS = {
         ("a property that isn't there, beside 50 with names of 1 MB", STRING + 'i=0;while(i<50)i=i+1;add_property(player,tostr(s[1..999980],100+i),0,{player,"r"});endwhile t=s[1..999980]+"zzz";',
          "`player.(t) ! ANY';", 50),
         ("a call beside 100 verbs that share 1 MB of names", NAMES, "`player:zz() ! ANY';", 50),
+        ("a verb renamed among 1,000 with abbreviations of 125 letters", ABBREVIATED, 'set_verb_info(player,1,{player,"rxd",s});', 200),
+        ("a verb renamed among 1,000 with 42 names each that end in a star", OPEN, 'set_verb_info(player,1,{player,"rxd",s});', 200),
     ],
     "room of 100,000 things": [
         ("`contents` of 100,000", "", "#2.contents;", 500),

@@ -11,7 +11,7 @@ ghost use Rattle.moo_dbtext_read.specs.Reading.{IsSourceRefused, sources_at};
 ghost use Rattle.moo_cli_check.specs.Reading.{IsBehind, IsNoted, IsEnded, IsWholly};
 
 use moo_dbtext_read::{kind_of_source, take_line};
-use moo_dbtext_record::{DbFault, DbFaultKind, RecordReader, take_lines};
+use moo_dbtext_record::{DbFault, DbFaultKind, RecordReader, first_line};
 use moo_syntax::{Names, parse};
 use std::alloc::Global;
 
@@ -100,11 +100,12 @@ impl Survey {
         ensures goes { (bytes : List ℕ) → IsBehind self.old bytes → OnOk result (IsBehind self.new (bytes ++ piece.now)) }
         ensures stops { (bytes : List ℕ) → IsBehind self.old bytes → IfErr result (IsEnded (bytes ++ piece.now) self.new.faults.items) }
     {
-        take_lines!(
-            piece,
-            |line| self.line(alloc, line),
-            |rest| self.part(alloc, rest)
-        )
+        let mut more = piece;
+        while let Some(size) = first_line(more) {
+            self.line(alloc, &more[..size])?;
+            more = &more[size..];
+        }
+        self.part(alloc, more)
     }
 
     /// Returns the refused programs so far.

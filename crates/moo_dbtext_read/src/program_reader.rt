@@ -12,9 +12,7 @@ ghost use Rattle.moo_dbtext_read.specs.Reading.{IsBehind, IsRefused, HasRead, Is
 use crate::database::Database;
 use crate::fault::kind_of_source;
 use crate::program_rows::put_program;
-use moo_dbtext_record::{
-    DbFault, DbFaultKind, Dump, RecordFault, RecordReader, keep_fault, take_lines,
-};
+use moo_dbtext_record::{DbFault, DbFaultKind, Dump, RecordFault, RecordReader, first_line};
 use moo_syntax::{Names, parse_with};
 use moo_syntax_grammar::Program;
 use moo_syntax_token::NameInterner;
@@ -172,11 +170,12 @@ impl ProgramReader {
         ensures stops { (bytes : List ℕ) → IsBehind self.old bytes → IfErr result (IsRefused (bytes ++ piece.now) (taken_on limited begin (bytes ++ piece.now))) }
         ensures same { self.new.failed ≡ self.old.failed }
     {
-        take_lines!(
-            piece,
-            |line| self.line(alloc, line),
-            |rest| self.part(alloc, rest)
-        )
+        let mut more = piece;
+        while let Some(size) = first_line(more) {
+            self.line(alloc, &more[..size])?;
+            more = &more[size..];
+        }
+        self.part(alloc, more)
     }
 
     /// Takes the next piece of the text. Returns the first fault, of a line or a program, or `Memory`.
@@ -186,7 +185,14 @@ impl ProgramReader {
         ensures failed { IfErr result (HasRefused self.new) }
         ensures again { (e : DbFault) → HasRefused self.old e → IsErrOf result e }
     {
-        keep_fault!(self.failed, self.take(alloc, piece))
+        if let Some(fault) = self.failed {
+            return Err(fault);
+        }
+        let taken = self.take(alloc, piece);
+        if let Err(fault) = taken {
+            self.failed = Some(fault);
+        }
+        taken
     }
 
     /// Takes the next line with its end, as `feed` does, without a search for the end.
@@ -197,7 +203,14 @@ impl ProgramReader {
         ensures failed { IfErr result (HasRefused self.new) }
         ensures again { (e : DbFault) → HasRefused self.old e → IsErrOf result e }
     {
-        keep_fault!(self.failed, self.line(alloc, line))
+        if let Some(fault) = self.failed {
+            return Err(fault);
+        }
+        let taken = self.line(alloc, line);
+        if let Err(fault) = taken {
+            self.failed = Some(fault);
+        }
+        taken
     }
 
     /// Returns what the lines so far hold. The lines of a program are dropped at its dot.

@@ -12,7 +12,7 @@ ghost use Rattle.moo_dbtext_read.specs.Taking.{IsLoading, HasTaken, IsGoing, Has
 use crate::loading::{load, told};
 use crate::{ProgramReader, Saved};
 use moo_dbtext_object::ObjectRecord;
-use moo_dbtext_record::{DbFault, first_line, keep_fault};
+use moo_dbtext_record::{DbFault, first_line};
 use moo_dbtext_restore::check_objects;
 use std::alloc::Global;
 
@@ -112,7 +112,14 @@ impl WorldReader {
         ensures refused { (bytes : List ℕ) → HasTaken self.old bytes → IfErr result (IsRefusedFrom (bytes ++ piece.now)) }
         ensures again { (e : DbFault) → HasFailed self.old e → IsErrOf result e }
     {
-        keep_fault!(self.failed, self.take(alloc, piece))
+        if let Some(fault) = self.failed {
+            return Err(fault);
+        }
+        let taken = self.take(alloc, piece);
+        if let Err(fault) = taken {
+            self.failed = Some(fault);
+        }
+        taken
     }
 
     /// Returns the saved world of the bytes so far. Frees the memory of its records, or leaks it if `is_left`.

@@ -7,7 +7,6 @@ mod dump_reader;
 mod fault;
 mod heading;
 pub mod laws;
-mod piece;
 mod program_table;
 mod record_reader;
 mod writing;

@@ -11,7 +11,6 @@ ghost use Rattle.moo_dbtext_record.specs.Answer.{Answers, HasTaken, IsGoing, Has
 
 use crate::dump::Dump;
 use crate::dump_reader::DumpReader;
-use crate::{keep_fault, take_lines};
 use memchr::memchr;
 use moo_dbtext_object::{LineFault, Refusal};
 use moo_value::MooStr;
@@ -173,17 +172,18 @@ impl RecordReader {
         ensures steps { Answers (λ _. taken_of self.new) result (taken_on limited (taken_of self.old) piece.now) }
         ensures same { self.new.failed ≡ self.old.failed }
     {
-        take_lines!(
-            piece,
-            |line| self.whole(alloc, line),
-            |rest| match self.rest.extend_from_slice(rest) {
-                Ok(()) => Ok(()),
-                Err(_) => Err(RecordFault {
-                    line: self.lines.saturating_add(1),
-                    kind: Refusal::Memory,
-                }),
-            }
-        )
+        let mut more = piece;
+        while let Some(size) = first_line(more) {
+            self.whole(alloc, &more[..size])?;
+            more = &more[size..];
+        }
+        match self.rest.extend_from_slice(more) {
+            Ok(()) => Ok(()),
+            Err(_) => Err(RecordFault {
+                line: self.lines.saturating_add(1),
+                kind: Refusal::Memory,
+            }),
+        }
     }
 
     /// Takes the next piece of the text. Returns the first fault, or `Memory`.
@@ -195,7 +195,14 @@ impl RecordReader {
         ensures failed { IfErr result (HasFailed self.new) }
         ensures again { (e : RecordFault) → HasFailed self.old e → IsErrOf result e }
     {
-        keep_fault!(self.failed, self.take(alloc, piece))
+        if let Some(fault) = self.failed {
+            return Err(fault);
+        }
+        let taken = self.take(alloc, piece);
+        if let Err(fault) = taken {
+            self.failed = Some(fault);
+        }
+        taken
     }
 
     /// Takes the next line with its end, as `feed` does, without a search for the end.
@@ -208,7 +215,14 @@ impl RecordReader {
         ensures failed { IfErr result (HasFailed self.new) }
         ensures again { (e : RecordFault) → HasFailed self.old e → IsErrOf result e }
     {
-        keep_fault!(self.failed, self.whole(alloc, line))
+        if let Some(fault) = self.failed {
+            return Err(fault);
+        }
+        let taken = self.whole(alloc, line);
+        if let Err(fault) = taken {
+            self.failed = Some(fault);
+        }
+        taken
     }
 
     #[tactic(auto, unfolding(crate::specs::Answer::finished))]

@@ -1,8 +1,14 @@
 // Builders: every player that was created. What they do is done with their own rights.
 
+// For who types a command that others have, and names one of them with it.
+@program $builder:refuse this none this rxd
+hint = $room:hint(args[1]);
+player:tell(hint ? hint | "I don't understand that. Type help.");
+.
+
 @program $builder:@rename any any any rd wiz
 if (player != this)
-  return;
+  return $builder:refuse(verb);
 endif
 p = $string:split(args, "to");
 if (!p || !p[1] || !p[2])
@@ -84,6 +90,7 @@ if (!p || !p[1] || !p[2])
 endif
 kind = $match:object(p[1], player);
 if (!$match:found(kind, p[1], player))
+  player:tell("Kinds of things: $thing, $container, $board, $note, $vehicle.");
   return;
 elseif (($isa(kind, $room) && !$isa(kind, $vehicle)) || $isa(kind, $exit))
   player:tell("Rooms and exits are made by @dig.");
@@ -141,7 +148,7 @@ return typeof(q) == INT ? tostr("You can make ", q, " more.") | "";
 // @quota, @quota NAME
 @program $builder:@quota any any any rd
 if (player != this)
-  return;
+  return $builder:refuse(verb);
 elseif (!argstr)
   player:tell(this:quota_text());
   return;
@@ -158,7 +165,7 @@ endif
 // @recycle THING asks if others need the thing; @recycle! THING does it
 @program $builder:"@recycle @recycle!" any any any rd wiz
 if (player != this)
-  return;
+  return $builder:refuse(verb);
 endif
 set_task_perms(player);
 o = $match:object(argstr, player);
@@ -248,7 +255,7 @@ fault = $recycler:fault(player, length(ways) + fresh);
 fault = fault || !ways ? fault | here:exit_fault(player);
 fault = fault || length(ways) < 2 || fresh ? fault | room:exit_fault(player);
 fault = fault || !ways || !(n = here:taken_name(ways[1], #-1)) ? fault | tostr("There is an exit ", $string:quoted(n), " here already.");
-fault = fault || length(ways) < 2 || fresh || !(n = room:taken_name(ways[2], #-1)) ? fault | tostr("There is an exit ", $string:quoted(n), " there already.");
+fault = fault || length(ways) < 2 || fresh || !(n = room:taken_name(ways[2], #-1)) ? fault | tostr("There is an exit ", $string:quoted(n), " in ", room.name, " already.");
 if (fault)
   player:tell(fault);
   return;
@@ -298,13 +305,14 @@ return e;
 // @go ROOM: to a room of one's own, or home
 @program $builder:@go any any any rd wiz
 if (player != this)
-  return;
+  return $builder:refuse(verb);
 endif
 room = $match:object(argstr, player);
 if (!$match:found(room, argstr, player))
+  player:tell("@go #N takes you to a room of yours; @audit has the numbers.");
   return;
 elseif (!$isa(room, $room) || !($controls(player, room) || room == player.home))
-  player:tell("You can go so to rooms of your own only.");
+  player:tell("@go takes you only to rooms of your own, and home.");
   return;
 elseif (room == player.location)
   player:tell("You are there.");
@@ -324,7 +332,7 @@ room:announce(player.name + " is here all of a sudden.", {player});
 // @audit, @audit NAME, @audit NAME from #N
 @program $builder:@audit any any any rd
 if (player != this)
-  return;
+  return $builder:refuse(verb);
 endif
 text = dobjstr ? dobjstr | "me";
 who = text == "me" ? player | $match:player(text);
@@ -390,6 +398,8 @@ endif
 try
   p[1].(p[2]) = value;
   player:tell(p[1].name, ".", p[2], " is ", toliteral(value), " now.");
+except (E_PROPNF)
+  player:tell($string:capital($string:the(p[1].name)), " has no property ", $string:quoted(p[2]), ". What can be set: help building");
 except e (ANY)
   player:tell("That can't be done: ", e[2], ".");
 endtry
@@ -398,7 +408,7 @@ endtry
 // @lock THING with KEY, @unlock THING
 @program $builder:@lock any any any rd wiz
 if (player != this)
-  return;
+  return $builder:refuse(verb);
 elseif (!dobjstr || !(prepstr in {"with", "using"}) || !iobjstr)
   player:tell("For example: @lock box with key   or, for nobody but you: @lock here with me");
   return;
@@ -414,7 +424,7 @@ if ($match:found(o, dobjstr, player) && $match:found(key, iobjstr, player))
   try
     o.key = key;
     o.key_serial = key.serial;
-    player:tell(o.name, " opens for you and for whoever carries ", key.name, ".");
+    player:tell($string:capital($string:the(o.name)), key == player ? " opens for you alone." | tostr(" opens for you and for whoever carries ", $string:the(key.name), "."));
   except e (ANY)
     player:tell("That can't be locked: ", e[2], ".");
   endtry
@@ -423,7 +433,7 @@ endif
 
 @program $builder:@unlock any any any rd wiz
 if (player != this)
-  return;
+  return $builder:refuse(verb);
 elseif (!argstr)
   player:tell("For example: @unlock box");
   return;
@@ -447,7 +457,7 @@ endif
 // @move THING to PLACE
 @program $builder:@move any any any rd wiz
 if (player != this)
-  return;
+  return $builder:refuse(verb);
 elseif (!dobjstr || prepstr != "to" || !iobjstr)
   player:tell("For example: @move box to me   or: @move #12 to here");
   return;
@@ -474,7 +484,7 @@ endtry
 // @eject NAME: out of a room of one's own
 @program $builder:@eject any any any rd wiz
 if (player != this)
-  return;
+  return $builder:refuse(verb);
 elseif (!argstr)
   player:tell("For example: @eject NAME   (out of a room of yours)");
   return;

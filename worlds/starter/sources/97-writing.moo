@@ -122,7 +122,7 @@ elseif (word == "l")
 elseif (word == "i")
   who.editing[5] = good ? from | n + 1;
   who:tell(good ? tostr("Before line ", from, ".") | "At the end.");
-elseif (!good)
+elseif (!good && word in {"d", "r", "s"})
   who:tell("There is no such line. .l shows the lines, .h what can be typed.");
 elseif (word == "d")
   who.editing[4] = {@lines[1..from - 1], @lines[to + 1..n]};
@@ -206,7 +206,7 @@ what.(name) = typeof(what.(name)) == STR && length(lines) < 2 ? (lines ? lines[1
 // @edit THING, @edit THING.PROPERTY, @edit THING:VERB; @write THING.PROPERTY takes lines until a dot, as a client sends them
 @program $builder:"@edit @write" any any any rd wiz
 if (player != this)
-  return;
+  return $builder:refuse(verb);
 endif
 set_task_perms(player);
 if (!argstr || (verb == "@write" && !index(argstr, ".")))
@@ -261,7 +261,7 @@ endif
 // @local on: @edit sends the text to a client that edits by itself
 @program $builder:@local any any any rd wiz
 if (player != this)
-  return;
+  return $builder:refuse(verb);
 elseif (argstr in {"on", "off"})
   this.local_editing = argstr == "on";
 endif
@@ -403,7 +403,7 @@ return "";
 // @lists; @newlist NAME, @rmlist NAME; @subscribe NAME, @unsubscribe NAME
 @program $builder:"@lists @newlist @rmlist @subscribe @unsubscribe" any any any rd wiz
 if (player != this)
-  return;
+  return $builder:refuse(verb);
 elseif (verb == "@lists")
   for l in ($post.lists)
     player:tell(player in l[3] ? "* " | "  ", $string:left(l[1], 18), $string:left(length(l[3]), 4), length(l[3]) == 1 ? "reader, of " | "readers, of ", valid(l[2]) ? l[2].name | "nobody");
@@ -453,7 +453,7 @@ endif
 // @send NAME TEXT; @send NAME alone opens the editor
 @program $builder:@send any any any rd wiz
 if (player != this)
-  return;
+  return $builder:refuse(verb);
 elseif (!args)
   player:tell("For example: @send ", player.name, " Come to tea.   or, for several lines: @send ", player.name);
   return;
@@ -487,7 +487,7 @@ endif
 // @mail lists the letters, @mail N reads one, @mail new the next one that isn't read; @rmmail N; @answer N TEXT
 @program $builder:"@mail @rmmail @answer" any any any rd wiz
 if (player != this)
-  return;
+  return $builder:refuse(verb);
 endif
 all = this.letters;
 n = args ? toint(args[1]) | 0;

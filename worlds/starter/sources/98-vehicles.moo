@@ -34,7 +34,7 @@ here = this.location;
 if (player.location != this || !player:may_speak())
   return;
 elseif (!$isa(here, $room))
-  player:tell("It stands nowhere.");
+  player:tell("It is nowhere.");
   return;
 endif
 e = $match:among(argstr, here.exits);

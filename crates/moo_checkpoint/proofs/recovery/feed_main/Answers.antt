@@ -33,6 +33,9 @@ returns-in_err-after-clause-device g c =
 pub returns-in_err-after-clause-keeps : goal.returns-in_err-after-clause-keeps
 returns-in_err-after-clause-keeps g c = keeps_then g.D.Disk.kind c.args.disk.now c.loop-buffer.disk c.feed_at.new.disk c.loop-buffer.invariant.keeps c.in_err-after.ensures.keeps
 
+pub returns-in_err-buffer-clause-reads : goal.returns-in_err-buffer-clause-reads
+returns-in_err-buffer-clause-reads g c = no_call c.args.disk.now
+
 pub returns-in_err-after-clause-reads : goal.returns-in_err-after-clause-reads
 returns-in_err-after-clause-reads g c = one_more c.args.disk.now c.loop-buffer.disk c.feed_at.new.disk c.loop-buffer.invariant.reads c.feed_at.ensures.made
 

@@ -27,3 +27,21 @@ returns-in-Done-clause-at_most_once g c = inl (c.turn.ensures.not_failed (λ is.
 
 pub returns-in-Failed-clause-at_most_once : goal.returns-in-Failed-clause-at_most_once
 returns-in-Failed-clause-at_most_once g c = inr (c.turn.ensures.failed c.in-Failed.is)
+
+pub returns-in-More-clause-call : goal.returns-in-More-clause-call
+returns-in-More-clause-call g c = λ _. c.turn.ensures.call
+
+pub returns-in-More-clause-calls : goal.returns-in-More-clause-calls
+returns-in-More-clause-calls g c = inr c.turn.ensures.call
+
+pub returns-in-Done-clause-call : goal.returns-in-Done-clause-call
+returns-in-Done-clause-call g c = λ _. c.turn.ensures.call
+
+pub returns-in-Done-clause-calls : goal.returns-in-Done-clause-calls
+returns-in-Done-clause-calls g c = inr c.turn.ensures.call
+
+pub returns-in-Failed-clause-call : goal.returns-in-Failed-clause-call
+returns-in-Failed-clause-call g c = λ _. c.turn.ensures.call
+
+pub returns-in-Failed-clause-calls : goal.returns-in-Failed-clause-calls
+returns-in-Failed-clause-calls g c = inr c.turn.ensures.call

@@ -4,7 +4,7 @@ use Rattle.moo_server_core.specs.Application.{silence}
 use Rattle.moo_server_core.specs.Server.{on_its_way, state_of, waiting_of}
 use Rattle.moo_server_core.proofs.Out.{then_silence}
 use Rattle.moo_server_core.proofs.Running.{survives_halt}
-use Rattle.moo_server_core.proofs.Taken.{passed_over}
+use Rattle.moo_server_core.proofs.Taken.{isnt_flush, passed_over}
 use Rattle.moo_server_core.proofs.server_core.ServerCore.take.Goals as goal
 
 pub returns-then-not-is_flush-clause-takes : goal.returns-then-not-is_flush-clause-takes
@@ -27,3 +27,15 @@ returns-in-Err-clause-memory g c = λ _. (
 
 pub returns-in-Err-clause-wanting : goal.returns-in-Err-clause-wanting
 returns-in-Err-clause-wanting g c = λ _. c.in-Err.ensures.memory
+
+pub returns-then-not-is_flush-clause-call : goal.returns-then-not-is_flush-clause-call
+returns-then-not-is_flush-clause-call g c = λ flush. absurd (isnt_flush (seen c.args.event.now) (cc) flush)
+
+pub returns-in-Ok-clause-call : goal.returns-in-Ok-clause-call
+returns-in-Ok-clause-call g c = c.try_take.ensures.call
+
+pub returns-in-Ok-clause-calls : goal.returns-in-Ok-clause-calls
+returns-in-Ok-clause-calls g c = c.try_take.ensures.calls
+
+pub returns-in-Err-clause-calls : goal.returns-in-Err-clause-calls
+returns-in-Err-clause-calls g c = c.try_take.ensures.calls

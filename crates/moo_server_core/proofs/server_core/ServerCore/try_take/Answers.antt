@@ -1,4 +1,4 @@
-use Rattle.std.proofs.Common.{◌≡◌, Option, None, false, refl, sym, ◌∙◌, ap, subst}
+use Rattle.std.proofs.Common.{◌≡◌, Option, None, false, inl, refl, sym, ◌∙◌, ap, subst}
 use Rattle.moo_server_core.specs.Seen.{Event, Flush, is_flush, seen}
 use Rattle.moo_server_core.specs.Application.{Output, then_out}
 use Rattle.moo_server_core.specs.Meaning.{is_passed_over, refusal}
@@ -7,7 +7,7 @@ use Rattle.moo_server_core.specs.declared.server_core.Open.{Open}
 use Rattle.moo_server_core.proofs.Heard.{if_err_any, if_err_map, not_ok}
 use Rattle.moo_server_core.proofs.Idle.{flush_leaves, idle_if}
 use Rattle.moo_server_core.proofs.Reported.{on_ok_map, opens_follow}
-use Rattle.moo_server_core.proofs.Taken.{acted, flush_is, flushed}
+use Rattle.moo_server_core.proofs.Taken.{acted, flush_is, flushed, isnt_flush}
 use Rattle.moo_server_core.proofs.server_core.ServerCore.try_take.Goals as goal
 
 pub returns-then-is_flush-clause-takes : goal.returns-then-is_flush-clause-takes
@@ -93,3 +93,27 @@ returns-clause-memory g c =
       idle_if l.meaning (state_of l c.args.self.now) (seen c.args.event.now) (λ leaving. sym (c.in_ok-act.ensures.dropped leaving).1 ∙ due),
     ))
     c.begin_due_checkpoint-2.ensures.due
+
+pub returns-in_err-flush-clause-call : goal.returns-in_err-flush-clause-call
+returns-in_err-flush-clause-call g c = λ _. c.flush.ensures.call
+
+pub returns-in_err-flush-clause-calls : goal.returns-in_err-flush-clause-calls
+returns-in_err-flush-clause-calls g c = c.flush.ensures.calls
+
+pub returns-then-is_flush-clause-call : goal.returns-then-is_flush-clause-call
+returns-then-is_flush-clause-call g c = λ _. c.flush.ensures.call
+
+pub returns-then-is_flush-clause-calls : goal.returns-then-is_flush-clause-calls
+returns-then-is_flush-clause-calls g c = c.flush.ensures.calls
+
+pub returns-in_err-act-clause-call : goal.returns-in_err-act-clause-call
+returns-in_err-act-clause-call g c = λ flush. absurd (isnt_flush (seen c.args.event.now) (sym c.is_flush.ensures ∙ c.if-is_flush.false) flush)
+
+pub returns-in_err-act-clause-calls : goal.returns-in_err-act-clause-calls
+returns-in_err-act-clause-calls g c = inl refl
+
+pub returns-clause-call : goal.returns-clause-call
+returns-clause-call g c = λ flush. absurd (isnt_flush (seen c.args.event.now) (sym c.is_flush.ensures ∙ c.if-is_flush.false) flush)
+
+pub returns-clause-calls : goal.returns-clause-calls
+returns-clause-calls g c = inl refl

@@ -1,5 +1,5 @@
 -- Connections to which nothing happens as output is written.
-use Rattle.std.proofs.Common.{◌≡◌, ◌≢◌, ◌⊎◌, ℕ, suc, get_or, Contains, ◌<◌, ◌≤◌, List, [], ◌∷◌, ◌++◌, length, Option, Some, None, Bool, true, false, inl, inr, refl, sym, ◌∙◌, ap, subst, arith}
+use Rattle.std.proofs.Common.{◌≡◌, ◌≢◌, ◌⊎◌, ℕ, suc, get_or, Contains, ◌+◌, ◌<◌, ◌≤◌, List, [], ◌∷◌, ◌++◌, length, Option, Some, None, Bool, true, false, inl, inr, refl, sym, ◌∙◌, ap, subst, arith}
 use Rattle.std.specs.Prelude.{eqb, ◌||◌, if◌then◌else◌}
 use Rattle.std.specs.List.{AllPairs}
 use Rattle.std.proofs.lemmas.Bool.{cases_eq, cases_lt, eqb-true, le-ltb, true≢false}
@@ -98,7 +98,7 @@ between_due due i n c rising before within from below there = by_cases (cases_eq
   where
     by_order : (there.0 < i) ⊎ (i ≤ there.0) → there.0 ≢ i → ⊥
     by_order (inl low) differs = omega (arith, from, there.2, before there.0 c low)
-    by_order (inr high) differs = omega (arith, below, there.2, rising i there.0 c (omega (arith, high, λ e. differs (sym e))) there.1)
+    by_order (inr high) differs = omega (arith, below, there.2, rising i there.0 c (omega (arith, high, differs)) there.1)
 
     by_cases : (there.0 ≡ i) ⊎ (there.0 ≢ i) → ⊥
     by_cases (inl same) = omega (arith, below, there.2, ap (λ (k : ℕ). get_or due k c) same)

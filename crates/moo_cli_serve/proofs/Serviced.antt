@@ -116,11 +116,11 @@ module _ {S Application D : Type 0} (l : Layer S Application Saved) (kind : Disk
   }
 
   either_hands : (cause : Cause) (first : List Event) (old : Serving S D) (read : Slab Socket) (mid after : inner.ServerCore S) (new : D)
-      → IsRefused l kind cause first old.server old.disk mid new ⊎ RefusesParted l kind cause old.most_waiting first old.server old.disk read mid new
+      → IsRefused l kind cause first old.server old.disk mid new ⊎ RefusesParted l kind cause old.clients.most_waiting first old.server old.disk read mid new
       → ((h : Output) × Hands l h mid after)
-      → IsRefused l kind cause first old.server old.disk after new ⊎ RefusesParted l kind cause old.most_waiting first old.server old.disk read after new
+      → IsRefused l kind cause first old.server old.disk after new ⊎ RefusesParted l kind cause old.clients.most_waiting first old.server old.disk read after new
   either_hands cause first old read mid after new (inl refused) handed = inl (refused_hands cause first old.server mid after old.disk new refused handed)
-  either_hands cause first old read mid after new (inr parted) handed = inr (parted_hands cause old.most_waiting first old.server mid after old.disk new read parted handed)
+  either_hands cause first old read mid after new (inr parted) handed = inr (parted_hands cause old.clients.most_waiting first old.server mid after old.disk new read parted handed)
 
   -- A fault outside ends any server,
   pub outside_ends : (fault : ServeFault) (old new : Serving S D) → IsOutside fault → EndsFor l kind fault old new

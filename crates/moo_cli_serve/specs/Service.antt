@@ -36,8 +36,8 @@ pub record Waits {S D : Type 0} (old new : Serving S D) : Type 0 where
   pub server_is : new.server ≡ old.server
   pub disk_is : new.disk ≡ old.disk
   pub moment_is : new.moment ≡ old.moment
-  pub most_is : new.most_waiting ≡ old.most_waiting
-  pub sockets : (c : ℕ) → held new.sockets.sockets c ≡ held old.sockets.sockets c
+  pub most_is : new.clients.most_waiting ≡ old.clients.most_waiting
+  pub sockets : (c : ℕ) → held new.clients.sockets.sockets c ≡ held old.clients.sockets.sockets c
 
 module _ {S Application D : Type 0} (l : Layer S Application Saved) (kind : DiskKind D) where
   -- A server was begun from what a disk holds, at a moment: from a saved world that main spells within the limits of database texts. Nothing was written.
@@ -50,15 +50,15 @@ module _ {S Application D : Type 0} (l : Layer S Application Saved) (kind : Disk
   -- A server was begun over a disk, at the moment that counts as told. No connection has a socket.
   pub record Begun (disk : D) (most : ℕ) (start : Serving S D) : Type 0 where
     pub from : IsBegunFrom disk start.moment start.server start.disk
-    pub none : (c : ℕ) → held start.sockets.sockets c ≡ None
-    pub most_is : start.most_waiting ≡ most
+    pub none : (c : ℕ) → held start.clients.sockets.sockets c ≡ None
+    pub most_is : start.clients.most_waiting ≡ most
 
   -- a round was made
   pub record Turns (old new : Serving S D) : Type 0 where
     pub turned : inner.ServerCore S
     pub logs : Logs l new.console.is_on turned new.server
-    pub rounds : Rounds l kind old.most_waiting old.moment new.moment old.server turned old.disk new.disk old.sockets.sockets new.sockets.sockets
-    pub most_is : new.most_waiting ≡ old.most_waiting
+    pub rounds : Rounds l kind old.clients.most_waiting old.moment new.moment old.server turned old.disk new.disk old.clients.sockets.sockets new.clients.sockets.sockets
+    pub most_is : new.clients.most_waiting ≡ old.clients.most_waiting
 
   -- a round was made, and perhaps it waited behind it
   abbrev pub Steps : Serving S D → Serving S D → Type 0
@@ -139,8 +139,8 @@ module _ {S Application D : Type 0} (l : Layer S Application Saved) (kind : Disk
   pub record RefusesRound (cause : Cause) (old : Serving S D) (moment : ℕ) (after : inner.ServerCore S) (new : D) : Type 0 where
     pub first : List Event
     pub read : Slab Socket
-    pub begins : Begins old.sockets.sockets read old.moment moment first
-    pub refused : IsRefused cause first old.server old.disk after new ⊎ RefusesParted cause old.most_waiting first old.server old.disk read after new
+    pub begins : Begins old.clients.sockets.sockets read old.moment moment first
+    pub refused : IsRefused cause first old.server old.disk after new ⊎ RefusesParted cause old.clients.most_waiting first old.server old.disk read after new
 
   -- why a server that was begun ended before
   abbrev pub EndsFor : ServeFault → Serving S D → Serving S D → Type 0

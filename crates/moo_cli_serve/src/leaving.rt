@@ -60,7 +60,7 @@ fn due<S: StartApplication>(
     let pending = server.pending()?;
     let writable = sockets.take_writable();
     let others = unsettled(alloc, sockets, is_settled)?;
-    let mut due = joined(pending, late, &writable, &others)?;
+    let mut due = joined(pending, late, writable, others)?;
     sort_numbers(&mut due);
     Ok(due)
 }
@@ -69,15 +69,15 @@ fn due<S: StartApplication>(
 fn joined(
     pending: Vec<u16>,
     late: &[u16],
-    writable: &[u16],
-    others: &[u16],
+    writable: Vec<u16>,
+    others: Vec<u16>,
 ) -> Result<Vec<u16>, AllocError>
-    ensures { IfOk result (λ all. all.items ≡ ((pending.items ++ late.now) ++ writable.now) ++ others.now) }
+    ensures { IfOk result (λ all. all.items ≡ ((pending.items ++ late.now) ++ writable.items) ++ others.items) }
 {
     let mut all = pending;
     all.extend_from_slice(late)?;
-    all.extend_from_slice(writable)?;
-    all.extend_from_slice(others)?;
+    all.extend_from_slice(&writable)?;
+    all.extend_from_slice(&others)?;
     Ok(all)
 }
 

@@ -3,6 +3,7 @@
 #![tactic(auto)]
 
 mod beginning;
+mod clients;
 mod coming;
 mod console;
 mod fault;

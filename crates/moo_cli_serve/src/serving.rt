@@ -1,9 +1,13 @@
 //! Rounds of non-blocking calls between the sockets of connections and a server.
-ghost use Rattle.std.specs.Prelude.{◌≡◌, true};
-ghost use Rattle.std.proofs.Props.{props};
-ghost use Rattle.moo_cli_serve.specs.Room.{HaveRoom};
+ghost use Rattle.std.specs.Prelude.{◌≡◌, ◌⊎◌, ◌↔◌, List, IfErr, IfOk, IsTrue, OnOk, false, true};
+ghost use Rattle.moo_server_core.specs.Server.{Follows, with_disk};
+ghost use Rattle.moo_server_core.specs.declared.event.Event as given;
+ghost use Rattle.moo_cli_serve.specs.Course.{Course};
+ghost use Rattle.moo_cli_serve.specs.Rounds.{IsClosed, Rounds};
+ghost use Rattle.moo_cli_serve.specs.Service.{Begun, BreaksOff, EndsFor, IsOutside, IsServed, NotStarted, Steps, Turns, Waits};
 
 use crate::beginning::{begin, tell_checkpoint};
+use crate::clients::Clients;
 use crate::coming::{come, now};
 use crate::console::Console;
 use crate::fault::ServeFault;
@@ -13,7 +17,6 @@ use crate::listening::{Web, listen};
 use crate::strangers::{LoginLimits, Strangers};
 use log::Log;
 use moo_cli_file_disk::{News, Watched};
-use moo_cli_sockets::Sockets;
 use moo_cli_telnet::Telnet;
 use moo_disk::Disk;
 use moo_server_core::{Phase, ServerCore as Server, StartApplication};
@@ -40,30 +43,18 @@ pub enum Round {
 #[derive(Drop)]
 pub struct Serving<S: StartApplication, D: Disk> {
     alloc: Global,
-    sockets: Sockets,
+    clients: Clients,
     server: Server<S>,
     disk: D,
     /// The last reported moment.
     moment: u32,
-    /// The number of waiting bytes past which a connection is hung up.
-    most_waiting: usize,
-    /// Whether the last round ended without a fault.
-    is_settled: bool,
     strangers: Strangers,
     console: Console,
     /// Whether the clock is before the last reported moment.
     is_late: bool,
-    ghost room: { is_settled ≡ true → HaveRoom most_waiting sockets.sockets } by { Prim.hlevel props },
 }
 
 impl<S: StartApplication, D: Disk + Watched> Serving<S, D> {
-    ghost use Rattle.std.specs.Prelude.{◌⊎◌, ◌↔◌, List, IfErr, IfOk, IsTrue, OnOk, false};
-    ghost use Rattle.moo_server_core.specs.Server.{Follows, with_disk};
-    ghost use Rattle.moo_server_core.specs.declared.event.Event as given;
-    ghost use Rattle.moo_cli_serve.specs.Course.{Course};
-    ghost use Rattle.moo_cli_serve.specs.Rounds.{IsClosed, Rounds};
-    ghost use Rattle.moo_cli_serve.specs.Service.{Begun, BreaksOff, EndsFor, IsOutside, IsServed, NotStarted, Steps, Turns, Waits};
-
     /// Opens a server over a disk, and listens on a port of an address, and for browsers if they are served. Port 0 takes any that
     /// is free. If the disk can't be read, logs the reason and returns the fault.
     pub fn open<N: Net + Clock + Log>(
@@ -90,12 +81,14 @@ impl<S: StartApplication, D: Disk + Watched> Serving<S, D> {
         let sockets = listen(rt, alloc, host, port, telnet, web)?;
         Ok(Serving {
             alloc,
-            sockets,
+            clients: Clients {
+                sockets,
+                most_waiting,
+                is_settled: true,
+            },
             server,
             disk,
             moment,
-            most_waiting,
-            is_settled: true,
             strangers: Strangers::new(login),
             console: Console::new(has_console),
             is_late: false,
@@ -106,7 +99,7 @@ impl<S: StartApplication, D: Disk + Watched> Serving<S, D> {
     pub fn address(&self) -> Result<SocketAddr, ServeFault>
         ensures { IfErr result IsOutside }
     {
-        let address = self.sockets.address()?;
+        let address = self.clients.sockets.address()?;
         Ok(address)
     }
 
@@ -176,18 +169,18 @@ impl<S: StartApplication, D: Disk + Watched> Serving<S, D> {
         requires { Follows S.layer D.kind (with_disk self.old.server self.old.disk) }
         ensures follows { Follows S.layer D.kind (with_disk self.new.server self.new.disk) }
         ensures course { (events : List given.Event) × Course S.layer D.kind self.old.server self.old.disk events self.new.server self.new.disk }
-        ensures round { OnOk result (Rounds S.layer D.kind self.old.most_waiting self.old.moment self.new.moment self.old.server self.new.server self.old.disk self.new.disk
-            self.old.sockets.sockets self.new.sockets.sockets) }
-        ensures most { self.new.most_waiting ≡ self.old.most_waiting }
+        ensures round { OnOk result (Rounds S.layer D.kind self.old.clients.most_waiting self.old.moment self.new.moment self.old.server self.new.server self.old.disk self.new.disk
+            self.old.clients.sockets.sockets self.new.clients.sockets.sockets) }
+        ensures most { self.new.clients.most_waiting ≡ self.old.clients.most_waiting }
         ensures ended { IfErr result (λ fault. EndsFor S.layer D.kind fault self.old self.new) }
     {
-        let is_settled = mem::replace(&mut self.is_settled, false);
-        self.sockets.rest();
-        self.sockets.look()?;
+        let is_settled = mem::replace(&mut self.clients.is_settled, false);
+        self.clients.sockets.rest();
+        self.clients.sockets.look()?;
         let came = come(
             rt,
             self.alloc,
-            &mut self.sockets,
+            &mut self.clients.sockets,
             &mut self.console,
             &mut self.moment,
             &mut self.is_late,
@@ -200,12 +193,12 @@ impl<S: StartApplication, D: Disk + Watched> Serving<S, D> {
             rt,
             self.alloc,
             &mut self.server,
-            &mut self.sockets,
-            self.most_waiting,
+            &mut self.clients.sockets,
+            self.clients.most_waiting,
             is_settled,
             &mut self.strangers,
         )?;
-        self.is_settled = true;
+        self.clients.is_settled = true;
         give_if_open(&mut self.server, &mut self.disk, &parted)?;
         Ok(())
     }
@@ -228,7 +221,7 @@ impl<S: StartApplication, D: Disk + Watched> Serving<S, D> {
         if self.is_closed() {
             return Round::Over;
         }
-        if self.sockets.is_busy() || self.console.is_busy() || self.disk.calls() != calls {
+        if self.clients.sockets.is_busy() || self.console.is_busy() || self.disk.calls() != calls {
             return Round::Busy;
         }
         Round::Idle
@@ -239,7 +232,7 @@ impl<S: StartApplication, D: Disk + Watched> Serving<S, D> {
         ensures waits { Waits self.old self.new }
         ensures outside { IfErr result IsOutside }
     {
-        self.sockets.wait(WAIT_SECONDS)?;
+        self.clients.sockets.wait(WAIT_SECONDS)?;
         Ok(())
     }
 }

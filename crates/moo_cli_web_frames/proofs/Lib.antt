@@ -1,4 +1,3 @@
 pub mod Accepting
 pub mod Pieces
 pub mod Reading
-pub mod Sending

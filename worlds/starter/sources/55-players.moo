@@ -476,6 +476,24 @@ endif
 dest:announce(player.name + words[2], {player});
 .
 
+// Who hears what is said here: those who are connected, and programs of others, if the room has any.
+@program $player:@sweep none none none rd
+here = player.location;
+if (!valid(here))
+  player:tell("You are nowhere. Type home.");
+  return;
+endif
+busy = connected_players();
+people = {};
+for o in (here.contents)
+  people = o != player && is_player(o) && o in busy ? {@people, o} | people;
+endfor
+player:tell_lines($string:flow("Who hears you here:", people ? $string:names(people) | {"nobody"}));
+if (!$recycler:is_safe(here))
+  player:tell("The room has programs of ", valid(here.owner) ? here.owner.name | "others", ", which may hear you too.");
+endif
+.
+
 // The exits of the room, and where they lead. No verb of an exit is called: one could use up the ticks.
 @program $player:"@ways ways" none none none rd
 here = player.location;

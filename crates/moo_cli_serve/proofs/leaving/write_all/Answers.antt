@@ -20,7 +20,7 @@ loop-c-init g c = (
   record {
     handed = (silence, hands_none g.S.Application.layer c.args.server.now);
     each = c.new-parted.ensures.items;
-    left = λ k from. record { socket = ap (λ (s : Slab Socket). held s k) c.due-due.ensures.same; waiting = refl };
+    left = λ k from. record { socket = ap (λ (s : Slab Socket). held s k) c.due.ensures.same; waiting = refl };
     log = refl;
   },
   omega arith,
@@ -55,16 +55,19 @@ loop-c-preserved g c =
     let so_far = c.loop-c.invariant in
     let late : List ℕ = c.in_ok-late.late.items in
     let old : Slab Socket = c.args.sockets.now.sockets in
+    let rest : (k : ℕ) → k < 65536 → (Contains c.in_ok-due.due.items k → ⊥) → IsIdle g.S.Application.layer c.args.is_settled late c.args.server.now old k =
+    λ k small none.
+    subst (λ (s : Slab Socket). IsIdle g.S.Application.layer c.args.is_settled late c.args.server.now s k) c.due.ensures.same
+    (subst (λ (ls : List ℕ). IsIdle g.S.Application.layer c.args.is_settled ls c.args.server.now c.due.new.sockets.sockets k) c.deref.ensures.value (c.in_ok-due.ensures.rest k small none)) in
     let within : i < length numbers = c.loop-c-test.true in
     let rising : AllPairs (λ (a b : ℕ). a < b) numbers = subst (λ (ns : List ℕ). AllPairs (λ (a b : ℕ). a < b) ns) (sym c.deref-c-items.ensures.value) c.in_ok-due.ensures.rising in
     let up : so_far.0 ≤ number = so_far.4 i 0 (omega arith) within in
     let small : number < 65536 = search rules in
     let idle : (k : ℕ) → so_far.0 ≤ k → k < number → IsIdle g.S.Application.layer c.args.is_settled late c.args.server.now old k =
     λ k from below.
-    subst (λ (s : Slab Socket). IsIdle g.S.Application.layer c.args.is_settled late c.args.server.now s k) c.due.ensures.same
-    (c.in_ok-due.ensures.rest k (omega (arith, below, small))
+    rest k (omega (arith, below, small))
     (λ there. between_due numbers i so_far.0 k rising so_far.3 within from (omega (arith, below, get_or_default numbers i 0 k within))
-    (subst (λ (ns : List ℕ). Contains ns k) (sym c.deref-c-items.ensures.value) there))) in
+    (subst (λ (ns : List ℕ). Contains ns k) (sym c.deref-c-items.ensures.value) there)) in
     let before = so_far.1.handed in
     let now = c.in_ok-event.ensures.handed in
     let flag : c.is_among-is_late.result ≡ is_among late number = search rules in (
@@ -93,12 +96,15 @@ returns-clause-written g c =
     let so_far = c.loop-c.invariant in
     let late : List ℕ = c.in_ok-late.late.items in
     let old : Slab Socket = c.args.sockets.now.sockets in
+    let rest : (k : ℕ) → k < 65536 → (Contains c.in_ok-due.due.items k → ⊥) → IsIdle g.S.Application.layer c.args.is_settled late c.args.server.now old k =
+    λ k small none.
+    subst (λ (s : Slab Socket). IsIdle g.S.Application.layer c.args.is_settled late c.args.server.now s k) c.due.ensures.same
+    (subst (λ (ls : List ℕ). IsIdle g.S.Application.layer c.args.is_settled ls c.args.server.now c.due.new.sockets.sockets k) c.deref.ensures.value (c.in_ok-due.ensures.rest k small none)) in
     let idle : (k : ℕ) → so_far.0 ≤ k → k < 65536 → IsIdle g.S.Application.layer c.args.is_settled late c.args.server.now old k =
     λ k from below.
-    subst (λ (s : Slab Socket). IsIdle g.S.Application.layer c.args.is_settled late c.args.server.now s k) c.due.ensures.same
-    (c.in_ok-due.ensures.rest k below
+    rest k below
     (λ there. past_due numbers c.loop-c.c-index so_far.0 k so_far.3 (omega (arith, c.loop-c-test.false)) from
-    (subst (λ (ns : List ℕ). Contains ns k) (sym c.deref-c-items.ensures.value) there))) in
+    (subst (λ (ns : List ℕ). Contains ns k) (sym c.deref-c-items.ensures.value) there)) in
     written_all g.S.Application.layer c.args.most_waiting late 65536 c.args.server.now c.loop-c.server old c.loop-c.sockets.sockets c.loop-c.parted.items (inl (omega arith)) c.in_ok-late.ensures
     (written_gap g.S.Application.layer c.args.most_waiting c.args.is_settled late so_far.0 65536 c.args.server.now c.loop-c.server old c.loop-c.sockets.sockets c.loop-c.parted.items
     so_far.2 (omega arith) idle c.requires so_far.1)
@@ -109,10 +115,13 @@ returns-clause-room g c =
     let so_far = c.loop-c.invariant in
     let late : List ℕ = c.in_ok-late.late.items in
     let old : Slab Socket = c.args.sockets.now.sockets in
+    let rest : (k : ℕ) → k < 65536 → (Contains c.in_ok-due.due.items k → ⊥) → IsIdle g.S.Application.layer c.args.is_settled late c.args.server.now old k =
+    λ k small none.
+    subst (λ (s : Slab Socket). IsIdle g.S.Application.layer c.args.is_settled late c.args.server.now s k) c.due.ensures.same
+    (subst (λ (ls : List ℕ). IsIdle g.S.Application.layer c.args.is_settled ls c.args.server.now c.due.new.sockets.sockets k) c.deref.ensures.value (c.in_ok-due.ensures.rest k small none)) in
     room_all g.S.Application.layer c.args.most_waiting c.args.is_settled late so_far.0 c.args.server.now c.loop-c.server old c.loop-c.sockets.sockets
     (λ k from below.
-    subst (λ (s : Slab Socket). IsIdle g.S.Application.layer c.args.is_settled late c.args.server.now s k) c.due.ensures.same
-    (c.in_ok-due.ensures.rest k below
+    rest k below
     (λ there. past_due numbers c.loop-c.c-index so_far.0 k so_far.3 (omega (arith, c.loop-c-test.false)) from
-    (subst (λ (ns : List ℕ). Contains ns k) (sym c.deref-c-items.ensures.value) there))))
+    (subst (λ (ns : List ℕ). Contains ns k) (sym c.deref-c-items.ensures.value) there)))
     c.requires so_far.1.left so_far.5

@@ -1,4 +1,5 @@
 use Rattle.std.proofs.Common.{◌≡◌, List, [], inl, inr, true, sym, ◌∙◌, subst, rules}
+use Rattle.std.proofs.lemmas.Bool.{true≢false}
 use Rattle.std.proofs.lemmas.Result.{err_from_is_err_and}
 use Rattle.moo_server_core.specs.declared.event.Event.{Event}
 use Rattle.moo_cli_serve.specs.Course.{Given}
@@ -9,6 +10,24 @@ use Rattle.moo_cli_serve.proofs.Idling.{room_follows, room_same}
 use Rattle.moo_cli_serve.proofs.Serviced.{refused_of}
 use Rattle.moo_cli_serve.proofs.Rounding.{begins_on, course_end, course_round, follows_end}
 use Rattle.moo_cli_serve.proofs.serving.Serving.turn.Goals as goal
+
+pub invariant_of-self : goal.invariant_of-self
+invariant_of-self g c = record { room = λ on. absurd (true≢false (sym on ∙ c.replace-is_settled.ensures.after)) }
+
+pub invariant_of-self-2 : goal.invariant_of-self-2
+invariant_of-self-2 g c = record { room = λ on. absurd (true≢false (sym on ∙ c.replace-is_settled.ensures.after)) }
+
+pub invariant_of-self-3 : goal.invariant_of-self-3
+invariant_of-self-3 g c = record { room = λ on. absurd (true≢false (sym on ∙ c.replace-is_settled.ensures.after)) }
+
+pub invariant_of-self-4 : goal.invariant_of-self-4
+invariant_of-self-4 g c = record { room = λ on. absurd (true≢false (sym on ∙ c.replace-is_settled.ensures.after)) }
+
+pub invariant_of-self-5 : goal.invariant_of-self-5
+invariant_of-self-5 g c = (λ on. absurd (true≢false (sym on ∙ c.replace-is_settled.ensures.after)), tt)
+
+pub invariant_of-self-6 : goal.invariant_of-self-6
+invariant_of-self-6 g c = record { room = λ on. c.in_ok-parted.ensures.room }
 
 pub returns-in_err-look-clause-follows : goal.returns-in_err-look-clause-follows
 returns-in_err-look-clause-follows g c = record { still = c.requires.still; continues = c.requires.continues }
@@ -42,10 +61,10 @@ returns-in_err-given-clause-round g c = search rules
 
 pub write_all-requires : goal.write_all-requires
 write_all-requires g c settled =
-    let was : c.args.self.now.is_settled ≡ true = sym c.replace-is_settled.ensures.value ∙ settled in
-    let looked : HaveRoom c.args.self.now.most_waiting c.look.new.self.sockets =
-    room_same c.args.self.now.most_waiting c.args.self.now.sockets.sockets c.look.new.self.sockets (c.args.self.now.room was) (λ k. c.look.ensures k ∙ c.rest.ensures k) in
-    room_follows c.args.self.now.most_waiting c.in_ok-came.ensures.came c.look.new.self.sockets c.come.new.sockets.sockets looked c.in_ok-came.ensures.comes.follow
+    let was : c.args.self.now.clients.is_settled ≡ true = sym c.replace-is_settled.ensures.value ∙ settled in
+    let looked : HaveRoom c.args.self.now.clients.most_waiting c.look.new.self.sockets =
+    room_same c.args.self.now.clients.most_waiting c.args.self.now.clients.sockets.sockets c.look.new.self.sockets (c.args.self.now.clients.room was) (λ k. c.look.ensures k ∙ c.rest.ensures k) in
+    room_follows c.args.self.now.clients.most_waiting c.in_ok-came.ensures.came c.look.new.self.sockets c.come.new.sockets.sockets looked c.in_ok-came.ensures.comes.follow
 
 pub returns-in_err-parted-clause-follows : goal.returns-in_err-parted-clause-follows
 returns-in_err-parted-clause-follows g c =
@@ -90,7 +109,7 @@ pub returns-clause-round : goal.returns-clause-round
 returns-clause-round g c = record {
   first = c.in_ok-came.came.items;
   read = c.come.new.sockets.sockets;
-  begins = begins_on c.args.self.now.sockets.sockets c.look.new.self.sockets c.come.new.sockets.sockets c.args.self.now.moment c.come.new.moment c.in_ok-came.came.items
+  begins = begins_on c.args.self.now.clients.sockets.sockets c.look.new.self.sockets c.come.new.sockets.sockets c.args.self.now.moment c.come.new.moment c.in_ok-came.came.items
       (λ k. c.look.ensures k ∙ c.rest.ensures k) c.in_ok-came.ensures;
   given = c.give-given.new.server;
   between = c.give-given.new.disk;
@@ -136,7 +155,7 @@ returns-in_err-given-clause-ended g c =
     rw (p.1, p.2) (record {
       first = c.in_ok-came.came.items;
       read = c.come.new.sockets.sockets;
-      begins = begins_on c.args.self.now.sockets.sockets c.look.new.self.sockets c.come.new.sockets.sockets c.args.self.now.moment c.come.new.moment c.in_ok-came.came.items
+      begins = begins_on c.args.self.now.clients.sockets.sockets c.look.new.self.sockets c.come.new.sockets.sockets c.args.self.now.moment c.come.new.moment c.in_ok-came.came.items
           (λ k. c.look.ensures k ∙ c.rest.ensures k) c.in_ok-came.ensures;
       refused = inl (refused_of g.S.Application.layer g.D.Disk.kind _ _ c.in_ok-came.came.items
           c.args.self.now.server c.give-given.new.server c.args.self.now.disk c.give-given.new.disk c.deref.ensures.value c.in_err-given.ensures.refused);
@@ -152,7 +171,7 @@ returns-in_err-give_if_open-clause-ended g c =
     rw (p.1, p.2) (record {
       first = c.in_ok-came.came.items;
       read = c.come.new.sockets.sockets;
-      begins = begins_on c.args.self.now.sockets.sockets c.look.new.self.sockets c.come.new.sockets.sockets c.args.self.now.moment c.come.new.moment c.in_ok-came.came.items
+      begins = begins_on c.args.self.now.clients.sockets.sockets c.look.new.self.sockets c.come.new.sockets.sockets c.args.self.now.moment c.come.new.moment c.in_ok-came.came.items
           (λ k. c.look.ensures k ∙ c.rest.ensures k) c.in_ok-came.ensures;
       refused = inr (record {
         given = c.give-given.new.server;

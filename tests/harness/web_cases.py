@@ -10,6 +10,7 @@ import socket
 import subprocess
 import tempfile
 import threading
+import time
 from functools import partial
 
 from outcome import Outcome, Result, Skipped
@@ -163,6 +164,7 @@ def what_breaks_the_protocol_ends_a_websocket(moo):
 def a_close_is_answered(moo):
     with Page(moo) as server:
         browser = WebSocket(server.web)
+        browser.sees(GREETING)
         browser.send(frame(CLOSE, b"\x03\xe8"))
         browser.sees_frame(CLOSE, b"\x03\xe8")
         browser.sees_end()
@@ -187,6 +189,7 @@ def one_who_pings_and_reads_late_gets_every_pong(moo):
     count = 100_000
     with Page(moo) as server:
         pinger = WebSocket(server.web)
+        pinger.sees(GREETING)
         pings = frame(PING, b"x" * 125) * 100
         sender = threading.Thread(target=lambda: [pinger.send(pings) for _ in range(count // 100)])
         sender.start()
@@ -195,7 +198,7 @@ def one_who_pings_and_reads_late_gets_every_pong(moo):
             pinger.sees_frame(PONG, b"x" * 125)
         sender.join()
         pinger.say(b"look\n")
-        pinger.sees(GREETING + LOOKED)
+        pinger.sees(LOOKED)
 
 
 def an_address_that_is_taken_is_named(moo):
@@ -233,19 +236,16 @@ def one_who_is_silent_is_pinged_and_then_hung_up(moo):
             browser = WebSocket(server.web)
             browser.say(b"look\n")
             browser.sees(GREETING + LOOKED)
-            # What came is seen in the round of the next second, and the silence begins then.
+            # What came is seen in a round of a later second, and the silence begins then. A round comes each second.
             show(1001)
-            browser.say(b"look\n")
-            browser.sees(LOOKED)
-            show(1002)
-            browser.say(b";return 1;\n")
-            browser.sees(b"{1, 1}\r\n")
+            time.sleep(2.5)
             show(1040)
             browser.sees_frame(PING, b"")
             browser.send(frame(PONG))
-            show(1041)
             browser.say(b"look\n")
             browser.sees(LOOKED)
+            show(1041)
+            time.sleep(2.5)
             show(1200)
             browser.sees_close(1001)
             browser.sees_end()

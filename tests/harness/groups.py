@@ -6,6 +6,7 @@ import command_rows
 import database_rows
 import guides
 import launcher_cases
+import lowering_cases
 import program_rows
 import script_rows
 import serve_cases
@@ -74,4 +75,5 @@ def all_groups(program):
         ("its transcripts", starter.transcripts(program)),
         ("the example of the page on scripts", [("docs", partial(starter.play_example, program))]),
         ("the sessions of the guides", guides.units(program)),
+        ("lowered programs", lowering_cases.units()),
     ]

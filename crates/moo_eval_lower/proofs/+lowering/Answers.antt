@@ -1,4 +1,5 @@
-use Rattle.std.proofs.Common.{◌≡◌, ◌+◌, refl, ap, ◌∙◌, arith, drop}
+use Rattle.std.proofs.Common.{◌≡◌, ◌+◌, refl, ap, sym, ◌∙◌, arith, drop}
+use Rattle.moo_syntax_function.specs.Names.{function_of}
 use Rattle.moo_syntax_ast.specs.View.{tree, items_of, codes_of}
 use Rattle.moo_syntax_ast.proofs.Rows as given
 use Rattle.moo_syntax_ast.proofs.Sizes.{size, items_size, codes_size, size_within}
@@ -42,7 +43,7 @@ expression::lower_call-returns-clause-source t c =
     rw (row_items, c.in_ok-items.ensures.source, c.in_ok-name.ensures) refl
 
 pub expression::lower_call-returns-clause-resolved : goal.expression::lower_call-returns-clause-resolved
-expression::lower_call-returns-clause-resolved t c = ((cc), row_resolved _ _ c.in_ok-items.ensures.resolved)
+expression::lower_call-returns-clause-resolved t c = (c.from_name-function.ensures ∙ ap function_of (c.as_bytes.ensures.value ∙ sym c.in_ok-name.ensures), row_resolved _ _ c.in_ok-items.ensures.resolved)
 
 pub expression::lower_verb_call-returns-clause-source : goal.expression::lower_verb_call-returns-clause-source
 expression::lower_verb_call-returns-clause-source t c =
@@ -71,6 +72,6 @@ item::lower_items-loop-item-preserved t c =
     let xs = c.args.items.now in
     let i = c.loop-item.item-index in
     record {
-      sources = rw c.in_ok-push.ensures (before_last c.loop-item.nodes.items c.in_ok-node.node (items_of (drop (i + 1) xs)) ∙ ap (sources_before c.loop-item.nodes.items) (c.in_ok-node.ensures.source (items_of (drop (i + 1) xs)) ∙ item_at xs i c.item-item.result c.loop-item-test.true c.item-item.is) ∙ c.loop-item.invariant.sources);
-      resolved = rw c.in_ok-push.ensures (resolved_last _ c.loop-item.nodes.items c.in_ok-node.node c.loop-item.invariant.resolved c.in_ok-node.ensures.resolved);
+      sources = rw c.in_ok-push.ensures.items (before_last c.loop-item.nodes.items c.in_ok-node.node (items_of (drop (i + 1) xs)) ∙ ap (sources_before c.loop-item.nodes.items) (c.in_ok-node.ensures.source (items_of (drop (i + 1) xs)) ∙ item_at xs i c.item-item.result c.loop-item-test.true c.item-item.is) ∙ c.loop-item.invariant.sources);
+      resolved = rw c.in_ok-push.ensures.items (resolved_last _ c.loop-item.nodes.items c.in_ok-node.node c.loop-item.invariant.resolved c.in_ok-node.ensures.resolved);
     }

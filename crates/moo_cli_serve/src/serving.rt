@@ -6,7 +6,7 @@ ghost use Rattle.moo_cli_serve.specs.Course.{Course};
 ghost use Rattle.moo_cli_serve.specs.Rounds.{IsClosed, Rounds};
 ghost use Rattle.moo_cli_serve.specs.Service.{Begun, BreaksOff, EndsFor, IsOutside, IsServed, NotStarted, Steps, Turns, Waits};
 
-use crate::beginning::{begin, tell_checkpoint};
+use crate::beginning::{begin, tell_checkpoint, time};
 use crate::clients::Clients;
 use crate::coming::{come, now};
 use crate::console::Console;
@@ -24,6 +24,7 @@ use std::alloc::Global;
 use std::mem;
 use std::net::{IpAddr, Net, SocketAddr};
 use std::rt::Clock;
+use std::time::Duration;
 
 /// The longest wait of an idle server, in seconds: a moment has whole ones.
 const WAIT_SECONDS: u64 = 1;
@@ -52,6 +53,8 @@ pub struct Serving<S: StartApplication, D: Disk> {
     console: Console,
     /// Whether the clock is before the last reported moment.
     is_late: bool,
+    /// When the open checkpoint began, by a clock that is never set.
+    began: Option<Duration>,
 }
 
 impl<S: StartApplication, D: Disk + Watched> Serving<S, D> {
@@ -92,6 +95,7 @@ impl<S: StartApplication, D: Disk + Watched> Serving<S, D> {
             strangers: Strangers::new(login),
             console: Console::new(has_console),
             is_late: false,
+            began: None,
         })
     }
 
@@ -186,8 +190,9 @@ impl<S: StartApplication, D: Disk + Watched> Serving<S, D> {
             &mut self.is_late,
         )?;
         let calls = self.disk.calls();
+        let before = time(rt);
         let given = give(&mut self.server, &mut self.disk, &came);
-        tell_checkpoint(rt, &self.disk, calls);
+        tell_checkpoint(rt, &self.disk, calls, before, &mut self.began);
         given?;
         let parted = write_all(
             rt,

@@ -178,13 +178,14 @@ impl<S: StartApplication, D: Disk + Watched> Serving<S, D> {
         ensures most { self.new.clients.most_waiting ≡ self.old.clients.most_waiting }
         ensures ended { IfErr result (λ fault. EndsFor S.layer D.kind fault self.old self.new) }
     {
-        let is_settled = mem::replace(&mut self.clients.is_settled, false);
-        self.clients.sockets.rest();
-        self.clients.sockets.look()?;
+        let clients = &mut self.clients;
+        let is_settled = mem::replace(&mut clients.is_settled, false);
+        clients.sockets.rest();
+        clients.sockets.look()?;
         let came = come(
             rt,
             self.alloc,
-            &mut self.clients.sockets,
+            &mut clients.sockets,
             &mut self.console,
             &mut self.moment,
             &mut self.is_late,
@@ -198,12 +199,12 @@ impl<S: StartApplication, D: Disk + Watched> Serving<S, D> {
             rt,
             self.alloc,
             &mut self.server,
-            &mut self.clients.sockets,
-            self.clients.most_waiting,
+            &mut clients.sockets,
+            clients.most_waiting,
             is_settled,
             &mut self.strangers,
         )?;
-        self.clients.is_settled = true;
+        clients.is_settled = true;
         give_if_open(&mut self.server, &mut self.disk, &parted)?;
         Ok(())
     }
@@ -237,7 +238,8 @@ impl<S: StartApplication, D: Disk + Watched> Serving<S, D> {
         ensures waits { Waits self.old self.new }
         ensures outside { IfErr result IsOutside }
     {
-        self.clients.sockets.wait(WAIT_SECONDS)?;
+        let clients = &mut self.clients;
+        clients.sockets.wait(WAIT_SECONDS)?;
         Ok(())
     }
 }

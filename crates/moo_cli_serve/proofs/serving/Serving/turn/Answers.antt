@@ -11,23 +11,20 @@ use Rattle.moo_cli_serve.proofs.Serviced.{refused_of}
 use Rattle.moo_cli_serve.proofs.Rounding.{begins_on, course_end, course_round, follows_end}
 use Rattle.moo_cli_serve.proofs.serving.Serving.turn.Goals as goal
 
-pub invariant_of-self : goal.invariant_of-self
-invariant_of-self g c = record { room = λ on. absurd (true≢false (sym on ∙ c.replace-is_settled.ensures.after)) }
+pub invariant_of-clients : goal.invariant_of-clients
+invariant_of-clients g c = record { room = λ on. absurd (true≢false (sym on ∙ c.replace-is_settled.ensures.after)) }
 
-pub invariant_of-self-2 : goal.invariant_of-self-2
-invariant_of-self-2 g c = record { room = λ on. absurd (true≢false (sym on ∙ c.replace-is_settled.ensures.after)) }
+pub invariant_of-clients-in-Break-branch-2 : goal.invariant_of-clients-in-Break-branch-2
+invariant_of-clients-in-Break-branch-2 g c = record { room = λ on. absurd (true≢false (sym on ∙ c.replace-is_settled.ensures.after)) }
 
-pub invariant_of-self-3 : goal.invariant_of-self-3
-invariant_of-self-3 g c = record { room = λ on. absurd (true≢false (sym on ∙ c.replace-is_settled.ensures.after)) }
+pub invariant_of-clients-in-Break-branch-3 : goal.invariant_of-clients-in-Break-branch-3
+invariant_of-clients-in-Break-branch-3 g c = record { room = λ on. absurd (true≢false (sym on ∙ c.replace-is_settled.ensures.after)) }
 
-pub invariant_of-self-4 : goal.invariant_of-self-4
-invariant_of-self-4 g c = record { room = λ on. absurd (true≢false (sym on ∙ c.replace-is_settled.ensures.after)) }
+pub invariant_of-clients-in-Break-branch-4 : goal.invariant_of-clients-in-Break-branch-4
+invariant_of-clients-in-Break-branch-4 g c = record { room = λ on. absurd (true≢false (sym on ∙ c.replace-is_settled.ensures.after)) }
 
-pub invariant_of-self-5 : goal.invariant_of-self-5
-invariant_of-self-5 g c = (λ on. absurd (true≢false (sym on ∙ c.replace-is_settled.ensures.after)), tt)
-
-pub invariant_of-self-6 : goal.invariant_of-self-6
-invariant_of-self-6 g c = record { room = λ on. c.in_ok-parted.ensures.room }
+pub invariant_of-clients-2 : goal.invariant_of-clients-2
+invariant_of-clients-2 g c = record { room = λ on. c.in_ok-parted.ensures.room }
 
 pub returns-in_err-look-clause-follows : goal.returns-in_err-look-clause-follows
 returns-in_err-look-clause-follows g c = record { still = c.requires.still; continues = c.requires.continues }

@@ -6,6 +6,7 @@ import command_rows
 import database_rows
 import guides
 import launcher_cases
+import lowering_cases
 import page_cases
 import program_rows
 import script_rows
@@ -80,4 +81,5 @@ def all_groups(program):
         ("the example of the page on scripts", [("docs", partial(starter.play_example, program))]),
         ("the sessions of the guides", guides.units(program)),
         ("the commands of the guides", typed.units()),
+        ("lowered programs", lowering_cases.units()),
     ]

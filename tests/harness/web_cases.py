@@ -10,7 +10,6 @@ import socket
 import subprocess
 import tempfile
 import threading
-import time
 from functools import partial
 
 from outcome import Outcome, Result, Skipped
@@ -236,16 +235,16 @@ def one_who_is_silent_is_pinged_and_then_hung_up(moo):
             browser = WebSocket(server.web)
             browser.say(b"look\n")
             browser.sees(GREETING + LOOKED)
-            # What came is seen in a round of a later second, and the silence begins then. A round comes each second.
+            # What came is seen in a round of a later second, and the silence begins then. A response takes a round.
             show(1001)
-            time.sleep(2.5)
+            respond(server.web, get("/", f"127.0.0.1:{server.web}"))
             show(1040)
             browser.sees_frame(PING, b"")
             browser.send(frame(PONG))
             browser.say(b"look\n")
             browser.sees(LOOKED)
             show(1041)
-            time.sleep(2.5)
+            respond(server.web, get("/", f"127.0.0.1:{server.web}"))
             show(1200)
             browser.sees_close(1001)
             browser.sees_end()

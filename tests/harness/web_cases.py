@@ -163,6 +163,7 @@ def what_breaks_the_protocol_ends_a_websocket(moo):
 def a_close_is_answered(moo):
     with Page(moo) as server:
         browser = WebSocket(server.web)
+        browser.sees(GREETING)
         browser.send(frame(CLOSE, b"\x03\xe8"))
         browser.sees_frame(CLOSE, b"\x03\xe8")
         browser.sees_end()
@@ -187,6 +188,7 @@ def one_who_pings_and_reads_late_gets_every_pong(moo):
     count = 100_000
     with Page(moo) as server:
         pinger = WebSocket(server.web)
+        pinger.sees(GREETING)
         pings = frame(PING, b"x" * 125) * 100
         sender = threading.Thread(target=lambda: [pinger.send(pings) for _ in range(count // 100)])
         sender.start()
@@ -195,7 +197,7 @@ def one_who_pings_and_reads_late_gets_every_pong(moo):
             pinger.sees_frame(PONG, b"x" * 125)
         sender.join()
         pinger.say(b"look\n")
-        pinger.sees(GREETING + LOOKED)
+        pinger.sees(LOOKED)
 
 
 def an_address_that_is_taken_is_named(moo):
@@ -230,23 +232,27 @@ def one_who_is_silent_is_pinged_and_then_hung_up(moo):
 
         show(1000)
         with Page(moo, environ={"LD_PRELOAD": str(library), "MONOTONIC": str(clock)}) as server:
+            request = get("/", f"127.0.0.1:{server.web}")
+
+            def spend(seconds):
+                """Shows this second until the server has looked at it: the second page comes after the round of the first."""
+                show(seconds)
+                same("pages", [bool(respond(server.web, request)) for _ in range(2)], [True, True])
+
             browser = WebSocket(server.web)
             browser.say(b"look\n")
             browser.sees(GREETING + LOOKED)
-            # What came is seen in the round of the next second, and the silence begins then.
-            show(1001)
-            browser.say(b"look\n")
-            browser.sees(LOOKED)
-            show(1002)
-            browser.say(b";return 1;\n")
-            browser.sees(b"{1, 1}\r\n")
-            show(1040)
+            spend(1001)
+            show(1031)
             browser.sees_frame(PING, b"")
-            browser.send(frame(PONG))
-            show(1041)
+            browser.send(frame(PONG) + frame(TEXT, b"look\n"))
+            browser.sees(LOOKED)
+            spend(1032)
+            spend(1061)
             browser.say(b"look\n")
             browser.sees(LOOKED)
-            show(1200)
+            spend(1062)
+            show(1152)
             browser.sees_close(1001)
             browser.sees_end()
 

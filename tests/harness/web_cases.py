@@ -232,20 +232,27 @@ def one_who_is_silent_is_pinged_and_then_hung_up(moo):
 
         show(1000)
         with Page(moo, environ={"LD_PRELOAD": str(library), "MONOTONIC": str(clock)}) as server:
+            request = get("/", f"127.0.0.1:{server.web}")
+
+            def spend(seconds):
+                """Shows this second until the server has looked at it: the second page comes after the round of the first."""
+                show(seconds)
+                same("pages", [bool(respond(server.web, request)) for _ in range(2)], [True, True])
+
             browser = WebSocket(server.web)
             browser.say(b"look\n")
             browser.sees(GREETING + LOOKED)
-            # What came is seen in a round of a later second, and the silence begins then. A response takes a round.
-            show(1001)
-            respond(server.web, get("/", f"127.0.0.1:{server.web}"))
-            show(1040)
+            spend(1001)
+            show(1031)
             browser.sees_frame(PING, b"")
-            browser.send(frame(PONG))
+            browser.send(frame(PONG) + frame(TEXT, b"look\n"))
+            browser.sees(LOOKED)
+            spend(1032)
+            spend(1061)
             browser.say(b"look\n")
             browser.sees(LOOKED)
-            show(1041)
-            respond(server.web, get("/", f"127.0.0.1:{server.web}"))
-            show(1200)
+            spend(1062)
+            show(1152)
             browser.sees_close(1001)
             browser.sees_end()
 

@@ -181,7 +181,12 @@ def play_case(program, place, show, case):
     return [Outcome(place, title, Result(0, b""), Result(0, b""))]
 
 
+def units_of(program, kind, cases):
+    """Returns the units that play cases, each with its place: the kind and the name of its function."""
+    places = [f"{kind}: " + show.__name__.replace("_", " ") for show, _ in cases]
+    return [(place, partial(play_case, program, place, show, case)) for place, (show, case) in zip(places, cases)]
+
+
 def units(program):
     """Returns the units that play all cases, each with its place."""
-    places = ["serving: " + show.__name__.replace("_", " ") for show, _ in CASES]
-    return [(place, partial(play_case, program, place, show, case)) for place, (show, case) in zip(places, CASES)]
+    return units_of(program, "serving", CASES)

@@ -10,12 +10,11 @@ import socket
 import subprocess
 import tempfile
 import threading
-from functools import partial
 
-from outcome import Outcome, Result, Skipped
+from outcome import Skipped
 from row_file import TOP
-from serve_cases import GREETING, LAST, LOOKED, as_bytes
-from serving import DATA, Server, Unlike, same, sees, starting
+from serve_cases import GREETING, LAST, LOOKED, units_of
+from serving import DATA, Server, same, sees, starting
 from websocket import BINARY, CLOSE, CONTINUATION, KEY, PING, PONG, TEXT, WebSocket, frame, get, respond, upgrade
 
 # A page at the port HERE, and requests with the status of the response to each.
@@ -274,16 +273,6 @@ CASES = [
 ]
 
 
-def play_case(program, place, show, case):
-    """Plays a case: its outcome is the first thing that was seen otherwise than wanted."""
-    try:
-        show(program.path, *case)
-    except Unlike as fault:
-        return [Outcome(place, f"{place}: {fault.what}", Result(0, as_bytes(fault.wanted)), Result(0, as_bytes(fault.seen)))]
-    return [Outcome(place, place, Result(0, b""), Result(0, b""))]
-
-
 def units(program):
     """Returns the units that play all cases, each with its place."""
-    places = ["browsers: " + show.__name__.replace("_", " ") for show, _ in CASES]
-    return [(place, partial(play_case, program, place, show, case)) for place, (show, case) in zip(places, CASES)]
+    return units_of(program, "browsers", CASES)

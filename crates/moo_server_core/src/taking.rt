@@ -6,7 +6,7 @@ ghost use Rattle.moo_server_core.specs.Application.{Finishes, IsApt, Output, is_
 ghost use Rattle.moo_server_core.specs.Crash.{IsOneOf, Survives};
 ghost use Rattle.moo_server_core.specs.Turns.{CallsAtMostOnce, CountsReport, FailsAtMostOnce};
 ghost use Rattle.moo_server_core.specs.Seen.{Flush, seen};
-ghost use Rattle.moo_server_core.specs.Meaning.{State, Acts, Entry, FindsFree, Hears, Marks, is_due, MayWant, is_for_leaving, is_passed_over, refusal, refusal_in};
+ghost use Rattle.moo_server_core.specs.Meaning.{State, Acts, Entry, FindsFree, Hears, Marks, is_due, MayWant, acts_without_memory, at_moment_of, is_passed_over, refusal, refusal_in};
 
 use crate::event::Course;
 use crate::server_core::Open;
@@ -62,8 +62,8 @@ impl<S: Application> ServerCore<S> {
         ensures waiting { waiting_of S.layer self.new ≡ waiting_of S.layer self.old }
         ensures writing { self.new.writing ≡ self.old.writing }
         ensures halted { self.new.halted ≡ self.old.halted }
-        ensures dropped { is_for_leaving S.layer.meaning (state_of S.layer self.old) (seen event.now) ≡ true
-            → IsOk result × (is_due S.layer.meaning (state_of S.layer self.new) ≡ is_due S.layer.meaning (state_of S.layer self.old)) }
+        ensures without_memory { acts_without_memory S.layer.meaning (state_of S.layer self.old) (seen event.now) ≡ true → IsOk result
+            × (is_due S.layer.meaning (state_of S.layer self.new) ≡ is_due S.layer.meaning (at_moment_of (seen event.now) (state_of S.layer self.old))) }
     {
         match event {
             Event::Open(c) => self.apply(Input::Opens(*c)),
@@ -142,6 +142,7 @@ impl<S: Application> ServerCore<S> {
         ensures call { self.old.writing ≢ None → MakesOneCall D.kind disk.old disk.new }
         ensures calls { CallsAtMostOnce D.kind disk.old disk.new }
         ensures idle { self.old.writing ≡ None → disk.new ≡ disk.old }
+        ensures without_memory { self.old.writing ≡ None → IsOk result × (state_of S.layer self.new ≡ state_of S.layer self.old) }
         ensures honest { D.kind.honest disk.old ↔ D.kind.honest disk.new }
     {
         let Some(mut open) = self.writing.take() else {

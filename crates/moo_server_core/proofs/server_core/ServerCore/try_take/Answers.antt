@@ -1,11 +1,11 @@
 use Rattle.std.proofs.Common.{◌≡◌, Option, None, false, inl, refl, sym, ◌∙◌, ap, subst}
 use Rattle.moo_server_core.specs.Seen.{Event, Flush, is_flush, seen}
 use Rattle.moo_server_core.specs.Application.{Output, then_out}
-use Rattle.moo_server_core.specs.Meaning.{is_passed_over, refusal}
+use Rattle.moo_server_core.specs.Meaning.{is_due, is_passed_over, refusal}
 use Rattle.moo_server_core.specs.Server.{OpenFollows, state_of}
 use Rattle.moo_server_core.specs.declared.server_core.Open.{Open}
 use Rattle.moo_server_core.proofs.Heard.{if_err_any, if_err_map, not_ok}
-use Rattle.moo_server_core.proofs.Idle.{flush_leaves, idle_if}
+use Rattle.moo_server_core.proofs.Idle.{flush_wants, idle_if}
 use Rattle.moo_server_core.proofs.Reported.{on_ok_map, opens_follow}
 use Rattle.moo_server_core.proofs.Taken.{acted, flush_is, flushed, isnt_flush}
 use Rattle.moo_server_core.proofs.server_core.ServerCore.try_take.Goals as goal
@@ -65,14 +65,24 @@ returns-clause-follows g c =
 pub returns-in_err-flush-clause-memory : goal.returns-in_err-flush-clause-memory
 returns-in_err-flush-clause-memory g c =
     let flush : seen c.args.event.now ≡ Flush = flush_is (seen c.args.event.now) (sym c.is_flush.ensures ∙ c.if-is_flush.true) in
-    if_err_any c.from_residual.result
-    (c.requires.accepted, c.requires.counts, flush_leaves g.S.Application.layer.meaning (state_of g.S.Application.layer c.args.self.now) (seen c.args.event.now) flush)
+    if_err_any c.from_residual.result (
+      c.requires.accepted,
+      c.requires.counts,
+      flush_wants g.S.Application.layer c.args.self.now (seen c.args.event.now) flush (λ none. absurd (not_ok (c.in_err-flush.ensures.without_memory none).0)),
+    )
 
 pub returns-then-is_flush-clause-memory : goal.returns-then-is_flush-clause-memory
 returns-then-is_flush-clause-memory g c =
+    let l = g.S.Application.layer in
     let flush : seen c.args.event.now ≡ Flush = flush_is (seen c.args.event.now) (sym c.is_flush.ensures ∙ c.if-is_flush.true) in
-    if_err_any c.begin_due_checkpoint.result
-    (c.requires.accepted, c.requires.counts, flush_leaves g.S.Application.layer.meaning (state_of g.S.Application.layer c.args.self.now) (seen c.args.event.now) flush)
+    if_err_map c.begin_due_checkpoint.result
+    (λ due. (
+      c.requires.accepted,
+      c.requires.counts,
+      flush_wants l c.args.self.now (seen c.args.event.now) flush
+          (λ none. ap (is_due l.meaning) (sym (c.in_ok-flush.ensures.without_memory none).1) ∙ due),
+    ))
+    c.begin_due_checkpoint.ensures.due
 
 pub returns-in_err-act-clause-memory : goal.returns-in_err-act-clause-memory
 returns-in_err-act-clause-memory g c =
@@ -80,7 +90,7 @@ returns-in_err-act-clause-memory g c =
     if_err_any c.from_residual-in_err-act.result (
       c.requires.accepted,
       c.requires.counts,
-      idle_if l.meaning (state_of l c.args.self.now) (seen c.args.event.now) (λ leaving. absurd (not_ok (c.in_err-act.ensures.dropped leaving).0)),
+      idle_if l.meaning (state_of l c.args.self.now) (seen c.args.event.now) (λ without. absurd (not_ok (c.in_err-act.ensures.without_memory without).0)),
     )
 
 pub returns-clause-memory : goal.returns-clause-memory
@@ -90,7 +100,7 @@ returns-clause-memory g c =
     (λ due. (
       c.requires.accepted,
       c.requires.counts,
-      idle_if l.meaning (state_of l c.args.self.now) (seen c.args.event.now) (λ leaving. sym (c.in_ok-act.ensures.dropped leaving).1 ∙ due),
+      idle_if l.meaning (state_of l c.args.self.now) (seen c.args.event.now) (λ without. sym (c.in_ok-act.ensures.without_memory without).1 ∙ due),
     ))
     c.begin_due_checkpoint-2.ensures.due
 

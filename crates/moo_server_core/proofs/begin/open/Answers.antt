@@ -5,6 +5,11 @@ use Rattle.moo_server_core.specs.declared.server_core.Open.{Open}
 use Rattle.moo_server_core.specs.Server.{OpenFollows}
 use Rattle.moo_server_core.proofs.begin.open.Goals as goal
 
+pub returns-in_err-saved-clause-refused : goal.returns-in_err-saved-clause-refused
+returns-in_err-saved-clause-refused g c = λ honest.
+    let p = err_from_is_err_and c.from_residual.result c.from_residual.ensures.1 in
+    rw (p.1, p.2) (c.in_err-saved.ensures.refused honest)
+
 pub returns-in_err-saved-clause-accepted : goal.returns-in_err-saved-clause-accepted
 returns-in_err-saved-clause-accepted g c = λ honest s spells.
     let p = err_from_is_err_and c.from_residual.result c.from_residual.ensures.1 in

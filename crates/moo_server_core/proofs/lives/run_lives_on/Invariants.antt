@@ -2,7 +2,7 @@ use Rattle.std.proofs.Common.{take}
 use Rattle.moo_disk.specs.Disk.{LeavesOnly}
 use Rattle.moo_dbtext_read.specs.Saved.{Saved}
 use Rattle.moo_server_core.specs.Lives.{SoFar}
-use Rattle.moo_server_core.proofs.lives.run_lives.Given as goal
+use Rattle.moo_server_core.proofs.lives.run_lives_on.Given as goal
 
 abbrev pub invariant-loop-place : goal.invariant-loop-place
 invariant-loop-place g l =

@@ -1,6 +1,6 @@
 -- The report of a checkpoint comes in time.
 use Rattle.std.proofs.Common.{◌≡◌, ◌≢◌, inl, inr, ℕ, ◌+◌, ◌/◌, ◌<◌, ◌≤◌, List, [], ◌∷◌, ◌++◌, length, Option, Some, None, Bool, true, false, refl, ◌∙◌, ap, subst, arith}
-use Rattle.std.specs.Prelude.{MatchBool, ◌&&◌, ◌||◌, not, is_none, nat_le}
+use Rattle.std.specs.Prelude.{MatchBool, ◌||◌, not, is_none, nat_le}
 use Rattle.std.specs.Option.{option_map}
 use Rattle.moo_server_core.specs.Traces.{Report, Trace}
 use Rattle.moo_server_core.specs.Turns.{IsInTime, HasReport, flush_count, flush_takes, flushes, turns_after, turns_for, turns_left_after, turns_marked, turns_unmarked}
@@ -13,6 +13,7 @@ use Rattle.moo_server_core.specs.declared.server_core.ServerCore.{ServerCore}
 use Rattle.moo_server_core.specs.Server.{Lived, state_of, traces_under, turns_of, with_disk}
 use Rattle.moo_server_core.proofs.Marked.{last_taken, run_split}
 use Rattle.moo_dbtext_read.specs.Saved.{Saved}
+use Rattle.moo_server_core.proofs.Idle.{second_and}
 use Rattle.moo_server_core.proofs.Running.{traces-append}
 
 -- one turn at most
@@ -20,12 +21,6 @@ step : (flush : Bool) (left rest : ℕ) → (left ≡ 1 → flush ≡ true → �
     → (0 < flush_takes flush left) × (flush_takes flush left ≤ rest)
 step true left rest not_last some enough = let not_one : left ≢ 1 = λ is. not_last is refl in (omega arith, omega arith)
 step false left rest not_last some enough = (omega arith, omega arith)
-
-second_and : (a b c : Bool) → ((a && b) && c) ≡ true → b ≡ true
-second_and true true c is = refl
-second_and true false c is = is
-second_and false true c is = refl
-second_and false false c is = is
 
 pub in_time_behind : (left : ℕ) (es es' : List Trace) → IsInTime left (es ++ es') → IsInTime (turns_left_after left es) es'
 in_time_behind left [] es' in_time = in_time

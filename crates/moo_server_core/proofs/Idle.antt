@@ -1,8 +1,8 @@
 -- Events that a running server takes: bytes for a connection that is leaving, and openings of a number that none has.
 use Rattle.std.proofs.Common.{◌≡◌, Option, Some, None, Bool, true, false, refl, sym, ◌∙◌, ap, subst}
-use Rattle.std.specs.Prelude.{◌&&◌, is_none, not, if◌then◌else◌}
+use Rattle.std.specs.Prelude.{◌&&◌, ◌||◌, is_none, nat_le, not, if◌then◌else◌}
 use Rattle.moo_server_core.specs.Application.{Layer, Meaning}
-use Rattle.moo_server_core.specs.Courses.{is_closing}
+use Rattle.moo_server_core.specs.Courses.{is_closed, is_closing}
 use Rattle.moo_server_core.specs.Seen.{Event, Open, Bytes, Hangup, Moment, Flush, seen}
 use Rattle.moo_server_core.specs.declared.event.Cause.TheVariants.{ConnectionInUse}
 use Rattle.moo_server_core.specs.declared.event.Course.{Course}
@@ -20,6 +20,12 @@ other m state event form is isnt without = true_isnt_false (sym without ∙ ap (
   where
     true_isnt_false : true ≡ false → ⊥
     true_isnt_false same = cc
+
+pub second_and : (a b c : Bool) → ((a && b) && c) ≡ true → b ≡ true
+second_and true true c is = refl
+second_and true false c is = is
+second_and false true c is = refl
+second_and false false c is = is
 
 both : (a b : Bool) → (a && not b) ≡ true → (a ≡ true) × (b ≡ false)
 both true true is = absurd (cc)
@@ -43,6 +49,12 @@ idle_if m state event due =
 none_open : (writing : Option Open') → is_none (is_last_of writing) ≡ true → writing ≡ None
 none_open None is = refl
 none_open (Some o) is = absurd (cc)
+
+-- if a checkpoint is due, none is open
+pub none_if_due : {S Application Saved : Type 0} (l : Layer S Application Saved) (server : ServerCore S) → is_due l.meaning (state_of l server) ≡ true → server.writing ≡ None
+none_if_due l server due =
+    none_open server.writing
+    (second_and (not (is_closed server.course)) (is_none (is_last_of server.writing)) (server.asked || nat_le server.due server.moment) due)
 
 -- a `Flush` that wanted memory found a checkpoint open or due
 pub flush_wants : {S Application Saved : Type 0} (l : Layer S Application Saved) (server : ServerCore S) (event : Event) → event ≡ Flush

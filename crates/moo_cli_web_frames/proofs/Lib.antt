@@ -1,3 +1,4 @@
 pub mod Accepting
 pub mod Pieces
 pub mod Reading
+pub mod Shown

@@ -2,7 +2,7 @@
 use Rattle.std.specs.Prelude.{◌≡◌, ◌⊎◌, ℕ, Bool, List, [], ◌∷◌, ◌++◌, drop, false, true, Option, None, Some, Result, Ok, Err}
 use Rattle.websocket.specs.declared.error.Error.{Error}
 use Rattle.websocket.specs.declared.error.Error.TheVariants.{OutOfMemory}
-use Rattle.websocket.specs.declared.protocol.config.Role.TheVariants.{Server}
+use Rattle.websocket.specs.declared.protocol.config.Role.TheVariants.{Client, Server}
 use Rattle.websocket.specs.declared.protocol.state.WebSocketState.TheVariants.{Active}
 use Rattle.websocket.specs.declared.protocol.frame.codec.FrameStatus.{FrameStatus}
 use Rattle.websocket.specs.declared.protocol.frame.codec.FrameStatus.TheVariants.{Partial, Complete}
@@ -18,6 +18,15 @@ opened = record {
   role = Server;
   state = Active;
   config = record { max_message_size = Some 65536; max_frame_size = Some 65536; accept_unmasked_frames = false };
+  fragments = None;
+}
+
+-- a browser's end that was just opened: it takes messages of any length
+abbrev pub browser : Connection
+browser = record {
+  role = Client;
+  state = Active;
+  config = record { max_message_size = None; max_frame_size = None; accept_unmasked_frames = false };
   fragments = None;
 }
 
@@ -67,6 +76,11 @@ StepFails read error payload payload' output output' = (error ≡ OutOfMemory) �
 -- the bytes of each of these pieces
 abbrev pub pieces_of : List (Vec ℕ) → List (List ℕ)
 pieces_of pieces = map (λ piece. piece.items) pieces
+
+-- A browser that reads these bytes gets this payload, and no byte is left.
+abbrev pub Shows : List ℕ → List ℕ → Type 0
+Shows bytes payload =
+    (effects : List Effect) × (read_all browser bytes ≡ record { effects = effects; end = Ok (browser, []) }) × (payload_in effects ≡ payload)
 
 -- the run that reads no frame, and waits for the rest of one
 abbrev pub waiting : Connection → List ℕ → Trace

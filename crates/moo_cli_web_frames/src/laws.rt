@@ -1,7 +1,8 @@
-//! Laws of the frames of a WebSocket: how the network cuts its bytes changes nothing.
-ghost use Rattle.std.specs.Prelude.{◌≡◌, ◌++◌, ℕ, List, Ok, IfErr, OnOk};
+//! Laws of the frames of a WebSocket: how the network cuts its bytes changes nothing, and a browser reads what was sent.
+ghost use Rattle.std.specs.Prelude.{◌≡◌, ◌≤◌, ◌++◌, ℕ, All, List, Ok, IfErr, OnOk, vec_len};
+ghost use Rattle.websocket.specs.declared.protocol.config.Role.TheVariants.{Server};
 ghost use Rattle.websocket.specs.Stream.{concat, read_all, read_chunks};
-ghost use Rattle.moo_cli_web_frames.specs.Frames.{FailsFor, Receives, Waits, opened, payload_in, pieces_of};
+ghost use Rattle.moo_cli_web_frames.specs.Frames.{FailsFor, Receives, Shows, Waits, opened, payload_in, pieces_of};
 
 use crate::endpoint::Endpoint;
 use websocket::error::Error;
@@ -28,6 +29,23 @@ pub fn receive_pieces(
 {
     for piece in pieces {
         endpoint.receive(piece, payload, output)?;
+    }
+    Ok(())
+}
+
+/// Sends these pieces, one after another, as far as none fails. A browser that reads what this appends to `output` gets the bytes of
+/// all pieces.
+pub fn send_pieces(
+    endpoint: &mut Endpoint,
+    pieces: &[Vec<u8>],
+    output: &mut Vec<u8>,
+) -> Result<(), Error>
+    requires server { endpoint.old.context.role ≡ Server }
+    requires short { All (λ piece. vec_len piece ≤ 16384) pieces.now }
+    ensures { OnOk result ((frames : List ℕ) × (output.new.items ≡ output.old.items ++ frames) × Shows frames (concat (pieces_of pieces.now))) }
+{
+    for piece in pieces {
+        endpoint.send(piece, output)?;
     }
     Ok(())
 }

@@ -4,9 +4,10 @@
     stress/browser/fuzz.py PROGRAM [COUNT] [SEED]     COUNT of each kind, 1,000 if none is given
 
 Requests are bytes of a head that is changed at random places, in random pieces: each gets a whole response of a known status, or none if its head
-stays unfinished. Streams of frames are changed likewise: each ends by a close of a known code, by a hang-up, or waits for the rest of a frame. After
+stays unfinished. Streams of frames are changed likewise: each ends by a close of a known code or by a hang-up, at the latest when the server reads that no more comes. After
 each hundred a browser and a telnet client get their answers. The examples of RFC 6455, section 5.7, are sent cut at every byte."""
 
+import errno
 import pathlib
 import random
 import socket
@@ -52,17 +53,21 @@ def change(chance, data):
 
 
 def answer(port, pieces):
-    """Returns what comes after these pieces, up to the end or to a tenth of a second of silence."""
+    """Returns what comes after these pieces, up to the end. The server hangs up once it has read that no more comes."""
     with socket.create_connection(("127.0.0.1", port)) as client:
-        client.settimeout(0.1)
+        client.settimeout(60)
         seen = b""
         try:
             for piece in pieces:
                 client.sendall(piece)
+            client.shutdown(socket.SHUT_WR)
             while data := client.recv(65536):
                 seen += data
-        except OSError:
-            pass
+        except (BrokenPipeError, ConnectionResetError):
+            pass  # the server has hung up before
+        except OSError as error:
+            if error.errno != errno.ENOTCONN:
+                raise
         return seen
 
 

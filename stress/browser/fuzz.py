@@ -3,9 +3,9 @@
 
     stress/browser/fuzz.py PROGRAM [COUNT] [SEED]     COUNT of each kind, 1,000 if none is given
 
-Requests are bytes of a head that is changed at random places, in random pieces: each gets a whole response of a known status, or none if its head
-stays unfinished. Streams of frames are changed in this way too: each ends by a close of a known code, by a hang-up, or waits for the rest of a frame. After
-each hundred a browser and a telnet client get their answers. The examples of RFC 6455, section 5.7, are sent cut at every byte."""
+Requests are bytes of a head that is changed at random places, in random pieces. Each gets a whole response of a known status, or none if its head
+stays unfinished. Streams of frames are changed in this way too. Each ends by a close of a known code, by a hang-up, or waits for the rest of a frame.
+After each hundred a browser and a telnet client get their answers. The examples of RFC 6455, section 5.7, are sent cut at every byte."""
 
 import pathlib
 import random

@@ -1,5 +1,5 @@
-"""What a player without a flag can do in the starter world by one piece of bytes: each line that the world's own transcripts
-type, as often as the piece holds it, at the landing, in a room that is full of things, and there with two hundred others."""
+"""What a player without a flag can do in the starter world by one piece of bytes. Each line that the world's own transcripts type is
+repeated, as often as the piece holds it: at the landing, in a room that is full of things, and there with two hundred others."""
 import glob, os
 from concurrent.futures import ThreadPoolExecutor
 import program

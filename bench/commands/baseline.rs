@@ -1,4 +1,4 @@
-//! The same work in plain Rust: objects as structs with `String` and `Vec`, a line as a slice of bytes.
+//! The work of main.rattle in plain Rust: objects as structs with `String` and `Vec`, a line as a slice of bytes.
 use std::hint::black_box;
 use std::time::Instant;
 

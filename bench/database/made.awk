@@ -1,5 +1,6 @@
-# Prints a database of `many` objects in a tree of ten children each, a hundred in a place: five properties on each of the first eleven, a cell for
-# each definition above an object, two verbs on each and a program for one of them. About 2,500 bytes an object. With `apart` no two strings of cells are alike.
+# Prints a database of `many` objects in a tree of ten children each, a hundred in a place. Each of the first eleven defines five properties, and
+# an object has a cell for each definition above it. Each has two verbs, and a program for one of them: about 2,500 bytes an object. With `apart`
+# no two strings of cells are alike.
 function first(o, step, n) { n = step * o + 1; return n < many ? n : -1 }
 function text(o, p) { return apart ? line " " o "." p : line }
 BEGIN {

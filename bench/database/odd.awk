@@ -1,6 +1,6 @@
-# Prints a database of one odd shape (`shape`) and size (`many`): a chain of parents, or of places, or of parents that hand down a property; a list
-# of children; objects without anything; properties, verbs or programs of one object; one list as a value, or a hundred
-# strings; players; connections.
+# Prints a database of one odd shape (`shape`) and size (`many`). Shapes are a chain of parents, of places, or of parents that hand down a property;
+# a list of children; objects without anything; properties, verbs or programs of one object. Others are one list as a value, a hundred strings,
+# players, and connections.
 function head(o, place, inside, parent, child, sibling) {
     print "#" o; print "x"; print ""; print 0; print 0; print place; print inside; print -1; print parent; print child; print sibling
 }

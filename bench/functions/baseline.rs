@@ -1,4 +1,4 @@
-//! The same work in plain Rust: vectors of values behind an `Rc`, and searches of strings by `str`.
+//! The work of main.rattle in plain Rust: vectors of values in an `Rc`, and searches of strings by `str`.
 use std::hint::black_box;
 use std::rc::Rc;
 use std::time::Instant;

@@ -1,7 +1,7 @@
 //! A plain tokenizer, byte by byte, over the same text: each token with its line, names and strings copied.
 use std::time::Instant;
 
-/// So many copies of the lines have 1,000,000 bytes.
+/// The number of copies of the lines that have 1,000,000 bytes.
 const COPIES: usize = 2578;
 
 const TURNS: u32 = 5;

@@ -1,5 +1,5 @@
-# Prints the database of a world for bench/names/run: six ancestors of twenty properties each, some of them with long names, an object below them,
-# an object whose row has a hundred cells, and #1, a wizard with a verb for each loop of loops.moo.
+# Prints the database of a world for bench/names/run. It has six ancestors of twenty properties each, some of them with long names, an object below
+# them, and an object whose row has a hundred cells. #1 is a wizard with a verb for each loop of loops.moo.
 function head(o, name, flags, parent) {
     print "#" o; print name; print ""; print flags; print 1; print -1; print -1; print -1; print parent; print child[o]; print -1
 }

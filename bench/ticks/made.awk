@@ -1,5 +1,5 @@
 # Prints the database of a world whose player #1, a wizard, has thirty properties, a verb for each loop of loops.moo, and one `start` of no turn.
-# Each verb tells the ticks that are left at its end. #0 has the property `size`, the verb `id`, which returns its argument, and `kept`, which sets a
+# Each verb prints the ticks that are left at its end. #0 has the property `size`, the verb `id`, which returns its argument, and `kept`, which sets a
 # variable first.
 function head(o, name, flags) {
     print "#" o; print name; print ""; print flags; print 1; print -1; print -1; print -1; print -1; print -1; print -1

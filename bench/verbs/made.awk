@@ -1,6 +1,6 @@
-# Prints the database of a world for bench/verbs/run: the players' system #0, the wizard #1, a chain of six parents #2 to #7 with the verbs of
-# names.txt, one line each, #8 with the verb `own` below them, #9 without a parent that has the verbs `own`, and #10 with 480 verbs whose names
-# begin with one prefix. Each verb returns its first argument, but those of #1: one for each loop of loops.moo, and `start` of no turn.
+# Prints the database of a world for bench/verbs/run. #0 is the players' system, #1 the wizard. #2 to #7 are a chain of six parents with the verbs of
+# names.txt, one line each, and #8 below them has the verb `own`. #9 has no parent and the verb `own`. #10 has 480 verbs whose names begin with one
+# prefix. Each verb returns its first argument, but those of #1: one for each loop of loops.moo, and `start` of no turn.
 function head(o, name, flags, parent, child, sibling) {
     print "#" o; print name; print ""; print flags; print 1; print -1; print -1; print -1; print parent; print child; print sibling
 }

@@ -1,4 +1,4 @@
-//! The same calls on plain structs: objects in a `Vec`, each with a row of cells, and lists of children and contents.
+//! The calls of main.rattle on plain structs: objects in a `Vec`, each with a row of cells, and lists of children and contents.
 use std::rc::Rc;
 use std::time::Instant;
 

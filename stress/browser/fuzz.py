@@ -1,11 +1,12 @@
 #!/usr/bin/env python3
-"""Sends random requests and frames to a server of `moo serve --web`, and looks that it goes on.
+"""Sends random requests and frames to a server of `moo serve --web`, and checks that it goes on.
 
     stress/browser/fuzz.py PROGRAM [COUNT] [SEED]     COUNT of each kind, 1,000 if none is given
 
-Requests are bytes of a head that is changed at random places, in random pieces: each gets a whole response of a known status, or none if its head
-stays unfinished. Streams of frames are changed likewise: each ends by a close of a known code or by a hang-up, at the latest when the server reads that no more comes. After
-each hundred a browser and a telnet client get their answers. The examples of RFC 6455, section 5.7, are sent cut at every byte."""
+Requests are bytes of a head that is changed at random places, in random pieces. Each gets a whole response of a known status, or none if its head
+stays unfinished. Streams of frames are changed in this way too. Each ends by a close of a known code or by a hang-up, at the latest when the server
+reads that no more comes. After each hundred a browser and a telnet client get their answers. The examples of RFC 6455, section 5.7, are sent cut at
+every byte."""
 
 import errno
 import pathlib
@@ -36,7 +37,7 @@ EXAMPLES = [
 
 
 def change(chance, data):
-    """Returns bytes of which some are others, are gone, or are there twice."""
+    """Returns the bytes, of which some are changed, some are removed and some are doubled."""
     changed = bytearray(data)
     for _ in range(chance.choice([0, 1, 1, 1, 2, 5])):
         at = chance.randrange(len(changed)) if changed else 0

@@ -28,7 +28,7 @@ def processor_seconds(process):
 
 
 class Telnet:
-    """A telnet client with the calls of a browser."""
+    """A telnet client with the methods of the class for browsers."""
 
     def __init__(self, client):
         self.client = client

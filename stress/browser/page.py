@@ -35,7 +35,7 @@ def check(name, is_met, more=""):
 
 
 def free_port():
-    """Returns a port that nobody has."""
+    """Returns a port that is free."""
     with socket.socket() as found:
         found.bind(("127.0.0.1", 0))
         return found.getsockname()[1]
@@ -121,7 +121,7 @@ async def play(served):
         await p.line("say \u201cquoted\u201d \u2014 caf\u00e9\u2026", .3)
         check("a phone's quotes become ASCII", 'says, ""quoted" -- cafe..."' in t.read(), t.got[-120:])
         await p.js("log.scrollTop = 0"); await asyncio.sleep(.1); t.line("say while you read"); await p.until("!document.getElementById('more').hidden && document.getElementById('more').textContent.startsWith('1 new')")
-        check("scrolled up, the log stays, and tells of new lines", await p.js("log.scrollTop") == 0)
+        check("scrolled up, the log stays, and reports new lines", await p.js("log.scrollTop") == 0)
         await p.click("#more"); await asyncio.sleep(.2); check("the button leads to the end", await p.js("log.scrollHeight - log.scrollTop - log.clientHeight < 4"))
         other = await b.page(f"http://127.0.0.1:{served.web}/"); await p.js("Object.defineProperty(document, 'visibilityState', { value: 'hidden', configurable: true }); 0")
         t.line("say psst"); await p.until("document.title.startsWith('(1)')"); check("a line that comes unseen is counted in the title", True)

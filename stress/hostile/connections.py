@@ -21,7 +21,7 @@ REFUSED = [
     ("an odd number of digits", "open 1\nbytes 1 abc\n", "bad line 2", 5),
     ("an event for a server that is shut down", "open 1\nline 1 #3\nline 1 eval shutdown();\n" + "flush\n" * 8 + "open 2\n", "refused: Closed", 5),
 ]
-# Events that are taken: none of them prints more than these lines.
+# Events that are taken, and all lines that each prints.
 TAKEN = [
     ("moments up to the last, each twice", "moment 0\nmoment 0\nmoment 4294967294\nmoment 4294967295\nmoment 4294967295\n", []),
     ("two checkpoints at the last moment", "moment 4294967295\n" + "flush\n" * 20, []),
@@ -30,12 +30,12 @@ TAKEN = [
 
 
 def players():
-    """The smallest world, and a player for each number of a connection."""
+    """Returns the smallest world, with a player for each number of a connection."""
     return world.small() + [world.Thing(f"P{number}", world.PLAYER, 3, 1, 2) for number in range(NUMBERS)]
 
 
 def together(count, lines):
-    """So many numbers opened, each with these lines, and then hung up."""
+    """Returns events that open this many numbers, each with these lines, and then hang up."""
     events = [f"open {number}\n" for number in range(count)]
     events += [line.format(number, FIRST + number) + "\n" for line in lines for number in range(count)]
     events += [f"hangup {number}\n" for number in range(count)]
@@ -43,7 +43,7 @@ def together(count, lines):
 
 
 def in_turn(count):
-    """So many numbers, each opened and hung up before the next."""
+    """Returns events that open this many numbers and hang up each before the next."""
     return "".join(f"open {number}\nhangup {number}\n" for number in range(count))
 
 
@@ -52,18 +52,18 @@ def main(database):
     for name, events, last, status in REFUSED:
         run = program.script(database, events)
         fits = (run.last(), run.status) == (last, status)
-        rows.append((name, f"`{last}`, status {status}", "as told" if fits else f"NOT: {run.last()}, {run.status}"))
+        rows.append((name, f"`{last}`, status {status}", "as expected" if fits else f"NOT: {run.last()}, {run.status}"))
         is_well &= fits
     for name, events, lines in TAKEN:
         run = program.script(database, events)
         fits = (run.output.splitlines(), run.status) == (lines, 0)
-        rows.append((name, "status 0", "as told" if fits else f"NOT: {run.output[-200:]}, {run.status}"))
+        rows.append((name, "status 0", "as expected" if fits else f"NOT: {run.output[-200:]}, {run.status}"))
         is_well &= fits
     return rows, is_well
 
 
 def crowds(database, players):
-    """What many connections take: rows of a table. The second database has a player for each number, from FIRST on."""
+    """Returns rows of a table: what many connections take. The second database has a player for each number, from FIRST on."""
     rows, is_well, half = [], True, "61" * 8192
     for path, count, what, events in (
         (database, 1_000, "open at once, each with 8,192 bytes that end no line", together(1_000, ["bytes {0} " + half])),

@@ -1,13 +1,13 @@
-"""Bytes as they come: whatever they are, and however they are cut, `moo script` runs on and answers the same."""
+"""Any bytes, cut in any way: `moo script` goes on, and its answers don't depend on the cutting."""
 import itertools, os, random, tempfile
 import program, world
 
-HEADS = ["Bytes", "Lines told", "Seconds", "However they are cut, the answers are"]
+HEADS = ["Bytes", "Lines reported", "Seconds", "Answers under each cutting"]
 ALPHABET = [b"\r", b"\n", b"\0", b"\xff", b'"', b"\\", b" ", b"a"]
 SINGLE = [b""] + ALPHABET
 PIECES = SINGLE + [one + two for one, two in itertools.product(ALPHABET, repeat=2)]
 TELL = "notify(player, toliteral({args, argstr}));\n"
-# Who a connection is when the pieces come: the lines that come before them.
+# The lines before the pieces, which decide who is connected when these come.
 STATES = {
     "nobody is logged in": [],
     "a player at commands": ["#5"],
@@ -16,7 +16,7 @@ STATES = {
 
 
 def telling():
-    """A world that tells of each line what it read of it, by a hook for strangers and by one for players."""
+    """Returns a world that prints each line as it was read, by a hook for strangers and by one for players."""
     things = world.small()
     things[0].verbs = [
         world.verb("do_login_command", TELL + world.LOGIN, 3),
@@ -31,7 +31,7 @@ def hexadecimal(piece):
 
 
 def lists(file, lines, cut, pieces):
-    """The events for each list of three pieces: its bytes, cut or in one, and what ends the line and the gathering."""
+    """Writes the events for each list of three pieces: its bytes, cut or in one, and what ends the line and the gathering."""
     before = "open 1\n" + "".join(f"line 1 {line}\n" for line in lines)
     for three in itertools.product(pieces, repeat=3):
         given = three if cut else [b"".join(three)]
@@ -39,7 +39,7 @@ def lists(file, lines, cut, pieces):
 
 
 def stream(file, seed, count, cut):
-    """The events of random pieces on ten connections that come and go; where they are cut, by another source of chance."""
+    """Writes the events of random pieces on ten connections that come and go. Another random generator decides how they are cut."""
     chance, knife = random.Random(seed), random.Random(seed + 1)
     is_open = set()
     for _ in range(count):
@@ -74,7 +74,7 @@ def told(database, write):
 
 
 def compared(name, database, write, rows):
-    """Runs the same bytes in one and cut; a row of the table, and whether all is well."""
+    """Runs the bytes in one piece and cut. Returns a row of the table, and whether all is well."""
     joined, cut = (told(database, lambda file, cut=cut: write(file, cut)) for cut in (False, True))
     is_well = (joined.status, cut.status) == (0, 0) and "" != each(joined.output) == each(cut.output)
     rows.append((name, len(joined.output.splitlines()), f"{cut.seconds:.1f}", "the same" if is_well else "DIFFERENT"))
@@ -82,7 +82,7 @@ def compared(name, database, write, rows):
 
 
 def each(output):
-    """The lines of each connection in their order; what one event tells several stands by their numbers."""
+    """Returns the lines of each connection in their order. An event's lines for several connections are printed by their numbers."""
     return "\n".join(sorted(output.splitlines(), key=lambda line: line.split(":")[0]))
 
 

@@ -4,14 +4,14 @@ import os, re, resource, subprocess, tempfile, time
 TOP = os.path.dirname(os.path.dirname(os.path.dirname(os.path.realpath(__file__))))
 MOO = os.environ.get("MOO") or subprocess.run([os.path.join(TOP, "moo"), "--path"], check=True, stdout=subprocess.PIPE, text=True).stdout.rstrip("\n")
 STACK = 65_536 * 1024
-# The most bytes that `moo serve` reads of a connection at once: what they say is one event.
+# The most bytes that `moo serve` reads of a connection at once: they are one event.
 PIECE = int(os.environ.get("PIECE", 256))
-# The most address space of one run, in bytes: a program that wants more is refused memory, and the machine stays up.
+# The most address space of one run, in bytes: a program that asks for more is refused memory, and the machine goes on.
 ROOM = int(os.environ.get("ROOM", 3 << 30))
 
 
 class Run:
-    """What a run printed, its status, its processor time as a user in seconds, and its peak of memory in megabytes."""
+    """What a run printed, its status, the user's processor time in seconds, and its peak of memory in megabytes."""
 
     def __init__(self, output, errors, status, usage, peak):
         self.output, self.errors, self.status = output, errors, status
@@ -27,7 +27,7 @@ def limit(room=ROOM):
 
 
 def script(database, events, patience=900, most=1 << 24, room=ROOM):
-    """Runs `moo script` on a database file; the events are a text or bytes, or the path of a file behind an @."""
+    """Runs `moo script` on a database file; the events are a text or bytes, or `@` and the path of a file."""
     with tempfile.TemporaryDirectory() as folder:
         path = os.path.join(folder, "events")
         if isinstance(events, str) and events.startswith("@"):
@@ -46,8 +46,8 @@ def run(words, given, folder, patience, most, room):
 
 
 def wait(child, patience):
-    """The status of a child, its usage, and its peak of memory in megabytes as last seen; one that takes more seconds than that is
-    ended, with the status None. What the system tells of a child's peak behind its end is no less than this process's own."""
+    """Returns the status of a child, its usage, and its peak of memory in megabytes as last seen. A child that takes more seconds than
+    given is ended, with the status None. The peak that the system reports after a child's end is never below this process's own."""
     end, peak = time.monotonic() + patience, 0
     while True:
         peak = max(peak, memory(child.pid))
@@ -64,14 +64,14 @@ def wait(child, patience):
 
 
 def memory(number):
-    """The peak of a process's memory so far, in megabytes; 0 where it has ended."""
+    """Returns the peak of a process's memory so far, in megabytes, or 0 if it has ended."""
     with open(f"/proc/{number}/status") as file:
         found = re.search(r"VmHWM:\s+(\d+)", file.read())
     return int(found.group(1)) / 1024 if found else 0
 
 
 def text(path, most):
-    """What a file holds; of a long one only what it ends with."""
+    """Returns what a file holds; of a long one only the end."""
     with open(path, "rb") as file:
         file.seek(max(0, os.path.getsize(path) - most))
         return file.read().decode("latin-1")

@@ -1,11 +1,11 @@
-"""Programs of a player with the programmer's flag, each a loop: what one turn of it takes, and what so many turns as
-100,000 ticks hold would take. A loop is run for a part of the ticks, beside a run of what comes before it alone."""
+"""Programs of a player with the programmer's flag, each a loop: what one turn of it takes, and what as many turns as
+100,000 ticks allow would take. A loop is run for a part of the ticks, next to a run of only what comes before it."""
 import os
 import program, world
 
 HEADS = ["Program", "Turns", "Milliseconds a turn", "Megabytes", "Turns in 100,000 ticks", "They would take, seconds", "They would hold, GB"]
 TICKS = 100_000
-# What the counting loop takes a turn beside its body, and what `while (1)` takes.
+# The ticks of a turn of the counting loop without its body, and of `while (1)`.
 COUNTING, PLAIN = 9, 2
 
 STRING = 's="x";while(length(s)<500000)s=s+s;endwhile s=s+s[1..(999990-length(s))];'
@@ -57,9 +57,9 @@ PROGRAMS = {
         ("a property of 1 MB each turn", STRING, 'add_property(player,tostr("p",c),s+"a",{player,"r"});', 2_000),
         ("a property that shares 1 MB each turn", STRING, 'add_property(player,tostr("p",c),s,{player,"r"});', 5_000),
         ("a call of a verb with 62,500 variables", VARIABLES + VERB + 'set_verb_code(player,"v",{t});', "player:v();", 1_000),
-        ("a property that isn't there, beside 50 with names of 1 MB", STRING + 'i=0;while(i<50)i=i+1;add_property(player,tostr(s[1..999980],100+i),0,{player,"r"});endwhile t=s[1..999980]+"zzz";',
+        ("a property that isn't there, among 50 with names of 1 MB", STRING + 'i=0;while(i<50)i=i+1;add_property(player,tostr(s[1..999980],100+i),0,{player,"r"});endwhile t=s[1..999980]+"zzz";',
          "`player.(t) ! ANY';", 50),
-        ("a call beside 100 verbs that share 1 MB of names", NAMES, "`player:zz() ! ANY';", 50),
+        ("a call among 100 verbs that share 1 MB of names", NAMES, "`player:zz() ! ANY';", 50),
         ("a verb renamed among 1,000 with abbreviations of 125 letters", ABBREVIATED, 'set_verb_info(player,1,{player,"rxd",s});', 200),
         ("a verb renamed among 1,000 with 42 names each that end in a star", OPEN, 'set_verb_info(player,1,{player,"rxd",s});', 200),
     ],
@@ -71,7 +71,7 @@ PROGRAMS = {
         ("`children` of 100,000", "", "children(#6);", 500),
         ("`add_property` above 100,000", "", 'add_property(#6,tostr("p",c),0,{player,"r"});', 100),
         ("`chparent` of 100,000, to and fro", "", "chparent(#6,#-1);chparent(#6,#1);", 200),
-        ("`create` beside 100,000", "", "create(#6);", 1_000),
+        ("`create` among 100,000", "", "create(#6);", 1_000),
     ],
     "chain of 1,000 parents with 1,000 properties": [
         ("the last property of the last one", "", "#1005.p999;", 2_000),
@@ -114,7 +114,7 @@ def typed(text):
 
 
 def measured(database, before, body, ticks):
-    """The turns that a loop made, what they took in seconds and megabytes, and the ticks of one; none where it went wrong."""
+    """Returns the turns that a loop made, what they took in seconds and megabytes, and the ticks of one. Returns none if it went wrong."""
     first = program.script(database, typed(before + "return {0,ticks_left()};"))
     loop = f"e=ticks_left()-{ticks};c=0;b=ticks_left();while(ticks_left()>e)c=c+1;{body}endwhile return {{c,b-ticks_left()}};"
     second = program.script(database, typed(before + loop))

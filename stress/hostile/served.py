@@ -4,7 +4,7 @@ import program, programs, world
 
 HEADS = ["What one client does", "Another waits, seconds of the server's processor", "Megabytes of the server", "Ended"]
 MOST_WAITING = 1 << 20
-# What a stranger is told for each line: 20,400 bytes.
+# What a stranger gets for each line: 20,400 bytes.
 SCREEN = 'i=0;while(i<200)i=i+1;notify(player,"' + "w" * 100 + '");endwhile\n'
 
 
@@ -36,7 +36,7 @@ def client(server, *lines):
 
 
 def heard(link, wanted, patience=600):
-    """The seconds until these bytes have come, and None where they don't."""
+    """Returns the seconds until these bytes have come, or None if they don't come."""
     begin, got = time.monotonic(), b""
     while wanted not in got[-200:]:
         left = patience - (time.monotonic() - begin)
@@ -50,8 +50,8 @@ def heard(link, wanted, patience=600):
 
 
 def waits(server, line):
-    """The processor's seconds that go by until the wizard has the answer to a sum, typed right behind this line of the
-    programmer's; the machine may be busy with other work."""
+    """Returns the server's processor seconds until the wizard has the answer to a sum, typed right after this line of the
+    programmer. The machine may be busy with other work."""
     hostile, other = client(server, "#4"), client(server, "#3")
     heard(hostile, b"*** Connected ***"), heard(other, b"*** Connected ***")
     begin = server.seconds()
@@ -91,7 +91,7 @@ def main(folder):
 
 
 def deaf(path, count=40):
-    """Strangers who type and never read: what waits for each is bounded, and others go on."""
+    """Plays strangers who type and never read: what waits for each is bounded, and others go on."""
     server = Server(path, "--most-waiting", str(MOST_WAITING))
     links = []
     for _ in range(count):

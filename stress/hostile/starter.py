@@ -1,24 +1,24 @@
-"""What a player without a flag can do in the starter world by one piece of bytes: each line that the world's own transcripts
-type, as often as the piece holds it, at the landing, in a room that is full of things, and there beside two hundred others."""
+"""What a player without a flag can do in the starter world by one piece of bytes. Each line that the world's own transcripts type is
+repeated, as often as the piece holds it: at the landing, in a room that is full of things, and there with two hundred others."""
 import glob, os
 from concurrent.futures import ThreadPoolExecutor
 import program
 
-HEADS = ["Where", "Line", "Times", "Seconds", "Megabytes of what is sent"]
+HEADS = ["Place", "Line", "Times", "Seconds", "Megabytes sent"]
 WORLD = os.path.join(program.TOP, "worlds", "starter.db")
 ANN = ["open 1", "line 1 connect Ann open-sesame"]
-# A name of 60 letters is as long as one may be.
+# A name of 60 letters, the longest that is allowed.
 LONG = "w" * 57
-# Twenty letters of which no two names are made that look alike.
+# Twenty letters of which no two look alike.
 LETTERS = "abcdefghijkmnopqstux"
-# The wizard's first password at moment 0; so many players may be made at once.
+# The wizard's first password at moment 0. The limits allow all players of a place to be made at once.
 WIZARD = ["open 0", "line 0 connect wizard sanotu-sorosi", "line 0 ;$login.most_in_minute = $login.most_in_day = 1000"]
 # Lines as short as they may be, and two that lead out of a room and in again.
 SHORT = ["l", "i", "l me", "l x", 'l "', "?", "who", "@who", "@audit", '"x', ":x", "x", "home", "post x", "wh x y", "page x y", "exam x", "@set x.y to z", "e\nw", "w\ne"]
 
 
 def typed():
-    """Each line that a transcript types, once, but for programs behind a semicolon."""
+    """Returns each line that a transcript types, once, without programs after a semicolon."""
     lines = set(SHORT)
     for path in glob.glob(os.path.join(program.TOP, "worlds/starter/tests/*.script")):
         with open(path) as file:
@@ -28,18 +28,18 @@ def typed():
 
 
 def settled(events):
-    """The starter world behind these events and a checkpoint."""
+    """Returns the starter world after these events and a checkpoint."""
     run = program.script(WORLD, "\n".join(WIZARD + events + ["line 0 @dump-database"] + ["flush"] * 30 + ["show"]) + "\n")
     return run.output[run.output.index("** LambdaMOO Database"):]
 
 
 def one_player():
-    """Ann, whose description is as long as a line may be, and nearly all blanks."""
+    """Returns the events that make Ann, with a description of nearly only blanks, as long as a line may be."""
     return ["open 1", "line 1 create Ann open-sesame", f"line 1 @set me.description to x{' ' * 7_900}y"]
 
 
 def furnished():
-    """Ann, and fifteen players who have each put twenty things down in the meadow."""
+    """Returns the events that make Ann, and fifteen players who each put twenty things down in the meadow."""
     events = one_player()
     for player in range(15):
         number, letter = 10 + player, LETTERS[player]
@@ -50,7 +50,7 @@ def furnished():
 
 
 def crowd(word, *lines):
-    """Two hundred players on connections of their own, who come by this word and type these lines."""
+    """Returns the events of two hundred players on connections of their own, who connect by this word and type these lines."""
     events = []
     for number in range(200):
         name = f"P{LETTERS[number // 20]}{LETTERS[number % 20]}"
@@ -59,12 +59,12 @@ def crowd(word, *lines):
     return events
 
 
-# Where Ann is: the events that make the world, and those that are played before the piece. At the last place the short lines are
-# tried, and the sixty that were dearest at the one before.
+# Each place of Ann: the events that make the world, and those that are played before the piece. At the last place the short lines
+# are tried, and the sixty that took longest at the one before.
 PLACES = {
     "at the landing, described by a letter, 7,900 blanks and a letter": (one_player(), ANN),
     "in a room with 300 things, put there by fifteen players": (furnished(), ANN + ["line 1 w"]),
-    "there, beside 200 other players": (furnished() + crowd("create", "w"), crowd("connect") + ANN + ["line 1 w"]),
+    "that room, with 200 other players": (furnished() + crowd("create", "w"), crowd("connect") + ANN + ["line 1 w"]),
 }
 
 
@@ -74,7 +74,7 @@ def piece(line):
 
 
 def tried(path, before, line):
-    """What so many of a line take beyond the program's start, and whether the server goes on."""
+    """Returns what this many of a line take besides the program's start, and whether the server goes on."""
     times, event = piece(line)
     run = program.script(path, "\n".join(before + [event, "open 9"]) + "\n", most=1 << 28)
     fits = run.status == 0 and "\n9: " in run.output
@@ -82,13 +82,13 @@ def tried(path, before, line):
 
 
 def least(path, before, line, pieces):
-    """The least seconds of three runs of these events and so many such pieces."""
+    """Returns the least seconds of three runs of these events and this many pieces."""
     events = before + [piece(line)[1]] * pieces + ["open 9"]
     return min(program.script(path, "\n".join(events) + "\n", most=1 << 28).seconds for _ in range(3))
 
 
 def alone(path, before, line):
-    """What one piece takes: a fourth of what four take beyond the events before them."""
+    """Returns what one piece takes: a fourth of what four take besides the events before them."""
     return (least(path, before, line, 4) - least(path, before, line, 0)) / 4
 
 

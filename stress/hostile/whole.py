@@ -1,4 +1,4 @@
-"""Hostile programs that run to their end: what each ends with, and that the server goes on."""
+"""Hostile programs that run to their end: how each ends, and whether the server goes on."""
 import os
 import program, programs, world
 
@@ -16,7 +16,7 @@ def coded(name, line):
     return f'add_verb(player,{{player,"rxd","{name}"}},{{"this","none","this"}});set_verb_code(player,"{name}",{{"{line}"}});'
 
 
-# A name, the number of who types it, what is typed behind `eval`, or a piece of bytes, and what has to stand in what is printed.
+# A name, the number of who types it, what is typed after `eval`, or a piece of bytes, and what has to be printed.
 PROGRAMS = [
     ("`while (1) endwhile`", 4, ["while(1)endwhile"], OUT),
     ("calls of itself, until no frame is left", 4, [coded("v", "return this:v();") + REPEAT], MAXREC),
@@ -41,7 +41,7 @@ PROGRAMS = [
      "set_verb_code(#0,\"checkpoint_started\",{\"for o in [#0..max_object()]recycle(o);endfor\"});dump_database();"], "*** Recycled ***"),
 ]
 
-# With 1 GB of address space: what asks for more ends the server, with status 4.
+# With 1 GB of address space: a program that asks for more ends the server, with status 4.
 WANTING = [
     ("`notify` of 1 MB without end", [STRING + "while(1)notify(player,s);endwhile"]),
     ("variables with 1 MB of their own each", [STRING + 'add_property(player,"p",s,{player,"r"});t="";i=0;while(i<2000)i=i+1;t=tostr(t,"v",i,"=player.p[2..$];");endwhile eval(t);']),
@@ -81,7 +81,7 @@ def main(folder):
         status = 5 if "refused" in wanted else 0
         fits = run.status == status and wanted in run.output
         by = "programmer" if who == 4 else "wizard"
-        rows.append((name, by, f"{max(run.seconds - empty.seconds, 0):.3g}", f"{run.megabytes:.0f}", f"as told, status {status}" if fits else f"WRONG: status {run.status}, {run.output[-150:]!r}"))
+        rows.append((name, by, f"{max(run.seconds - empty.seconds, 0):.3g}", f"{run.megabytes:.0f}", f"as expected, status {status}" if fits else f"WRONG: status {run.status}, {run.output[-150:]!r}"))
         is_well &= fits
     for name, lines in WANTING:
         events = typed(4, lines).replace("line 1 eval __checkpoint__", "moment 3600\nflush")
@@ -98,7 +98,7 @@ def main(folder):
         file.write(world.text(programs.things_of("room of 100,000 things")))
     for name, by, before, times in (
         ("`l x` in a room with 100,000 things", "player", ["#5"], 0),
-        ("`l x` once, beside 100 things with the same list of 499,990 aliases", "all who are there", ["#4", "eval " + ALIASES], 1),
+        ("`l x` once, among 100 things with the same list of 499,990 aliases", "all who are there", ["#4", "eval " + ALIASES], 1),
     ):
         cells, fits = repeated(path, name, by, before, "l x", times)
         rows.append(cells)
@@ -107,8 +107,8 @@ def main(folder):
 
 
 def repeated(database, name, by, before, line, times=0):
-    """One piece of the same line again and again, as often as it holds the line where no number is told, behind the lines
-    before it; another logs in behind it."""
+    """Plays a piece that repeats one line, as often as a piece holds it if no number is given. The lines before it come
+    first, and another player logs in after it."""
     begin = "open 1\n" + "".join(f"line 1 {each}\n" for each in before)
     times = times or program.PIECE // (len(line) + 1)
     piece = (line.encode() + bytes([10])) * times

@@ -10,8 +10,8 @@ PLAYER, PROGRAMMER, WIZARD, READ, FERTILE = 1, 2, 4, 16, 128
 
 
 class Thing:
-    """An object: its parent and its place, and what is on it. A verb is a tuple of its names, owner, permissions,
-    preposition and program; a property one of its name and the lines of its value."""
+    """An object: its parent, its place, its verbs and properties. A verb is a tuple of names, owner, permissions,
+    preposition and program; a property one of a name and the lines of a value."""
 
     def __init__(self, name, flags=READ, owner=3, parent=-1, location=-1):
         self.name, self.flags, self.owner, self.parent, self.location = name, flags, owner, parent, location
@@ -20,13 +20,13 @@ class Thing:
 
 def verb(names, program, owner, permissions="rxd", command=False):
     number = sum(1 << "rwxd".index(letter) for letter in permissions)
-    # A command takes any direct object behind any preposition; what programs call is `this none this`.
+    # A command takes any objects and any preposition; verbs that programs call are `this none this`.
     number += (16 + 64) if command else (32 + 128)
     return (names, owner, number, -2 if command else -1, program)
 
 
 def small():
-    """The smallest world: the system object, a root, a room, and who logs in."""
+    """Returns the smallest world: the system object, a root, a room, and those who log in."""
     system, root = Thing("System Object", READ, 3, 1), Thing("Root", READ | FERTILE, 3)
     room = Thing("Room", READ, 4, 1)
     wizard = Thing("Wizard", PLAYER | PROGRAMMER | WIZARD, 3, 1, 2)
@@ -39,7 +39,7 @@ def small():
 
 
 def text(things):
-    """The database of these objects, numbered as they stand."""
+    """Returns the database of these objects, numbered in their order."""
     children, contents = linked([t.parent for t in things]), linked([t.location for t in things])
     players = [n for n, t in enumerate(things) if t.flags & PLAYER]
     programs = [(o, v, each[4]) for o, t in enumerate(things) for v, each in enumerate(t.verbs) if each[4] is not None]
@@ -59,7 +59,7 @@ def text(things):
 
 
 def values(things, number):
-    """The lines of the property values of an object: its own, and a clear one for each that it inherits."""
+    """Returns the lines of the property values of an object: its own, and a clear one for each that it inherits."""
     lines, count, owner = [], 0, things[number].owner
     for _, value in things[number].properties:
         lines += [*value, owner, 7]
@@ -74,7 +74,7 @@ def values(things, number):
 
 
 def linked(aboves):
-    """For each object the first below it, and the next beside it."""
+    """Returns for each object its first child and its next sibling."""
     first, after, last = [-1] * len(aboves), [-1] * len(aboves), {}
     for number, above in enumerate(aboves):
         if above == -1:

@@ -1,5 +1,5 @@
-/* An allocator that refuses one allocation, the one whose number REFUSE tells, or that whose number REFUSE_FROM tells and all
-   behind it; it says so where there are fewer. */
+/* An allocator that refuses one allocation, of the number REFUSE, or that of the number REFUSE_FROM and all after it. It says so
+   if there are fewer. */
 #include <stdio.h>
 #include <stdlib.h>
 

@@ -1,4 +1,4 @@
-"""What the program is asked for while growths are refused: words, standard input, and faults of the disk that a script may meet."""
+"""What the program does while growths are refused: its words, its standard input, and the faults of the disk that a script may meet."""
 
 from pathlib import Path
 
@@ -80,7 +80,7 @@ line 1 ;return 7;
 
 
 def faults(calls):
-    """Each call of the disk that a script makes, failing."""
+    """Returns, for each call of the disk that a script makes, the script in which it fails."""
     return [f"fail {number}\n".encode() for number in range(1, calls + 1)]
 
 

@@ -1,6 +1,6 @@
 #!/usr/bin/env python3
-"""What one client's lines cost beside others that are silent: beside.py MOO SECONDS CLIENTS.., each a number of silent ones, rising; and in the
-end, when all of them have left."""
+"""What one client's lines cost next to others that are silent: beside.py MOO SECONDS CLIENTS.., each a number of silent ones, rising. The
+last figures are those after all of them have left."""
 import os, re, shutil, socket, subprocess, sys, tempfile, time
 
 moo, seconds = os.path.abspath(sys.argv[1]), float(sys.argv[2])

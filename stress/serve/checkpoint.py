@@ -1,9 +1,9 @@
 #!/usr/bin/env python3
-"""The system calls of one checkpoint of a server, by Debian's `strace`: checkpoint.py MOO [MEGABYTES]. It prints them, and stops where one is amiss.
+"""The system calls of one checkpoint of a server, by Debian's `strace`: checkpoint.py MOO [MEGABYTES]. It prints them, and stops at one that is wrong.
 
-They have to be, in this order: the old spare is unlinked; a new file is made with O_EXCL; writes of 65,536 bytes, the last one shorter; fsync;
-rename; the folder is opened and synced. Between two of these calls stands an epoll_wait, with which each round begins, so that a round has one
-call of the disk at most."""
+This is their order: the old spare is unlinked; a new file is made with O_EXCL; writes of 65,536 bytes, the last one shorter. Then fsync; rename;
+the folder is opened and synced. Between two of these calls is an epoll_wait, with which each round begins. So a round has one call of the disk at
+most."""
 import os, re, shutil, socket, subprocess, sys, tempfile, time
 
 moo = os.path.abspath(sys.argv[1])

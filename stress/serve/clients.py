@@ -1,9 +1,9 @@
 #!/usr/bin/env python3
-"""What a server does with clients that behave badly: clients.py MOO [MEGABYTES]. Each line that it prints was seen; it stops where one wasn't.
+"""What a server does with clients that behave badly: clients.py MOO [MEGABYTES]. It prints a line for each thing that it has seen, and stops at the first that it doesn't see.
 
-A number that is used again starts clean. 13 MB wait while nobody reads, and a connection that leaves is closed behind the last of them. A
-client sends so many megabytes (1,000) without a line's end. One that never reads is hung up where more wait than may. More clients come than
-there may be open files."""
+A number that is used again starts clean. 13 MB wait while nobody reads, and a connection that leaves is closed after the last of them. A
+client sends MEGABYTES (1,000) without a line's end. One that never reads is hung up once more bytes wait than are allowed. More clients come
+than open files are allowed."""
 import os, re, resource, shutil, socket, struct, subprocess, sys, tempfile, time
 
 moo = os.path.abspath(sys.argv[1])
@@ -41,7 +41,7 @@ def memory(name="VmRSS"):
 
 
 def rest(client):
-    """How many bytes come until the end, and the last of them."""
+    """Returns the number of bytes until the end, and the last of them."""
     count, last = 0, b""
     while data := client.recv(65536):
         count, last = count + len(data), (last + data)[-100:]
@@ -50,7 +50,7 @@ def rest(client):
 
 start()
 for turn in range(100):
-    # The first one leaves behind half a line, and output that it hasn't read; its socket is reset.
+    # The first client has sent half a line, and hasn't read its output, when its socket is reset.
     first = connect(3)
     first.sendall(LONG + b"\r\nhalf a li")
     time.sleep(0.02)
@@ -60,7 +60,7 @@ for turn in range(100):
     second.sendall(b"look\r\n")
     assert second.recv(4096) == b"I couldn't understand that.\r\n"
     second.close()
-print("100 times one leaves half a line and output unread: the next one sees its greeting and its answers alone")
+print("100 times one leaves half a line and output unread: the next one sees only its own greeting and answers")
 
 client = connect(3)
 other = connect(4)
@@ -71,7 +71,7 @@ assert other.recv(4096) == b"I couldn't understand that.\r\n"
 print(f"13 MB wait for one that leaves and doesn't read: another is answered meanwhile; {memory():.1f} MiB resident")
 count, last = rest(client)
 assert count == 200 * 65_538 + len("*** Disconnected ***\r\n") and last.endswith(b"x\r\n*** Disconnected ***\r\n"), (count, last)
-print(f"then it reads: {count} bytes, the last of them the line that tells that it is disconnected, and then the end")
+print(f"then it reads: {count} bytes, the last of them the line that says that it is disconnected, and then the end")
 
 before = memory()
 hog = connect(5)
@@ -103,7 +103,7 @@ def used():
 
 
 def are_served(clients):
-    """Those who are greeted within a second."""
+    """Returns those who are greeted within a second."""
     time.sleep(1)
     served = []
     for client in clients:

@@ -1,5 +1,5 @@
 #!/usr/bin/env python3
-"""Sets the clock of a server forward and back while it runs, by Debian's `faketime`: clock.py MOO. It prints what the world takes for the time."""
+"""Sets the clock of a server forward and back while it runs, by Debian's `faketime`: clock.py MOO. It prints the time that the world has."""
 import os, re, shutil, socket, subprocess, sys, tempfile, time
 
 moo = os.path.abspath(sys.argv[1])
@@ -30,7 +30,7 @@ for clock, want in [(START, START), (START + 50, START + 50), (START - 10_000, S
     time.sleep(2.5)
     client.sendall(b";return time();\r\n")
     told = int(re.fullmatch(rb"\{1, (\d+)\}\r\n", client.recv(4096))[1])
-    print(f"the clock stands at {clock - START:+}, the world at {told - START:+}")
+    print(f"the clock is at {clock - START:+}, the world at {told - START:+}")
     assert told == want, (told, want)
 server.kill()
 server.wait()

@@ -1,6 +1,6 @@
-/* Stand-ins for clients, where the system doesn't let a process have so many open files: once there is a file `crowd` in the working
-   folder, and none else waits to be accepted, so many as CROWD tells are accepted that never say anything and take all that is sent.
-   Behind the last of them there is a file `full`. */
+/* Stand-ins for clients, if the system doesn't let a process have so many open files. Once there is a file `crowd` in the working
+   folder, and no other client waits to be accepted, CROWD of them are accepted; they never send anything and take all that is sent.
+   After the last of them there is a file `full`. */
 #define _GNU_SOURCE
 #include <dlfcn.h>
 #include <errno.h>

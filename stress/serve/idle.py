@@ -1,5 +1,5 @@
 #!/usr/bin/env python3
-"""The part of a processor that a server takes while so many clients are connected and silent: idle.py PORT CLIENTS SECONDS PROCESS [LOGIN].
+"""The part of a processor that a server takes while CLIENTS clients are connected and silent: idle.py PORT CLIENTS SECONDS PROCESS [LOGIN].
 
 With LOGIN, the number of the first client's player over a database of world.py, each of them types that first."""
 import os, socket, sys, time

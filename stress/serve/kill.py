@@ -1,8 +1,8 @@
 #!/usr/bin/env python3
 """Kills a server at random moments while a client types and checkpoints run, and starts it again: kill.py MOO [TIMES [SEED [MEGABYTES]]].
 
-Each start has to read the world, and has to find in it what stood at the mark of the last checkpoint reported done, or at the mark of the one
-that had begun since. The marks and the reports are read in the server's log: the world says the name of #2 there as a checkpoint begins, and
+Each start must read the world as it was at the mark of the last checkpoint reported done, or at the mark of the one that had
+begun since. The marks and the reports are read in the server's log: the world writes the name of #2 there as a checkpoint begins, and
 the client counts it up."""
 import os, random, re, shutil, socket, subprocess, sys, tempfile, threading
 

@@ -2,7 +2,7 @@
 """Drives a server with many connections: lines a second, the time of an answer, the server's processor time for a line.
 
 usage: load.py PORT CLIENTS SECONDS BYTES WINDOW PROCESS [LOGIN]
-Each client keeps WINDOW lines of so many bytes on their way, and sends the next as an answer comes. PROCESS is the server's number. With
+Each client keeps WINDOW lines of BYTES bytes on their way, and sends the next as an answer comes. PROCESS is the server's number. With
 LOGIN, the number of the first client's player (4 over a database of world.py), each types its player's number first; without it the server is
 an echo."""
 import os, selectors, socket, sys, time

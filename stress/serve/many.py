@@ -1,9 +1,9 @@
 #!/usr/bin/env python3
-"""Opens as many connections as there are numbers, and one more: many.py MOO [CLIENTS]. Each line that it prints was seen.
+"""Opens as many connections as there are numbers, and one more: many.py MOO [CLIENTS]. It prints a line for each thing that it has seen.
 
-So many clients (65,536) come from addresses 127.0.0.2 and on, each greeted before the next hundred come. Twenty are players, the others say
-nothing. Where a process may not have so many open files, fewer are told, and the others are stand-ins in the server's own process (crowd.c),
-which takes a C compiler. The rounds over so many connections take some minutes."""
+CLIENTS clients (65,536) come from addresses 127.0.0.2 and on, each greeted before the next hundred come. Twenty are players, the others say
+nothing. If a process may not have so many open files, there are fewer, and the others are stand-ins in the server's own process (crowd.c),
+which needs a C compiler. The rounds over so many connections take some minutes."""
 import os, re, resource, shutil, socket, subprocess, sys, tempfile, time
 
 NUMBERS = 65_536
@@ -13,7 +13,7 @@ here = os.path.dirname(os.path.abspath(__file__))
 folder = tempfile.mkdtemp(prefix="many-")
 os.chdir(folder)
 world = subprocess.run([sys.executable, os.path.join(here, "world.py"), "30"], stdout=subprocess.PIPE, check=True).stdout
-# Who comes is told a number.
+# Whoever connects gets a number.
 login = b"return args ?"
 assert world.count(login) == 1
 open("world.db", "wb").write(world.replace(login, b'args || notify(player, "you are " + tostr(player)); ' + login))
@@ -44,7 +44,7 @@ def connect(number):
 
 
 def answers():
-    """The time in which the players have an answer, one after another, and what of the processor it takes."""
+    """Returns the time in which the players have an answer, one after another, and the processor time that it takes."""
     begun, before = time.perf_counter(), used()
     for player in players:
         player.sendall(b"look\r\n")
@@ -94,7 +94,7 @@ answers()
 clients.pop().close()
 time.sleep(1)
 again = connect(most)
-print(f"one leaves, and the next is told {again.recv(4096)!r}")
+print(f"one leaves, and the next gets {again.recv(4096)!r}")
 before = used()
 time.sleep(20)
 print(f"nobody types for 20 s: {(used() - before) / 20 * 100:.2f} % of a processor")

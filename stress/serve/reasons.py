@@ -1,5 +1,5 @@
 #!/usr/bin/env python3
-"""What each command tells where a file, a stream or a port fails, or a database is refused: reasons.py MOO. It stops where a line isn't so."""
+"""What each command reports if a file, a stream or a port fails, or a database is refused: reasons.py MOO. It stops at the first line that differs."""
 import os, re, resource, shutil, socket, subprocess, sys, tempfile
 
 moo = os.path.abspath(sys.argv[1])
@@ -10,7 +10,7 @@ world = subprocess.run([sys.executable, os.path.join(here, "world.py"), "1"], st
 open("world.db", "wb").write(world)
 open("cut.db", "wb").write(world[:len(world) // 2])
 os.mkdir("folder.db")
-# The name of a spare beside it is too long.
+# The name of its spare is too long.
 long = "l" * 250 + ".db"
 open(long, "wb").write(world)
 taken = socket.socket()
@@ -23,7 +23,7 @@ FOLDER = "Is a directory (os error 21)"
 FULL = "No space left on device (os error 28)"
 CLOSED = "Bad file descriptor (os error 9)"
 DEVICE, CUT = "refused: Device\n", f"line {world[:len(world) // 2].count(10) + 1}: Truncated\n"
-# The words, standard input, standard output where it isn't a pipe (each a file's name, or closed), what is printed, the lines of the log,
+# The words, standard input, standard output if it isn't a pipe (each a file's name, or closed), what is printed, the lines of the log,
 # the status.
 ROWS = [
     *[([name, "nowhere.db"], None, None, DEVICE, [f"nowhere.db: {NONE}"], 3) for name in ("check", "copy", "script")],

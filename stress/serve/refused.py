@@ -1,9 +1,9 @@
 #!/usr/bin/env python3
 """Refuses growths of a server in turn, one in each session: refused.py MOO [SESSIONS]. It needs a C compiler and the C library of GNU.
 
-A session reads a world, changes it, saves it, changes it again and shuts down. With one allocation refused it has to go as with ample memory,
-or to end with status 4 and `refused: Memory`; and the file has to read, as the world that was there, the one that was saved, or the last one.
-So many sessions are tried (400), with numbers spread over all allocations of one."""
+A session reads a world, changes it, saves it, changes it again and shuts down. With one allocation refused it must go as with ample memory, or
+end with status 4 and `refused: Memory`. The file must then have the world that was there, the one that was saved, or the last one. SESSIONS
+sessions are tried (400), with numbers spread over all allocations of one."""
 import collections, os, re, shutil, socket, subprocess, sys, tempfile
 
 moo = os.path.abspath(sys.argv[1])
@@ -19,7 +19,7 @@ LINES = [b"3", b';#2.name = "1"; dump_database();', b"look", b'.program #3:eval'
 
 
 def session(number):
-    """The lines that are told, the exit status, what is told on standard output, and the name of #2 in the file."""
+    """Returns the lines that the client gets, the exit status, what is printed, and the name of #2 in the file."""
     for name in ("world.db", "world.db.new"):
         if os.path.exists(name):
             os.remove(name)

@@ -1,9 +1,8 @@
 #!/usr/bin/env python3
 """Writes a database to be served: world.py [PLAYERS [MEGABYTES]].
 
-Whoever types a number first is connected as that player: 3 is the wizard, whose lines behind a semicolon are run; 4 and on, so many, are
-players to whom each line is answered by one line. An object holds so many megabytes of strings. The name of #2 goes to the log as a
-checkpoint begins."""
+Whoever types a number first is connected as that player. 3 is the wizard, whose lines after a semicolon are run. PLAYERS players, from 4 on, get
+one line as the answer to each line. An object holds MEGABYTES megabytes of strings. The name of #2 goes to the log as a checkpoint begins."""
 import sys
 
 players = int(sys.argv[1]) if len(sys.argv) > 1 else 10

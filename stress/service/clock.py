@@ -1,7 +1,7 @@
 #!/usr/bin/env python3
 """A clock that goes back: clock.py MOO. It needs faketime, or root for a clock of its own; without both it says so.
 
-The log says once that timed checkpoints stand still. One that is asked for is done all the same."""
+The log says once that no checkpoint comes by time. One that is asked for is done all the same."""
 from service import *
 
 moo = program()

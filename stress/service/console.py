@@ -32,7 +32,7 @@ class Launched:
 
 
 def has_work(server, text):
-    """A player does something that no checkpoint has yet."""
+    """Lets a player do something that no checkpoint has yet."""
     player = wizard(server.port)
     player.say(f"@describe me as {text}")
     player.say(';"so" + "far"')

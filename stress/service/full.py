@@ -2,8 +2,8 @@
 """A full disk at a shutdown: full.py MOO. It needs root, for a small file system in memory.
 
 The wizard's `@shutdown` is refused after three tries, and the world goes on. `@shutdown!` ends it. Without the option --must-save the status is
-then 0, and the log says what isn't saved. With it the status is 3, and the output's last line says why. The database stays what the last
-checkpoint that is done left."""
+then 0, and the log says what isn't saved. With it the status is 3, and the output's last line says why. The database stays as the last
+checkpoint that was done left it."""
 from service import *
 
 moo = program()
@@ -11,7 +11,7 @@ checks = Checks()
 
 
 def fill(folder):
-    """Fills the file system but for a few bytes."""
+    """Fills the file system except for a few bytes."""
     with open(os.path.join(folder, "hog"), "wb", buffering=0) as hog:
         try:
             while hog.write(b"x" * 4096):
@@ -21,7 +21,7 @@ def fill(folder):
 
 
 def shut_down(folder, *options):
-    """A server on a file system that fills up before the shutdown; its status and its output's last line."""
+    """Runs a server on a file system that fills up before the shutdown. Returns its status and the last line of its output."""
     server = Server(moo, *options, folder=folder)
     player = wizard(server.port)
     player.say("@describe me as LOST WORK")

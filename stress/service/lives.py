@@ -27,7 +27,7 @@ for life in range(lives):
         wrong.append((life, "no start", open(log_path, encoding="latin-1").read()))
         break
     player = wizard(int(found[1]))
-    # What the life before left is what this one begins with.
+    # This life begins with what the one before left.
     saved = kept
     for _ in range(random.randrange(1, 12)):
         number += 1

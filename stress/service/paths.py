@@ -9,7 +9,7 @@ NOBODY = 65534
 
 
 def starts(name, path, wanted, **how):
-    """A server starts, and its log has the warning."""
+    """Checks that a server starts, and that its log has the warning."""
     server = Server(moo, path=path, **how)
     checks.check(f"{name}: it starts", server.port is not None, server.log())
     checks.check(f"{name}: {wanted or 'no warning'}", wanted in server.log() and (wanted or "WARN" not in server.log()), server.log())
@@ -18,7 +18,7 @@ def starts(name, path, wanted, **how):
 
 
 def refused(name, path, wanted, *options, **how):
-    """A server is refused with status 3, and its log has the reason."""
+    """Checks that a server is refused with status 3, and that its log has the reason."""
     server = Server(moo, *options, path=path, **how)
     status = server.status(10)
     checks.check(f"{name}: it is refused with status 3", status == 3, (status, server.line))

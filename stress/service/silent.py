@@ -61,7 +61,7 @@ player = wizard(server.port)
 crowd = [Client(server.port) for _ in range(1100)]
 newcomer = wizard(server.port)
 newcomer.say(';"new" + "comer"')
-checks.check("a newcomer logs in beside 1,100 strangers", newcomer.waits_for("newcomer"))
+checks.check("a newcomer logs in next to 1,100 strangers", newcomer.waits_for("newcomer"))
 lines = server.log().count("is hung up")
 checks.check("the log has few lines of hang-ups", lines < 60, lines)
 newcomer.say("@shutdown")

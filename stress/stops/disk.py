@@ -1,4 +1,4 @@
-"""A disk with two names: what its calls do, where one fails, and what a crash may leave (docs/reference/script.md, docs/design/server.md)."""
+"""A disk with two names: what its calls do, which one fails, and what a crash may leave (docs/reference/script.md, docs/design/server.md)."""
 
 
 class Disk:
@@ -12,12 +12,12 @@ class Disk:
         self.has_effect = False
 
     def fail(self, number, has_effect):
-        """The call of this number from now on fails, with or without its effect."""
+        """Lets the call of this number from now on fail, with or without its effect."""
         self.calls_left = number
         self.has_effect = has_effect
 
     def call(self, name, piece=""):
-        """Makes a call, and answers whether it was done."""
+        """Makes a call, and returns whether it was done."""
         is_due = self.calls_left == 1
         self.calls_left = max(self.calls_left - 1, 0)
         if not is_due or self.has_effect:

@@ -1,4 +1,4 @@
-"""Two checkpoints: each call of the disk fails, and stops stand behind each event."""
+"""Two checkpoints: each call of the disk fails, with stops after each event."""
 
 from play import Counts
 from stops import calls, ended, faults
@@ -51,6 +51,6 @@ def play(what, scripts):
     counts.tell(what)
 
 
-play("two checkpoints, stops behind each event", without_fault())
-play("each call fails, said first or behind each event, and stops behind the last one", with_a_fault())
-play("each call fails, and stops behind each event", with_a_fault_and_a_stop())
+play("two checkpoints, stops after each event", without_fault())
+play("each call fails, planned first or after each event, and stops after the last one", with_a_fault())
+play("each call fails, and stops after each event", with_a_fault_and_a_stop())

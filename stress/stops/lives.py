@@ -1,4 +1,4 @@
-"""Lists of three lives, each ended by its server alone or by a crash with each text that it may leave, behind each of its events."""
+"""Lists of three lives, each ended by its server alone or by a crash with each text that it may leave, after each of its events."""
 
 from play import Counts
 from stops import LOOK, stops
@@ -19,17 +19,17 @@ def life(name):
 
 
 def beginnings(events):
-    """Each beginning of the events, from none of them to all."""
+    """Returns each beginning of the events, from none of them to all."""
     return [events[:place] for place in range(len(events) + 1)]
 
 
 def failing(events):
-    """All events, with a call that fails at the rename or at the sync of the names, without and with its effect."""
+    """Returns all events, with a call that fails at the rename or at the sync of the names, without and with its effect."""
     return [[f"fail {call}"] + events for call in ("4", "4 done", "5", "5 done")] + [events[:7], events]
 
 
 def lists(lived, names, kinds):
-    """The lines of all lists of lives by these names behind the lines."""
+    """Yields the lines of all lists of lives by these names, after the given lines."""
     if not names:
         yield lived
         return
@@ -44,5 +44,5 @@ def play(what, scripts):
     counts.tell(what)
 
 
-play("all lists of three lives, a stop behind each event", lists([], "ABC", beginnings))
-play("all lists of three lives, a fault at the rename or behind it, or none", lists([], "ABC", failing))
+play("all lists of three lives, a stop after each event", lists([], "ABC", beginnings))
+play("all lists of three lives, a fault at the rename or after it, or none", lists([], "ABC", failing))

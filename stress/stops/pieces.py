@@ -11,13 +11,13 @@ SIZES = [PIECE - 1, PIECE, PIECE + 1, 2 * PIECE, 2 * PIECE + 1]
 
 
 def checkpoint(size, turns):
-    """A checkpoint with a text of so many bytes and so many turns."""
+    """Returns a checkpoint with a text of this many bytes, and this many turns."""
     long = f's = "a"; for i in [1..17] s = s + s; endfor #1.name = s[1..{size - BARE}]; dump_database();'
     return ["open 1", "line 1 ;" + long] + ["flush"] * turns
 
 
 def turns(size):
-    """The turn in which the report stands: the fifth for a text of one piece."""
+    """Returns the turn of the report: the fifth for a text of one piece."""
     return 4 + -(-size // PIECE)
 
 

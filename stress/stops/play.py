@@ -1,4 +1,4 @@
-"""A script of events, played by the program and by the book beside it."""
+"""A script of events, played by the program and by the model."""
 
 import os
 import subprocess
@@ -12,7 +12,7 @@ PROGRAM = os.environ["MOO"]
 QUESTION = "line 1 ;return {#1.name, #2.name, #0.marks, #0.gone};"
 
 
-class Book:
+class Model:
     """What a script prints, logs and ends with, and from which worlds its lives begin."""
 
     def __init__(self, lines):
@@ -52,7 +52,7 @@ class Book:
         self.server.printed, self.server.logged = [], []
 
     def crash(self, number):
-        """The disk is left as one of the texts. Of this life alone, where it began behind a crash or is the first."""
+        """Leaves the disk as one of the texts: of this life alone, if it began after a crash or is the first."""
         if number >= len(self.disk.images):
             self.refuse("refused: NoSuchImage", 5)
             return
@@ -60,7 +60,7 @@ class Book:
         self.begin([])
 
     def begin(self, kept_before):
-        """A life begins from a world that the one before keeps, and never from another."""
+        """Begins a life, from a world that the one before keeps and no other."""
         for _ in range(pieces(len(self.disk.main)) + 1):
             if not self.disk.call("read_main"):
                 self.refuse("refused: Device", 3)
@@ -95,24 +95,24 @@ class Counts:
     def play(self, scripts):
         """Plays scripts both ways, and ends the program at the first one in which they differ."""
         with ThreadPoolExecutor(4) as pool:
-            for book in pool.map(compared, scripts):
-                self.ended[book.status] += 1
-                for kind, number in book.begun.items():
+            for model in pool.map(compared, scripts):
+                self.ended[model.status] += 1
+                for kind, number in model.begun.items():
                     self.begun[kind] = self.begun.get(kind, 0) + number
 
     def tell(self, what):
         begun = ", ".join(f"{number} from {kind}" for kind, number in self.begun.items())
-        ended = f"{self.ended[3]} refused by the device, {self.ended[5]} for want of an image"
+        ended = f"{self.ended[3]} refused by the device, {self.ended[5]} since there is no such image"
         print(f"{what}: {sum(self.ended.values())} scripts, {ended}; lives began: {begun}", flush=True)
 
 
 def compared(lines):
-    """The book of a script, where the program prints, logs and ends as it says."""
-    book = Book(lines)
+    """Returns the model of a script, if the program prints, logs and ends as the model says."""
+    model = Model(lines)
     script = "".join(line + "\n" for line in lines)
     run = subprocess.run([PROGRAM, "script", str(SMALL)], input=script.encode(), capture_output=True)
-    wanted = ("".join(line + "\n" for line in book.printed), "".join(line + "\n" for line in book.logged), book.status)
+    wanted = ("".join(line + "\n" for line in model.printed), "".join(line + "\n" for line in model.logged), model.status)
     given = (run.stdout.decode(), run.stderr.decode(), run.returncode)
     if given != wanted:
         raise SystemExit(f"they differ\nscript:\n{script}\nwanted: {wanted}\ngiven: {given}")
-    return book
+    return model

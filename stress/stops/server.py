@@ -1,4 +1,4 @@
-"""A server of the small world in a book of its own: what its events do, which worlds it marks, and what it reports of them."""
+"""A model of a server of the small world: what its events do, which worlds it marks, and what it reports of them."""
 
 import re
 
@@ -9,7 +9,7 @@ RENAMES = re.compile(r'#([12])\.name = (?:"(\w+)"|s\[1\.\.(\d+)\]);')
 
 
 def pieces(size):
-    """How many pieces so many bytes have."""
+    """Returns the number of pieces of this many bytes."""
     return -(-size // PIECE)
 
 
@@ -23,14 +23,14 @@ class Life:
         self.done = 0
 
     def kept(self):
-        """The worlds that it keeps: from the mark of its last report done on; else those kept before it too, and its beginning."""
+        """Returns the worlds that it keeps: from the mark of its last report done on; else those kept before it too, and its beginning."""
         if self.done:
             return self.marks[self.done - 1 :]
         return self.kept_before + [self.begin] + self.marks
 
 
 class Server:
-    """The world as it lives, and the checkpoint that is open. A start has told the saved players as disconnected."""
+    """The world as it lives, and the checkpoint that is open. A start reports the saved players as disconnected."""
 
     def __init__(self, disk, saved, life):
         self.disk = disk
@@ -44,7 +44,7 @@ class Server:
         self.logged = []
 
     def take(self, line):
-        """Does what an event says, and marks the world where a checkpoint is asked for and none is open."""
+        """Does what an event says, and marks the world if a checkpoint is asked for and none is open."""
         word, _, rest = line.partition(" ")
         getattr(self, "take_" + word)(rest)
         if self.is_asked and not self.calls:
@@ -59,14 +59,14 @@ class Server:
         self.world.gone += 1
 
     def take_line(self, rest):
-        """What is typed behind a semicolon: names of #1 and #2, a checkpoint asked for, or the question for all that changes."""
+        """Runs what is typed after a semicolon: names of #1 and #2, a request for a checkpoint, or the question for all that changes."""
         for number, name, length in RENAMES.findall(rest):
             setattr(self.world, {"1": "root", "2": "room"}[number], name or "a" * int(length))
         self.is_asked = self.is_asked or "dump_database()" in rest
         self.printed.append("1: " + (self.world.told() if "return" in rest else "{1, 0}"))
 
     def mark(self):
-        """The hook counts the mark, and the world as it then is becomes the checkpoint's text."""
+        """Counts the mark by the hook; the world as it is then becomes the checkpoint's text."""
         self.world.marks += 1
         self.is_asked = False
         self.life.marks.append(self.world.copy())
@@ -75,7 +75,7 @@ class Server:
         self.calls = [("create_spare", "")] + appends + [("sync_spare", ""), ("rename", ""), ("sync_names", "")]
 
     def take_flush(self, _):
-        """One call of an open checkpoint; a report stands behind the last one, and behind one that fails."""
+        """Makes one call of an open checkpoint. A report comes after the last one, and after one that fails."""
         if not self.calls:
             return
         is_done = self.disk.call(*self.calls.pop(0))

@@ -1,23 +1,23 @@
-"""What may stand behind a list of events: a server's own end, and a crash that leaves each of the texts that it may leave."""
+"""The ends of a list of events: the server's own end, and a crash that leaves each of the texts that it may leave."""
 
-from play import QUESTION, Book
+from play import QUESTION, Model
 
-# What follows a stop: the main text, and the world that was read from it, behind what its start did.
+# What follows a stop: the main text, and the world that was read from it, after its start.
 LOOK = ["show", "open 1", QUESTION]
 
 
 def images(lines):
-    """The numbers of the texts that a crash may leave behind these lines."""
-    return range(len(Book(lines).disk.images))
+    """Returns the numbers of the texts that a crash may leave after these lines."""
+    return range(len(Model(lines).disk.images))
 
 
 def stops(lines):
-    """The lists of lines that end a life: by the server alone, and by a crash with each text."""
+    """Returns the lists of lines that end a life: by the server alone, and by a crash with each text."""
     return ["reopen"] + [f"crash {number}" for number in images(lines)]
 
 
 def ended(lines):
-    """The scripts in which one or two stops stand behind the lines, and those which ask for a text that there isn't."""
+    """Returns the scripts with one or two stops after the lines, and those that ask for a text that there isn't."""
     for stop in stops(lines) + [f"crash {len(images(lines))}"]:
         yield lines + [stop] + LOOK
     for number in range(len(images(lines)) + 1):
@@ -25,10 +25,10 @@ def ended(lines):
 
 
 def calls(lines):
-    """How many calls of the disk the lines and a start behind them make."""
-    return 1000 - Book(["fail 1000"] + lines + ["reopen"]).disk.calls_left
+    """Returns how many calls of the disk the lines and a start after them make."""
+    return 1000 - Model(["fail 1000"] + lines + ["reopen"]).disk.calls_left
 
 
 def faults(number):
-    """A call that fails, without and with its effect."""
+    """Returns the lines of a call that fails, without and with its effect."""
     return [f"fail {number}", f"fail {number} done"]

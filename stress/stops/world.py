@@ -16,7 +16,7 @@ class World:
         self.connected = connected
 
     def text(self):
-        """The database text of the world."""
+        """Returns the database text of the world."""
         front, rest = FIRST.split("marks\ngone\n2\n0\n0\n3\n5\n0\n0\n3\n5\n#1\nRoot Class\n")
         middle, end = rest.split("#2\nThe First Room\n")
         programs, _ = end.split("0 active connections with listeners\n")
@@ -28,7 +28,7 @@ class World:
         )
 
     def told(self):
-        """What the world's question answers."""
+        """Returns what the world answers to the question."""
         return f'{{1, {{"{self.root}", "{self.room}", {self.marks}, {self.gone}}}}}'
 
     def copy(self):

@@ -16,8 +16,8 @@ def play_expression(program, row):
 
 
 def play_command_line(program, row):
-    """Runs a command line in a folder that has the databases. TAKEN stands for a port that is in use, PORT for one that the system gave. A last
-    word `2>..` says where standard error goes, as in the shell."""
+    """Runs a command line in a folder that has the databases. TAKEN is replaced by a port that is in use, PORT by one that the system gave. A last
+    word `2>..` leads standard error elsewhere, as in the shell."""
     if not isinstance(row, Transcript) or not row.lines[0].startswith("> moo"):
         raise Broken("a command line begins with `> moo`")
     words = row.lines[0].split()[2:]

@@ -6,19 +6,19 @@ from outcome import Skipped
 from serving import Server, Unlike, sees, starting
 
 SILENT = 4000
-# The fewest clients that show it, where a process may have few open files.
+# The fewest clients that show it, if a process may have few open files.
 FEWEST = 900
 LINES = 500
 # How many times the processor time of a line of one client alone. It is rough on a busy machine; a walk over all clients takes some 30 times.
 MOST = 4
-# A stranger who says nothing is nobody. Whoever says something is the wizard.
+# A stranger who types nothing isn't logged in. Whoever types something is the wizard.
 BEGINS, WORLD_LINE = "return #3;", "return args ? #3 | #-1;"
 LOOKED = b"I couldn't understand that.\r\n"
 GREETING = b"*** Connected ***\r\n"
 
 
 def crowd_size():
-    """Makes room for so many clients, and returns how many there may be, or skips the case."""
+    """Raises the limit of open files for this many clients, and returns how many there may be, or skips the case."""
     soft, hard = resource.getrlimit(resource.RLIMIT_NOFILE)
     if hard == resource.RLIM_INFINITY:
         hard = SILENT + 200

@@ -39,7 +39,7 @@ def counts_of(text):
 
 
 def play_text(program, row, text, copy):
-    """Checks and copies a text: both print the fault that the row wants, or `copy` is what its copy is."""
+    """Checks and copies a text: both print the fault that the row wants, or the copy is `copy`."""
     with Database(program, text) as file:
         got = [file.run("check"), file.run("copy")]
     if row.status:

@@ -22,7 +22,7 @@ PAGES = [TOP / "README.md", *sorted((TOP / "docs/manual").glob("*.md"))]
 # Comments, and blocks of lines that are indented, with the empty lines between them.
 PART = re.compile(r"<!--(?P<comment>.*?)-->|(?P<block>(?:^ {4}[^\n]*\n(?:[ ]*\n(?= {4}))*)+)", re.DOTALL | re.MULTILINE)
 
-# A connection on which nobody is: what it is answered parts the answers to two lines of the session.
+# A connection on which nobody is logged in. Its answers separate the answers to two lines of the session.
 MARK = 60000
 
 
@@ -101,7 +101,7 @@ def play_steps(program, steps):
 
 
 def is_like(wanted, got):
-    """Is true if the lines are those that are wanted, where `..` is any text, or any number of lines."""
+    """Is true if the lines are those that are wanted. `..` is any text, or any number of lines."""
     form = "".join(r"(?:.*\n)*?" if line == ".." else r".*?".join(map(re.escape, line.split(".."))) + r"\n" for line in wanted)
     return re.fullmatch(form, "".join(line.rstrip() + "\n" for line in got)) is not None
 

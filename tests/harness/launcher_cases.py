@@ -55,7 +55,7 @@ class Folder:
         path.chmod(0o755 if is_program else 0o644)
 
     def set_kit(self, commands):
-        """Makes the command rt do this."""
+        """Makes a command `rt` that does this."""
         (self.kit / "rt").write_text(f"#!/bin/sh\n{commands}\n")
         (self.kit / "rt").chmod(stat.S_IRWXU)
 

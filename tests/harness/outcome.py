@@ -67,7 +67,7 @@ class Program:
 
 
 def shown(line):
-    """Returns a line as it is shown: without bytes that a terminal obeys, and cut where it is long."""
+    """Returns a line as it is shown: without bytes that control a terminal, and cut if it is long."""
     text = "".join(letter if letter.isprintable() else letter.encode("unicode_escape").decode() for letter in line)
     return text if len(text) <= LONGEST_LINE else f"{text[:LONGEST_LINE]} .. ({len(text)} characters)"
 

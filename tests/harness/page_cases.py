@@ -1,4 +1,4 @@
-"""The page for browsers is in the crate that holds it as `web/build` writes it."""
+"""The page for browsers: its crate has it as `web/build` writes it."""
 
 import subprocess
 import sys

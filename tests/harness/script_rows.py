@@ -20,7 +20,7 @@ def part(lines):
 
 
 def parts_of(lines):
-    """Returns the script up to each of its lines, with what is printed up to there; only the whole where all is printed at its end."""
+    """Returns the script up to each of its lines, with what is printed up to there. If all is printed at its end, only the whole."""
     typed = [at for at, line in enumerate(lines) if line.startswith("> ")]
     ends = typed[1:] if any(not line.startswith("> ") for line in lines[: typed[-1]]) else []
     return [part(lines[:end]) for end in (*ends, len(lines))]
@@ -40,6 +40,6 @@ def play_transcript(program, row, database):
 
 
 def is_reached(program, database, script):
-    """Is true where the lines before the last one do not end the script."""
+    """Is true if the lines before the last one do not end the script."""
     before = script[: script.rstrip(b"\n").rfind(b"\n") + 1]
     return not before or program.output(["script", database], before).status == 0

@@ -18,22 +18,22 @@ GREETING = b"*** Connected ***\r\n"
 LOOKED = b"I couldn't understand that.\r\n"
 LAST = b"*** Shutting down ***\r\n"
 
-# What the clock says, one value after another, and the time of the world then.
+# The times of the clock, one after another, and the time of the world at each.
 CLOCKS = [(2_000_000_000, 2_000_000_000), (1_500_000_000, 2_000_000_000), (2_000_000_005, 2_000_000_005)]
 
 # Sends 200 lines of 65,536 letters to the one who types it, and writes to the log.
 BIG = b';s = "x"; for i in [1..16] s = s + s; endfor for i in [1..200] notify(player, s); endfor server_log("told");'
 
-# What lets fewer bytes wait than so many such lines: an option, or the 16,777,216 that may wait if none is given.
+# The limits that such lines pass: an option, or the 16,777,216 bytes that may wait if none is given.
 FEWER = [(["--most-waiting", "1000000"], 200), ([], 600)]
 
 
 def block(folder):
-    """Gives a folder the name of the file of a checkpoint that is being written."""
+    """Makes a folder with the name of the file of a checkpoint that is being written."""
     (folder / (FILE + ".new")).mkdir()
 
 
-# What the world runs as it begins, what else is there, the options; what is printed, what is logged, the status.
+# The program that the world runs as it begins, what else is there, the options; what is printed, what is logged, the status.
 PROGRAMS = [
     ('server_log("up");', {}, ["--rounds", "1"], LISTENS, BEGUN + "[INFO  moo] up\n", 0),
     ("dump_database();", {}, ["--rounds", "5"], LISTENS, BEGUN + "[INFO  moo::serve] checkpoint done: 453 bytes\n", 0),
@@ -94,7 +94,7 @@ def one_who_never_reads_is_hung_up(moo, options, lines):
         logged = server.read("logged")
         same("logged", re.sub(r"up: \d{7,8} bytes", "up: MANY bytes", logged),
              BEGUN + "[WARN  moo::serve] connection 0 is hung up: MANY bytes wait for it\n[INFO  moo] told\n")
-        # What the system had taken comes, and then the end.
+        # The client gets what the system had taken, and then the end.
         waiting = int(re.search(r"up: (\d+) bytes", logged)[1])
         same("bytes", len(rest(client)) + waiting, len(GREETING) + lines * 65_538 + len(b"*** Disconnected ***\r\n"))
         other = server.connect()
@@ -103,7 +103,7 @@ def one_who_never_reads_is_hung_up(moo, options, lines):
 
 
 def the_next_one_under_a_number_starts_clean(moo):
-    """The first one leaves half a line, and output that waits. The log has the number of who comes."""
+    """The first client leaves with half a line typed, and output that waits. The log has the number of each that comes."""
     hooks = ('set_verb_code(#0, "do_login_command", {"server_log(tostr(player)); return #3;"});\n'
              'add_verb(#0, {#3, "rxd", "user_client_disconnected"}, {"this", "none", "this"});\n'
              'set_verb_code(#0, "user_client_disconnected", {"server_log(\\"left\\");"});')
@@ -121,7 +121,7 @@ def the_next_one_under_a_number_starts_clean(moo):
 
 
 def a_clock_that_is_set_back_is_not_shown(moo):
-    """What the world takes for the time: the last moment that it was given counts until the clock has passed it."""
+    """The time of the world: the last moment that it was given, until the clock has passed it."""
     compiler = next(filter(None, map(shutil.which, ["cc", "gcc", "clang"])), None)
     if compiler is None:
         raise Skipped("there is no C compiler, by which such a clock is made")
@@ -172,7 +172,7 @@ def as_bytes(value):
 
 
 def play_case(program, place, show, case):
-    """Plays a case: its outcome is the first thing that was seen otherwise than wanted."""
+    """Plays a case. Its outcome is the first thing that differs from what is wanted."""
     title = place + "".join(f", {part!r}" for part in case[:1])
     try:
         show(program.path, *case)

@@ -49,7 +49,7 @@ class Server:
             (self.folder / FILE).write_text(self.text)
         if self.before:
             self.before(self.folder)
-        # Bound, and not listening, it is nobody's but the server's.
+        # The port is bound, but nobody listens: no other program gets it.
         self.kept = socket.socket()
         self.kept.setsockopt(socket.SOL_SOCKET, socket.SO_REUSEADDR, 1)
         self.kept.bind(("127.0.0.1", 0))
@@ -74,7 +74,7 @@ class Server:
         return text.replace(str(self.folder), "HERE").replace(f"127.0.0.1:{self.port}", "127.0.0.1:PORT")
 
     def wait(self, name, pattern):
-        """Waits until a line of a file is of this pattern."""
+        """Waits until a line of a file fits this pattern."""
         end = time.monotonic() + PATIENCE
         while True:
             is_last = self.process.poll() is not None or time.monotonic() > end
@@ -126,6 +126,6 @@ def sees_last(client, wanted):
 
 
 def reset(client):
-    """Leaves without a word, and with what came unread."""
+    """Closes the socket at once, with what came unread."""
     client.setsockopt(socket.SOL_SOCKET, socket.SO_LINGER, struct.pack("ii", 1, 0))
     client.close()

@@ -13,7 +13,7 @@ TRANSCRIPTS = TOP / "worlds/starter/tests"
 
 
 def play_build(program):
-    """Builds the world: it is worlds/starter.db, byte for byte."""
+    """Builds the world, and compares it with worlds/starter.db, byte for byte."""
     words = [sys.executable, "-B", TOP / "worlds/starter/build.py", "--print", program.path]
     done = subprocess.run(words, capture_output=True, timeout=PATIENCE, check=False)
     wanted = Result(0, WORLD.read_bytes())
@@ -21,7 +21,7 @@ def play_build(program):
 
 
 def play_transcript(program, name):
-    """Plays NAME.script over the world: it prints NAME.expected."""
+    """Plays NAME.script over the world, and compares what it prints with NAME.expected."""
     wanted = Result(0, (TRANSCRIPTS / f"{name}.expected").read_bytes())
     got = program.output(["script", WORLD], (TRANSCRIPTS / f"{name}.script").read_bytes())
     return [Outcome(f"worlds/starter/tests/{name}.script", "a transcript", wanted, got)]
@@ -38,7 +38,7 @@ def transcripts(program):
 
 
 def accept(program):
-    """Writes what each transcript prints as what it has to print."""
+    """Writes what each transcript prints into its file NAME.expected."""
     for name in names():
         got = program.output(["script", WORLD], (TRANSCRIPTS / f"{name}.script").read_bytes())
         if got.status != 0:

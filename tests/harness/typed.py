@@ -62,7 +62,7 @@ def is_typed(command, lines):
 
 
 def play_page(page):
-    """Returns the outcome of a page: the commands that nothing types, of which there are none."""
+    """Returns the outcome of a page. No command of it may be one that nothing types."""
     if page.stem == LAMBDACORE:
         lines = lines_typed([LAMBDACORE])
     else:

@@ -45,7 +45,7 @@ REQUESTS = [
     (upgrade("moo.example.org", "http://moo.example.org"), 403),
 ]
 
-# What breaks the protocol, and the code of the close.
+# Frames that break the protocol, and the code of the close.
 BROKEN = [
     ("an unmasked frame", frame(TEXT, b"x", is_masked=False), 1002),
     ("a reserved bit", frame(TEXT, b"x", reserved=64), 1002),
@@ -101,7 +101,7 @@ def requests_are_answered(moo):
 
 
 def a_browser_plays(moo):
-    """Lines end where they end, however they are cut into messages, fragments and pieces."""
+    """Lines don't depend on how they are cut into messages, fragments and pieces."""
     with Page(moo) as server:
         browser = WebSocket(server.web)
         browser.send(frame(TEXT, b"look\r\n"), 1)
@@ -148,7 +148,7 @@ def a_browser_and_a_telnet_client_share_the_world(moo):
 
 
 def what_breaks_the_protocol_ends_a_websocket(moo):
-    """What was said before is done."""
+    """Lines before a broken frame are run."""
     with Page(moo) as server:
         for name, data, code in BROKEN:
             browser = WebSocket(server.web)
@@ -234,7 +234,7 @@ def one_who_is_silent_is_pinged_and_then_hung_up(moo):
             request = get("/", f"127.0.0.1:{server.web}")
 
             def spend(seconds):
-                """Shows this second until the server has looked at it: the second page comes after the round of the first."""
+                """Shows this second until the server has looked at it. A second page is answered in a later round than the first."""
                 show(seconds)
                 same("pages", [bool(respond(server.web, request)) for _ in range(2)], [True, True])
 

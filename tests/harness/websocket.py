@@ -34,7 +34,7 @@ def accept_key(key):
 
 
 def frame(opcode, payload=b"", is_final=True, is_masked=True, reserved=0):
-    """Returns the bytes of a frame as a browser sends it, or as it may not be sent."""
+    """Returns the bytes of a frame, as a browser sends it or in a form that isn't allowed."""
     size, mask = len(payload), 128 if is_masked else 0
     first = bytes([(128 if is_final else 0) | reserved | opcode])
     if size < 126:
@@ -90,7 +90,7 @@ class WebSocket:
         return seen
 
     def read_bytes(self, count):
-        """Returns so many bytes."""
+        """Returns this many bytes."""
         while len(self.unread) < count:
             self.more()
         seen, self.unread = self.unread[:count], self.unread[count:]
@@ -108,7 +108,7 @@ class WebSocket:
         return first & 15, self.read_bytes(size)
 
     def send(self, data, size=None):
-        """Sends bytes, in pieces of this size or at once. One that was hung up sends in vain."""
+        """Sends bytes, in pieces of this size or at once. An error of a connection that was hung up is ignored."""
         try:
             for at in range(0, len(data), size or len(data) or 1):
                 self.client.sendall(data[at : at + (size or len(data))])

@@ -126,7 +126,7 @@ def by_answer(language, printed, parts):
 
     The last part has no `write` at its end. A line of output takes some calls of `write`, each line as many."""
     writes, rest = divmod(len(parts) - 1, len(printed))
-    if rest:
+    if rest or not writes:
         sys.exit(f"{language.command[0]}: {len(parts) - 1} calls of write for {len(printed)} lines")
     counted, begin = {}, 0
     for number, line in enumerate(printed):

@@ -1,4 +1,4 @@
-@turns 700 the same with a variable for the error, of which the code is looked at
+@turns 700 a `try` in which each second turn raises E_DIV, with a variable for the error
 @program run
 {n} = args;
 y = 0;

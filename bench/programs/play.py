@@ -4,14 +4,14 @@ these are run. A program is warmed up by ten runs of one turn. A line is written
 import gc
 import os
 import sys
-from pathlib import Path
 
 sys.path.insert(0, os.path.dirname(os.path.abspath(__file__)))
 
 for line in sys.stdin:
     name, file, turns, times = line.split()
     space = {"__name__": name}
-    exec(compile(Path(file).read_text(), file, "exec"), space)
+    with open(file) as source:
+        exec(compile(source.read(), file, "exec"), space)
     run = space["run"]
     for _ in range(10):
         run(1)

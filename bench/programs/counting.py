@@ -14,6 +14,7 @@ from pathlib import Path
 import world
 
 HERE = Path(__file__).resolve().parent
+CONNECTED = "0: *** Connected ***"
 GROUPS = ["calls", "handlers", "properties", "lists", "strings", "utilities", "loops", "objects"]
 
 
@@ -52,13 +53,13 @@ class Moo:
         self.database = f"{folder}/programs.db"
         Path(self.database).write_text(world.database_of({program.name: program.text for program in every}))
         self.command = [path, "script", self.database]
-        self.line = re.compile(r"0: (\S+) = (.*)")
+        self.line, self.ready = re.compile(r"0: (\S+) = (.*)"), "0: ready"
 
     def given(self, chosen, times=1):
         """The lines that play the programs: each once to warm up, by one turn, and then so often."""
-        lines = ["open 0", "line 0 run empty 1", "line 0 run empty 1"]
+        lines = ["open 0", "line 0 warm empty", "line 0 run empty 1"]
         for program in chosen:
-            lines += [f"line 0 run {program.name} 1", *times * [f"line 0 run {program.name} {program.turns}"]]
+            lines += [f"line 0 warm {program.name}", *times * [f"line 0 run {program.name} {program.turns}"]]
         return "".join(f"{line}\n" for line in lines)
 
 
@@ -67,7 +68,7 @@ class Other:
 
     def __init__(self, command, kind):
         self.command, self.kind = command, kind
-        self.line = re.compile(r"(\S+) = (.*)")
+        self.line, self.ready = re.compile(r"(\S+) = (.*)"), "ready"
 
     def given(self, chosen, times=1):
         rows = [f"empty {HERE / ('empty.' + self.kind)} 1 1"]
@@ -105,9 +106,14 @@ def play(command, given):
     return done.stdout.decode().splitlines(), took
 
 
-def answers(language, printed):
-    """The last answer of each program."""
-    return {found[1]: found[2] for found in map(language.line.fullmatch, printed) if found}
+def answers(language, printed, chosen):
+    """The last answer of each program. If one has none, this ends with a message that shows what was printed besides."""
+    found = {line[1]: line[2] for line in map(language.line.fullmatch, printed) if line}
+    lost = [program.name for program in chosen if program.name not in found]
+    if lost:
+        besides = [line for line in printed if not language.line.fullmatch(line) and line != language.ready]
+        sys.exit(f"{language.command[0]}: no answer of {', '.join(lost)}\n" + "\n".join(besides[-20:]))
+    return found
 
 
 def counts(language, chosen):
@@ -116,9 +122,9 @@ def counts(language, chosen):
         valgrind = ["valgrind", "--tool=callgrind", f"--callgrind-out-file={folder}/counts", "--combine-dumps=yes", "--dump-before=write", "--dump-line=no"]
         printed, _ = play([*valgrind, *language.command], language.given(chosen))
         parts = [int(line.split()[1]) for line in Path(f"{folder}/counts").read_text().split("\n") if line.startswith("totals:")]
+    found = answers(language, printed, chosen)
     counted = by_answer(language, printed, parts)
-    empty = counted.pop("empty")
-    return {name: count - empty for name, count in counted.items()}, answers(language, printed)
+    return {program.name: counted[program.name] - counted["empty"] for program in chosen}, found
 
 
 def by_answer(language, printed, parts):
@@ -131,7 +137,7 @@ def by_answer(language, printed, parts):
     counted, begin = {}, 0
     for number, line in enumerate(printed):
         found = language.line.fullmatch(line)
-        if found or line in ("ready", "0: *** Connected ***"):
+        if found or line in (language.ready, CONNECTED):
             if found:
                 counted[found[1]] = parts[begin * writes]
             begin = number + 1
@@ -142,8 +148,8 @@ def check(chosen, found):
     """Ends with a message unless each program has the same answer in all languages."""
     wrong = []
     for program in chosen:
-        told = {language: answer.get(program.name, "nothing") for language, answer in found.items()}
-        if len(set(told.values())) > 1 or "nothing" in told.values():
-            wrong.append(f"{program.name}: " + ", ".join(f"{language} has {answer}" for language, answer in told.items()))
+        given = {language: answer[program.name] for language, answer in found.items()}
+        if len(set(given.values())) > 1:
+            wrong.append(f"{program.name}: " + ", ".join(f"{language} has {answer}" for language, answer in given.items()))
     if wrong:
         sys.exit("\n".join(wrong))

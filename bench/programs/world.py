@@ -1,8 +1,9 @@
 """Makes the database of a world from the texts of programs.
 
-#0 has a property for each object that has a name. #1 is a wizard, $player in these texts, whose command `run NAME TURNS` runs a program and prints `NAME = ANSWER`.
-The objects $core_1 to $core_6 are a chain of six ancestors with the verbs of bench/verbs/names.txt, a line each, all of which return their first
-argument. $programs has a verb for each program, named after it, and `empty`. What follows are the objects that the texts make:
+#0 has a property for each object that has a name. #1, $player in these texts, is a wizard. His command `run NAME TURNS` runs a program and prints
+`NAME = ANSWER`; `warm NAME` runs it by one turn and prints `ready`. The objects $core_1 to $core_6 are a chain of six ancestors with the verbs of
+bench/verbs/names.txt, a line each, all of which return their first argument. $programs has a verb for each program, named after it, and `empty`.
+What follows are the objects that the texts make:
 
     @turns COUNT WORDS              how many turns are measured, and what is in a turn
     @create PARENT named NAME       an object $NAME, whose own name is NAME too; PARENT is #-1 or $NAME
@@ -26,6 +27,7 @@ PLAYER, READABLE, FERTILE = 7, 16, 128
 METHOD, COMMAND = 173, 29
 
 RUN = ['notify(player, tostr(args[1], " = ", $programs:(args[1])(toint(args[2]))));']
+WARM = ["$programs:(args[1])(1);", 'notify(player, "ready");']
 
 
 class Thing:
@@ -46,7 +48,7 @@ class World:
         self.wizard.flags = PLAYER
         self.named["player"] = self.wizard
         self.system.verbs.append(("do_login_command", METHOD, ["return #1;"]))
-        self.wizard.verbs.append(("run", COMMAND, RUN))
+        self.wizard.verbs += [("run", COMMAND, RUN), ("warm", COMMAND, WARM)]
         above = -1
         for level, line in enumerate(NAMES.read_text().split("\n")[:6], 1):
             above = self.create(f"core_{level}", above).number

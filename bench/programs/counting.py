@@ -6,6 +6,7 @@ what its process did from the last output before it to its own answer. An empty 
 import os
 import re
 import resource
+import shutil
 import subprocess
 import sys
 import tempfile
@@ -83,10 +84,9 @@ def python():
 def lua():
     """Lua 5.4, or nothing: LUA names it, if it isn't on the path."""
     for name in [os.environ.get("LUA"), "lua5.4", "lua"]:
-        if name:
-            found = subprocess.run(["sh", "-c", 'command -v "$0"', name], capture_output=True, text=True, check=False).stdout.strip()
-            if found:
-                return Other([found, str(HERE / "play.lua")], "lua")
+        found = name and shutil.which(name)
+        if found:
+            return Other([found, str(HERE / "play.lua")], "lua")
     return None
 
 
@@ -118,6 +118,8 @@ def answers(language, printed, chosen):
 
 def counts(language, chosen):
     """The instructions of each program, less those of the empty one, and its answer."""
+    if not shutil.which("valgrind"):
+        sys.exit("valgrind is missing (on Debian: apt-get install valgrind)")
     with tempfile.TemporaryDirectory() as folder:
         valgrind = ["valgrind", "--tool=callgrind", f"--callgrind-out-file={folder}/counts", "--combine-dumps=yes", "--dump-before=write", "--dump-line=no"]
         printed, _ = play([*valgrind, *language.command], language.given(chosen))

@@ -1,4 +1,4 @@
-@turns 1200 a `try` in which nothing is raised
+@turns 2500 a `try` in which nothing is raised
 @program run
 {n} = args;
 y = 0;

@@ -1,4 +1,4 @@
-@turns 700 `in` a list of twelve words, found late and not found
+@turns 1200 `in` a list of twelve words, found late and not found
 @program run
 {n} = args;
 l = {"north", "south", "east", "west", "up", "down", "in", "out", "northeast", "northwest", "southeast", "southwest"};

@@ -1,4 +1,4 @@
-@turns 20 a list of fifty, built at its end, and its sum
+@turns 60 a list of fifty, built at its end, and its sum
 @program run
 {n} = args;
 x = 0;

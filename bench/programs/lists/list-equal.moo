@@ -1,4 +1,4 @@
-@turns 900 two lists of lists compared, equal and not
+@turns 1500 two lists of lists compared, equal and not
 @program run
 {n} = args;
 a = {{1, "north"}, {2, "south"}, {3, "east"}};

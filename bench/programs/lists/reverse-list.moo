@@ -1,4 +1,4 @@
-@turns 35 a list of twenty, reversed by a loop from its end
+@turns 80 a list of twenty, reversed by a loop from its end
 @create #-1 named reversing
 @program $reversing:reverse
 {l} = args;

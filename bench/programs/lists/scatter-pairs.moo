@@ -1,4 +1,4 @@
-@turns 150 the pairs of a list of five, scattered
+@turns 500 the pairs of a list of five, scattered
 @program run
 {n} = args;
 l = {{1, 2}, {3, 4}, {5, 6}, {7, 8}, {9, 10}};

@@ -1,4 +1,4 @@
-@turns 15 how often each of the 20 words of a list is in it, by two lists
+@turns 30 how often each of the 20 words of a list is in it, by two lists
 @program run
 {n} = args;
 l = {"the", "cat", "and", "the", "dog", "and", "the", "bird", "saw", "a", "cat", "and", "a", "dog", "in", "the", "tree", "by", "the", "lake"};

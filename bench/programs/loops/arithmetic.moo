@@ -1,4 +1,4 @@
-@turns 2500 a step of a random number
+@turns 5000 a step of a random number
 @program run
 {n} = args;
 x = 12345;

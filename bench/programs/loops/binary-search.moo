@@ -1,4 +1,4 @@
-@turns 60 a look for a number in a sorted list of a hundred
+@turns 120 a look for a number in a sorted list of a hundred
 @create #-1 named searching
 @program $searching:find
 {l, key} = args;

@@ -1,4 +1,4 @@
-@turns 1200 an element of a list read and another set
+@turns 3000 an element of a list read and another set
 @program run
 {n} = args;
 l = {};

@@ -1,4 +1,4 @@
-@turns 1200 a chain of five tests
+@turns 2500 a chain of five tests
 @program run
 {n} = args;
 a = b = c = d = e = 0;

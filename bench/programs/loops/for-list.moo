@@ -1,4 +1,4 @@
-@turns 120 a `for` over a list of twenty numbers
+@turns 400 a `for` over a list of twenty numbers
 @program run
 {n} = args;
 l = {};

@@ -1,4 +1,4 @@
-@turns 6000 a number more in a `for` over numbers
+@turns 12000 a number more in a `for` over numbers
 @program run
 {n} = args;
 x = 0;

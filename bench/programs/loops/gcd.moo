@@ -1,4 +1,4 @@
-@turns 100 the greatest common divisor of two numbers, by a loop in a verb
+@turns 200 the greatest common divisor of two numbers, by a loop in a verb
 @create #-1 named divisors
 @program $divisors:gcd
 {a, b} = args;

@@ -1,4 +1,4 @@
-@turns 30 ten turns in each of ten
+@turns 80 ten turns in each of ten
 @program run
 {n} = args;
 x = 0;

@@ -1,4 +1,4 @@
-@turns 6000 a turn of `while` alone
+@turns 10000 a turn of `while` alone
 @program run
 {n} = args;
 i = 0;

@@ -1,4 +1,4 @@
-@turns 1200 a property one more, in a verb's loop over `this`
+@turns 3000 a property one more, in a verb's loop over `this`
 @create #-1 named counter
 @property $counter.count 0
 @program $counter:tally

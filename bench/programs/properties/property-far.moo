@@ -1,4 +1,4 @@
-@turns 700 a property that the fifth object above defines, each with properties of its own; the name has 24 letters
+@turns 2000 a property that the fifth object above defines, each with properties of its own; the name has 24 letters
 @create #-1 named far_1
 @property $far_1.home 1
 @property $far_1.object_match_failed_msgs 3

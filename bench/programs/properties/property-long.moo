@@ -1,4 +1,4 @@
-@turns 600 two properties with names of 17 and 18 letters, one read and one set, of an object with six others
+@turns 1500 two properties with names of 17 and 18 letters, one read and one set, of an object with six others
 @create #-1 named mailer
 @property $mailer.mail_forward 0
 @property $mailer.mail_options 0

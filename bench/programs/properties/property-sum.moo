@@ -1,4 +1,4 @@
-@turns 250 five objects' properties, summed
+@turns 600 five objects' properties, summed
 @create #-1 named heavy_kind
 @property $heavy_kind.weight 1
 @create $heavy_kind named heavy_1

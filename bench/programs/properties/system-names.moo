@@ -1,4 +1,4 @@
-@turns 700 objects and numbers as properties of #0, among all names of this world
+@turns 1500 objects and numbers as properties of #0, among all names of this world
 @create #-1 named options
 @property $options.width 79
 @property $options.margin 4

@@ -1,4 +1,4 @@
-@turns 30 a string of forty letters, one by one
+@turns 50 a string of forty letters, one by one
 @program run
 {n} = args;
 x = 0;

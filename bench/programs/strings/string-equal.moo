@@ -1,4 +1,4 @@
-@turns 500 a command's word compared with four
+@turns 1200 a command's word compared with four
 @program run
 {n} = args;
 words = {"take", "drop", "give", "throw"};

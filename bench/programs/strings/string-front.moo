@@ -1,4 +1,4 @@
-@turns 30 a string of forty letters, each put at its front
+@turns 50 a string of forty letters, each put at its front
 @program run
 {n} = args;
 x = 0;

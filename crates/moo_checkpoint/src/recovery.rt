@@ -7,7 +7,7 @@ ghost use Rattle.moo_dbtext_read.specs.Saved as saving;
 ghost use Rattle.moo_dbtext_read.specs.Saved.{saved_of, SpellsSaved, SpellsSavedWithin};
 ghost use Rattle.moo_dbtext_read.specs.Feeding.{HasFed};
 ghost use Rattle.moo_dbtext_read.specs.Refusals.{Refuses};
-ghost use Rattle.moo_checkpoint.specs.Recovering.{CountsDevice, Keeps, Recovers, Tells, front_to};
+ghost use Rattle.moo_checkpoint.specs.Recovering.{CountsDevice, Keeps, ReadsAtMost, Recovers, Tells, front_to};
 
 use crate::open_fault::OpenFault;
 use moo_dbtext_read::{DbReader, Saved};
@@ -59,6 +59,7 @@ fn feed_at<D: Disk>(
 ) -> Result<Option<u64>, OpenFault>
     requires { 0 < length buffer.old }
     ensures place { IfOk result (λ next. IfSome next (λ after. (at < after) × (after < 2 ^ 63))) }
+    ensures within { D.kind.honest disk.old → IfOk result (λ next. IfSome next (λ after. after ≤ length (D.kind.view disk.old).main_text)) }
     ensures fed { D.kind.honest disk.old → HasFed reader.old (take at (D.kind.view disk.old).main_text)
         → IfOk result (λ next. HasFed reader.new (front_to (D.kind.view disk.old).main_text next)) }
     ensures told { D.kind.honest disk.old → HasFed reader.old (take at (D.kind.view disk.old).main_text)
@@ -82,6 +83,7 @@ fn feed_main<D: Disk>(alloc: Global, disk: &mut D, reader: &mut DbReader) -> Res
     ensures told { D.kind.honest disk.old → HasFed reader.old [] → IfErr result (Tells (D.kind.view disk.old).main_text) }
     ensures device { CountsDevice (D.kind.honest disk.old) (D.kind.failures disk.old) (D.kind.failures disk.new) result }
     ensures reads { OnlyReads D.kind disk.old disk.new }
+    ensures few { D.kind.honest disk.old → ReadsAtMost D.kind (length (D.kind.view disk.old).main_text + 1) disk.old disk.new }
     ensures keeps { Keeps D.kind disk.old disk.new }
 {
     let mut buffer = vec![in alloc; 0u8; BUFFER]?;
@@ -96,6 +98,7 @@ fn recover_all<D: Disk>(alloc: Global, disk: &mut D) -> Result<Saved, OpenFault>
     ensures answer { D.kind.honest disk.old → Recovers (D.kind.view disk.old).main_text result }
     ensures device { CountsDevice (D.kind.honest disk.old) (D.kind.failures disk.old) (D.kind.failures disk.new) result }
     ensures reads { OnlyReads D.kind disk.old disk.new }
+    ensures few { D.kind.honest disk.old → ReadsAtMost D.kind (length (D.kind.view disk.old).main_text + 1) disk.old disk.new }
     ensures keeps { Keeps D.kind disk.old disk.new }
 {
     let mut reader = DbReader::new(alloc);
@@ -122,6 +125,8 @@ pub fn recover<D: Disk>(alloc: Global, disk: &mut D) -> Result<Saved, OpenFault>
     ensures device { CountsDevice (D.kind.honest disk.old) (D.kind.failures disk.old) (D.kind.failures disk.new) result }
     // Nothing is written, and no call is made but `read_main`.
     ensures reads { OnlyReads D.kind disk.old disk.new }
+    // Each read but the last brings a byte of an honest disk, so there is one more than bytes at most.
+    ensures few { D.kind.honest disk.old → ReadsAtMost D.kind (length (D.kind.view disk.old).main_text + 1) disk.old disk.new }
     ensures main { D.kind.honest disk.old → KeepsMain (D.kind.view disk.old) (D.kind.view disk.new) }
     ensures spare { D.kind.honest disk.old → KeepsSpare (D.kind.view disk.old) (D.kind.view disk.new) }
     ensures stands { D.kind.stands disk.old → D.kind.stands disk.new }

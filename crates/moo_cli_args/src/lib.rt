@@ -61,6 +61,8 @@ pub struct Service<'a> {
     pub login_seconds: u64,
     /// The greatest number of connections on which nobody has logged in, or 0 for no limit.
     pub most_unconnected: usize,
+    /// The seconds after which a connection that has sent nothing is hung up, or 0 for no limit.
+    pub idle_seconds: u64,
     /// Whether standard input and output are the operator's own connection.
     pub console: bool,
     /// Whether the commands of telnet are dropped from what clients send.
@@ -143,6 +145,7 @@ fn service_with<'a>(
         most_waiting: found.get_one::<usize>("most-waiting")?,
         login_seconds: found.get_one::<u64>("login-seconds")?,
         most_unconnected: found.get_one::<usize>("most-unconnected")?,
+        idle_seconds: found.get_one::<u64>("idle-seconds")?,
         console: found.get_flag("console"),
         telnet: found.get_flag("telnet"),
         must_save: found.get_flag("must-save"),
@@ -237,6 +240,7 @@ fn serve<'a>(alloc: Global) -> Result<Command<'a>, AllocError> {
         .arg(most_waiting)?
         .arg(login_seconds(alloc))?
         .arg(most_unconnected(alloc))?
+        .arg(idle_seconds(alloc))?
         .arg(console(alloc))?
         .arg(telnet(alloc))?
         .arg(must_save(alloc))?
@@ -277,6 +281,15 @@ fn most_unconnected<'a>(alloc: Global) -> Arg<'a> {
             "The most connections on which nobody has logged in; the oldest is hung up; 0 for no limit",
         )
         .value_parser(value_parser!(usize))
+        .default_value("0")
+}
+
+fn idle_seconds<'a>(alloc: Global) -> Arg<'a> {
+    Arg::new(alloc, "idle-seconds")
+        .long("idle-seconds")
+        .value_name("N")
+        .help("A connection that has sent nothing for N seconds is hung up; 0 for no limit")
+        .value_parser(value_parser!(u64))
         .default_value("0")
 }
 

@@ -1,6 +1,6 @@
 -- The report of bytes that end, or that are at fault.
-use Rattle.std.proofs.Common.{◌≡◌, ℕ, ◌+◌, ◌≤◌, List, [], ◌++◌, length, Some, None, Result, Ok, Err, inl, inr, refl, sym, ap, subst, ◌∙◌, append_assoc, append-nil, take, drop, arith}
-use Rattle.std.proofs.lemmas.List.{take-append-drop}
+use Rattle.std.proofs.Common.{◌≡◌, ℕ, ◌+◌, ◌≤◌, List, [], ◌++◌, length, Some, None, Result, Ok, Err, inl, inr, refl, sym, ap, subst, ◌∙◌, append_assoc, append-nil, arith}
+use Rattle.std.specs.Prelude.{⊤}
 use Rattle.moo_dbtext_object.specs.Lines.{limited}
 use Rattle.moo_dbtext_object.specs.declared.fault.Refusal.{Refusal}
 use Rattle.moo_dbtext_object.specs.declared.fault.Refusal.TheVariants as refusal
@@ -14,7 +14,7 @@ use Rattle.moo_dbtext_record.specs.declared.fault.DbFault.{DbFault}
 use Rattle.moo_dbtext_record.proofs.TakenLaws.{taken_on-append, rest_taken}
 use Rattle.moo_dbtext_record.proofs.Standing.{stands_on, stand_so, stand_ends, taken_ends, line_fault, told_behind, sources_stand}
 use Rattle.moo_cli_check.specs.Survey.{AreTheRefused, IsSurvey}
-use Rattle.moo_cli_check.specs.Reading.{IsBehind, IsEnded, IsWholly}
+use Rattle.moo_cli_check.specs.Reading.{IsBehind, IsEnded, IsWholly, Surveys, SurveysOn}
 use Rattle.moo_cli_check.specs.declared.survey.Survey.{Survey}
 use Rattle.moo_cli_check.proofs.Noted.{between_on}
 
@@ -73,19 +73,20 @@ part_ended r bytes part f es clean h stops = at f.kind refl stops
     at refusal.Memory is e = inl (ap kind_of_refusal is)
     at (refusal.Fault g) is e = absurd (let goes = taken_from r bytes part h ∙ rest_taken limited h.at.state part clean in let no = sym goes ∙ e in cc)
 
--- what ends on the way ends the whole piece
-pub ended_at : (bytes piece front more : List ℕ) (n : ℕ) (es : List DbFault) (e : DbFault) → bytes ++ piece ≡ front ++ more → IsEnded (front ++ take n more) es e → IsEnded (bytes ++ piece) es e
-ended_at bytes piece front more n es e same (inl memory) = inl memory
-ended_at bytes piece front more n es e same (inr ended) =
-    let part = front ++ take n more in
-    let behind = drop n more in
-    let split : part ++ behind ≡ bytes ++ piece = append_assoc front (take n more) behind ∙ ap (λ (b : List ℕ). front ++ b) (take-append-drop n more) ∙ sym same in
-    let stops : taken_on limited begin (part ++ behind) ≡ Err ended.fault = taken_on-append limited begin part behind ∙ ap (λ (x : Result Taken Told). and_then x (λ t. taken_on limited t behind)) ended.stops in
-    inr (record {
-      fault = ended.fault;
-      stops = ap (taken_on limited begin) (sym split) ∙ stops;
-      survey = λ on. subst (λ (b : List ℕ). IsSurvey b es (Some e)) (sym (append_assoc part behind on) ∙ ap (λ (b : List ℕ). b ++ on) split) (ended.survey (behind ++ on));
-    })
+-- what has ended has ended however the bytes go on
+ended_on : (bytes more : List ℕ) (es : List DbFault) (e : DbFault) → IsEnded bytes es e → IsEnded (bytes ++ more) es e
+ended_on bytes more es e (inl memory) = inl memory
+ended_on bytes more es e (inr ended) = inr (record {
+  fault = ended.fault;
+  stops = taken_on-append limited begin bytes more ∙ ap (λ (x : Result Taken Told). and_then x (λ t. taken_on limited t more)) ended.stops;
+  survey = λ on. subst (λ (b : List ℕ). IsSurvey b es (Some e)) (sym (append_assoc bytes more on)) (ended.survey (more ++ on));
+})
+
+pub surveys_join : (r s t : Survey) (front more : List ℕ) (result : Result ⊤ DbFault) → SurveysOn r front (Ok tt) s → SurveysOn s more result t → SurveysOn r (front ++ more) result t
+surveys_join r s t front more result a b = λ bytes h. subst (Surveys result t) (append_assoc bytes front more) (b (bytes ++ front) (a bytes h))
+
+pub surveys_stop : (r s : Survey) (front more : List ℕ) (e : DbFault) → SurveysOn r front (Err e) s → SurveysOn r (front ++ more) (Err e) s
+surveys_stop r s front more e a = λ bytes h. subst (Surveys (Err e) s) (append_assoc bytes front more) (ended_on (bytes ++ front) more s.faults.items e (a bytes h))
 
 -- ---- at the end
 

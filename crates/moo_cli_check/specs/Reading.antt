@@ -1,5 +1,5 @@
 -- A reader of refused programs between two pieces.
-use Rattle.std.specs.Prelude.{◌≡◌, ◌≢◌, ℕ, List, [], ◌∷◌, ◌++◌, Option, Some, None, Err, ◌⊎◌}
+use Rattle.std.specs.Prelude.{◌≡◌, ◌≢◌, ℕ, List, [], ◌∷◌, ◌++◌, Option, Some, None, Result, Err, ◌⊎◌, MatchResult, ⊤}
 use Rattle.moo_syntax_ast.specs.Tree.{Block}
 use Rattle.moo_syntax_grammar.specs.declared.names.Names.TheVariants.{Any}
 use Rattle.moo_syntax_grammar.specs.Texts.{IsParsed}
@@ -34,6 +34,14 @@ pub record IsStopped (bytes : List ℕ) (faults : List DbFault) (e : DbFault) : 
 -- memory ran out, or a line has stopped it
 abbrev pub IsEnded : List ℕ → List DbFault → DbFault → Type 0
 IsEnded bytes faults e = (e.kind ≡ kind.Memory) ⊎ IsStopped bytes faults e
+
+-- What a reader has done with bytes, given the result: it is in this state, or has ended.
+abbrev pub Surveys : Result ⊤ DbFault → Survey → List ℕ → Type 0
+Surveys result r bytes = MatchResult result (λ _. IsBehind r bytes) (IsEnded bytes r.faults.items)
+
+-- From one state, more bytes lead to the result and to another state.
+abbrev pub SurveysOn : Survey → List ℕ → Result ⊤ DbFault → Survey → Type 0
+SurveysOn r more result s = (bytes : List ℕ) → IsBehind r bytes → Surveys result s (bytes ++ more)
 
 -- the report of the whole bytes, or memory ran out
 abbrev pub IsWholly : List ℕ → List DbFault → Option DbFault → Type 0

@@ -6,12 +6,12 @@ ghost use Rattle.moo_syntax_grammar.specs.Texts.{IsParsed};
 ghost use Rattle.moo_dbtext_object.specs.Lines.{Line};
 ghost use Rattle.moo_dbtext_record.specs.Programs.{entry_at};
 ghost use Rattle.moo_dbtext_record.specs.Sparing.{AreAlikeTaken};
-ghost use Rattle.moo_dbtext_record.specs.Answer.{IsGoing, IsWholeLine, HasNoEnd, taken_of};
+ghost use Rattle.moo_dbtext_record.specs.Answer.{IsGoing, taken_of};
 ghost use Rattle.moo_dbtext_read.specs.Reading.{IsSourceRefused, sources_at};
-ghost use Rattle.moo_cli_check.specs.Reading.{IsBehind, IsNoted, IsEnded, IsWholly};
+ghost use Rattle.moo_cli_check.specs.Reading.{IsBehind, IsNoted, IsEnded, IsWholly, SurveysOn};
 
 use moo_dbtext_read::{kind_of_source, take_line};
-use moo_dbtext_record::{DbFault, DbFaultKind, RecordReader, first_line};
+use moo_dbtext_record::{DbFault, DbFaultKind, LineSink, RecordReader, feed_lines};
 use moo_syntax::{Names, parse};
 use std::alloc::Global;
 
@@ -73,39 +73,12 @@ impl Survey {
         }
     }
 
-    /// Takes a line with its end.
-    fn line(&mut self, alloc: Global, line: &[u8]) -> Result<(), DbFault>
-        requires { IsWholeLine line.now }
-        ensures goes { (bytes : List ℕ) → IsBehind self.old bytes → OnOk result (IsBehind self.new (bytes ++ line.now)) }
-        ensures stops { (bytes : List ℕ) → IsBehind self.old bytes → IfErr result (IsEnded (bytes ++ line.now) self.new.faults.items) }
-    {
-        match take_line(alloc, &mut self.records, line)? {
-            Some((object, verb)) => self.note(alloc, object, verb),
-            None => Ok(()),
-        }
-    }
-
-    /// Takes a part of a line, without its end.
-    fn part(&mut self, alloc: Global, part: &[u8]) -> Result<(), DbFault>
-        requires { HasNoEnd part.now }
-        ensures goes { (bytes : List ℕ) → IsBehind self.old bytes → OnOk result (IsBehind self.new (bytes ++ part.now)) }
-        ensures stops { (bytes : List ℕ) → IsBehind self.old bytes → IfErr result (IsEnded (bytes ++ part.now) self.new.faults.items) }
-    {
-        self.records.feed(alloc, part)?;
-        Ok(())
-    }
-
     /// Takes the next piece of the text.
     pub(crate) fn feed(&mut self, alloc: Global, piece: &[u8]) -> Result<(), DbFault>
         ensures goes { (bytes : List ℕ) → IsBehind self.old bytes → OnOk result (IsBehind self.new (bytes ++ piece.now)) }
         ensures stops { (bytes : List ℕ) → IsBehind self.old bytes → IfErr result (IsEnded (bytes ++ piece.now) self.new.faults.items) }
     {
-        let mut more = piece;
-        while let Some(size) = first_line(more) {
-            self.line(alloc, &more[..size])?;
-            more = &more[size..];
-        }
-        self.part(alloc, more)
+        feed_lines(self, alloc, piece)
     }
 
     /// Returns the refused programs so far.
@@ -123,5 +96,23 @@ impl Survey {
             return (self.faults, Some(DbFault::from(fault)));
         }
         (self.faults, None)
+    }
+}
+
+impl LineSink for Survey {
+    type Fault = DbFault;
+
+    ghost takes = { SurveysOn };
+
+    fn take_line(&mut self, alloc: Global, line: &[u8]) -> Result<(), DbFault> {
+        match take_line(alloc, &mut self.records, line)? {
+            Some((object, verb)) => self.note(alloc, object, verb),
+            None => Ok(()),
+        }
+    }
+
+    fn take_part(&mut self, alloc: Global, part: &[u8]) -> Result<(), DbFault> {
+        self.records.feed(alloc, part)?;
+        Ok(())
     }
 }

@@ -1,6 +1,6 @@
 -- The state of a reader after the bytes that it has taken.
-use Rattle.std.proofs.Common.{◌≡◌, ℕ, Bool, true, false, eqb, eq-eqb, suc, ◌+◌, ◌-◌, List, [], ◌∷◌, ◌++◌, length, Option, Some, None, Result, Ok, ◌⊎◌, inl, inr, refl, sym, ap, subst, ◌∙◌, append_assoc, arith, MatchOption}
-use Rattle.std.specs.Prelude.{codes, map}
+use Rattle.std.proofs.Common.{◌≡◌, ℕ, Bool, true, false, eqb, eq-eqb, suc, ◌+◌, ◌-◌, List, [], ◌∷◌, ◌++◌, length, Option, Some, None, Result, Ok, Err, ◌⊎◌, inl, inr, refl, sym, ap, subst, ◌∙◌, append_assoc, arith, MatchResult}
+use Rattle.std.specs.Prelude.{codes, map, ⊤}
 use Rattle.std.specs.Fmt.{signed_decimal}
 use Rattle.std.proofs.lemmas.Bool.{eqb-true}
 use Rattle.std.specs.Global.{Vec}
@@ -39,19 +39,11 @@ use Rattle.moo_dbtext_read.specs.Reading.{IsBehind, IsRefused, IsSourceRefused, 
 
 -- a reader without a fault is in the state to which the bytes lead
 pub taken_going : (r : RecordReader) (bytes : List ℕ) → IsGoing r → HasTaken r bytes → taken_on limited begin bytes ≡ Ok (taken_of r)
-taken_going r bytes going h = at r.failed going h
+taken_going r bytes going h = at r.outcome going h
   where
-    at : (f : Option RecordFault) → f ≡ None → MatchOption f (taken_on limited begin bytes ≡ Ok (taken_of r)) (λ e. Stops e (taken_on limited begin bytes)) → taken_on limited begin bytes ≡ Ok (taken_of r)
-    at None e h = h
-    at (Some x) e h = absurd cc
-
--- and one that has failed at their fault
-pub taken_failed : (r : RecordReader) (e : RecordFault) (bytes : List ℕ) → HasFailed r e → HasTaken r bytes → Stops e (taken_on limited begin bytes)
-taken_failed r e bytes failed h = at r.failed failed h
-  where
-    at : (f : Option RecordFault) → f ≡ Some e → MatchOption f (taken_on limited begin bytes ≡ Ok (taken_of r)) (λ d. Stops d (taken_on limited begin bytes)) → Stops e (taken_on limited begin bytes)
-    at None is h = absurd cc
-    at (Some x) is h = subst (λ (d : RecordFault). Stops d (taken_on limited begin bytes)) (let same : x ≡ e = cc in same) h
+    at : (o : Result ⊤ RecordFault) → o ≡ Ok tt → MatchResult o (λ _. taken_on limited begin bytes ≡ Ok (taken_of r)) (λ e. Stops e (taken_on limited begin bytes)) → taken_on limited begin bytes ≡ Ok (taken_of r)
+    at (Ok x) e h = h
+    at (Err x) e h = absurd cc
 
 -- from one state to another
 pub taken_between : (bytes more : List ℕ) (s t : Taken) → taken_on limited begin bytes ≡ Ok s → taken_on limited begin (bytes ++ more) ≡ Ok t → taken_on limited s more ≡ Ok t

@@ -1,7 +1,6 @@
 -- A text that is refused on the way, or at its end.
-use Rattle.std.proofs.Common.{◌≡◌, ℕ, ℤ, true, List, [], ◌++◌, Option, Some, None, Result, Ok, Err, inl, inr, sym, ap, subst, ◌∙◌, append-nil, append_assoc, take, drop, MatchOption}
-use Rattle.std.proofs.lemmas.List.{take-append-drop}
-use Rattle.std.specs.Prelude.{IfErr, map, option_map}
+use Rattle.std.proofs.Common.{◌≡◌, ℕ, ℤ, true, List, [], ◌++◌, Option, Some, None, Result, Ok, Err, inl, inr, sym, ap, subst, ◌∙◌, append-nil, append_assoc}
+use Rattle.std.specs.Prelude.{IfErr, map, option_map, ⊤}
 use Rattle.moo_dbtext_record.specs.declared.fault.DbFault.{DbFault}
 use Rattle.moo_dbtext_object.specs.Lines.{limited, unlines}
 use Rattle.moo_dbtext_object.specs.Objects.{Object, object_of}
@@ -17,7 +16,7 @@ use Rattle.moo_dbtext_read.specs.Reading.{HasRead, IsWell, IsBehind, place_of}
 use Rattle.moo_dbtext_read.specs.declared.program_reader.ProgramReader.{ProgramReader}
 use Rattle.moo_dbtext_read.proofs.Refused.{read_well}
 use Rattle.moo_dbtext_read.specs.Loading.{IsRefusedSo, IsRefusedFrom, IsTextUntold, LoadAnswers}
-use Rattle.moo_dbtext_read.specs.Taking.{IsLoading, HasTaken, IsGoing, HasFailed}
+use Rattle.moo_dbtext_read.specs.Taking.{IsLoading, Loads, LoadsOn, HasTaken, IsGoing, HasFailed}
 use Rattle.moo_dbtext_read.specs.declared.world_reader.WorldReader.{WorldReader}
 use Rattle.moo_dbtext_read.specs.Refusals.{Refuses}
 use Rattle.moo_dbtext_read.proofs.Whole.{without_memory, told_begun, is_loaded_only, is_loaded_within, is_loaded_place, is_loaded_program, is_loaded_hierarchy, is_loaded_count, is_loaded_size, is_loaded_large, is_loaded_past}
@@ -87,25 +86,30 @@ module _ (p : ProgramReader) (bytes : List ℕ) (d : Dump) (read : HasRead p byt
 -- ---- a reader of worlds
 
 pub taken_failed : (r : WorldReader) (e : DbFault) (bytes : List ℕ) → HasFailed r e → HasTaken r bytes → IsRefusedFrom bytes e
-taken_failed r e bytes failed h = at r.failed failed h
+taken_failed r e bytes failed h = at r.outcome failed h
   where
-    at : (f : Option DbFault) → f ≡ Some e → MatchOption f (IsLoading r bytes) (IsRefusedFrom bytes) → IsRefusedFrom bytes e
-    at None is k = absurd cc
-    at (Some d) is k = subst (IsRefusedFrom bytes) (let same : d ≡ e = cc in same) k
+    at : (o : Result ⊤ DbFault) → o ≡ Err e → Loads o r bytes → IsRefusedFrom bytes e
+    at (Ok x) is k = absurd cc
+    at (Err d) is k = subst (IsRefusedFrom bytes) (let same : d ≡ e = cc in same) k
 
 pub taken_going : (r : WorldReader) (bytes : List ℕ) → IsGoing r → HasTaken r bytes → IsLoading r bytes
-taken_going r bytes going h = at r.failed going h
+taken_going r bytes going h = at r.outcome going h
   where
-    at : (f : Option DbFault) → f ≡ None → MatchOption f (IsLoading r bytes) (IsRefusedFrom bytes) → IsLoading r bytes
-    at None is k = k
-    at (Some d) is k = absurd cc
+    at : (o : Result ⊤ DbFault) → o ≡ Ok tt → Loads o r bytes → IsLoading r bytes
+    at (Ok x) is k = k
+    at (Err d) is k = absurd cc
+
+-- the result of the bytes is kept
+pub taken_kept : (result : Result ⊤ DbFault) (s : WorldReader) (bytes : List ℕ) → Loads result s bytes → HasTaken (record s { outcome = result }) bytes
+taken_kept (Ok x) s bytes h = record { read = h.read; well = h.well; looked = h.looked; faultless = h.faultless }
+taken_kept (Err e) s bytes h = h
 
 -- what is refused so is refused however the bytes go on
 pub refused_on : (bytes more : List ℕ) (e : DbFault) → IsRefusedFrom bytes e → IsRefusedFrom (bytes ++ more) e
 refused_on bytes more e h = λ on. subst (λ (b : List ℕ). IsRefusedSo b e) (sym (append_assoc bytes more on)) (h (more ++ on))
 
--- what is refused on the way is refused of the whole piece
-pub refused_at : (bytes piece front more : List ℕ) (n : ℕ) (e : DbFault) → bytes ++ piece ≡ front ++ more → IsRefusedFrom (front ++ take n more) e → IsRefusedFrom (bytes ++ piece) e
-refused_at bytes piece front more n e same h =
-    let whole : (front ++ take n more) ++ drop n more ≡ bytes ++ piece = append_assoc front (take n more) (drop n more) ∙ ap (λ (b : List ℕ). front ++ b) (take-append-drop n more) ∙ sym same in
-    subst (λ (b : List ℕ). IsRefusedFrom b e) whole (refused_on (front ++ take n more) (drop n more) e h)
+pub loads_join : (r s t : WorldReader) (front more : List ℕ) (result : Result ⊤ DbFault) → LoadsOn r front (Ok tt) s → LoadsOn s more result t → LoadsOn r (front ++ more) result t
+loads_join r s t front more result a b = λ bytes h. subst (Loads result t) (append_assoc bytes front more) (b (bytes ++ front) (a bytes h))
+
+pub loads_stop : (r s : WorldReader) (front more : List ℕ) (e : DbFault) → LoadsOn r front (Err e) s → LoadsOn r (front ++ more) (Err e) s
+loads_stop r s front more e a = λ bytes h. subst (Loads (Err e) s) (append_assoc bytes front more) (refused_on (bytes ++ front) more e (a bytes h))

@@ -1,6 +1,6 @@
 -- A refusal of bytes holds for all bytes that begin so, and has consequences for the whole.
-use Rattle.std.proofs.lemmas.List.{take_rest, take-append-drop}
-use Rattle.std.proofs.Common.{◌≡◌, ℕ, ◌+◌, ◌-◌, List, [], ◌∷◌, ◌++◌, length, take, drop, Option, Some, None, Result, Ok, Err, inl, inr, refl, sym, ap, subst, ◌∙◌, append_assoc, arith, MatchOption}
+use Rattle.std.specs.Prelude.{⊤}
+use Rattle.std.proofs.Common.{◌≡◌, ℕ, ◌+◌, ◌-◌, List, [], ◌∷◌, ◌++◌, length, Option, Some, None, Result, Ok, Err, inl, inr, refl, sym, ap, subst, ◌∙◌, append_assoc, arith}
 use Rattle.moo_dbtext_object.specs.Lines.{limited}
 use Rattle.moo_dbtext_object.specs.declared.fault.Refusal.{Refusal}
 use Rattle.moo_dbtext_object.specs.declared.fault.Refusal.TheVariants as refusal
@@ -18,7 +18,7 @@ use Rattle.moo_dbtext_record.proofs.Sources.{finished_text}
 use Rattle.moo_dbtext_read.specs.Says.{AreParsedAs, HasProgramsWithin, programs_of}
 use Rattle.moo_dbtext_read.specs.declared.program_reader.ProgramReader.{ProgramReader}
 use Rattle.moo_dbtext_read.specs.Faults.{AreSoundBefore, through_program}
-use Rattle.moo_dbtext_read.specs.Reading.{IsRecordFault, IsToldProgram, IsRefused, IsBehind, HasRead, IsWell, HasRefused, IsRead}
+use Rattle.moo_dbtext_read.specs.Reading.{IsRecordFault, IsToldProgram, IsRefused, IsBehind, Reads, ReadsOn, HasRead, IsWell, HasRefused, IsRead}
 use Rattle.moo_dbtext_read.proofs.Behind.{parsed_within}
 
 -- ---- the text before a fault
@@ -119,18 +119,29 @@ refused_whole bytes e (inr (inr program)) = inr (inr program)
 -- ---- the calls of a reader
 
 pub read_failed : (r : ProgramReader) (e : DbFault) (bytes : List ℕ) → HasRefused r e → HasRead r bytes → IsRefused bytes (taken_on limited begin bytes) e
-read_failed r e bytes failed h = at r.failed failed h
+read_failed r e bytes failed h = at r.outcome failed h
   where
-    at : (f : Option DbFault) → f ≡ Some e → MatchOption f (IsBehind r bytes) (IsRefused bytes (taken_on limited begin bytes)) → IsRefused bytes (taken_on limited begin bytes) e
-    at None is h = absurd cc
-    at (Some d) is h = subst (IsRefused bytes (taken_on limited begin bytes)) (let same : d ≡ e = cc in same) h
+    at : (o : Result ⊤ DbFault) → o ≡ Err e → Reads o r bytes → IsRefused bytes (taken_on limited begin bytes) e
+    at (Ok x) is h = absurd cc
+    at (Err d) is h = subst (IsRefused bytes (taken_on limited begin bytes)) (let same : d ≡ e = cc in same) h
 
 pub read_well : (r : ProgramReader) (bytes : List ℕ) → IsWell r → HasRead r bytes → IsBehind r bytes
-read_well r bytes well h = at r.failed well h
+read_well r bytes well h = at r.outcome well h
   where
-    at : (f : Option DbFault) → f ≡ None → MatchOption f (IsBehind r bytes) (IsRefused bytes (taken_on limited begin bytes)) → IsBehind r bytes
-    at None is h = h
-    at (Some d) is h = absurd cc
+    at : (o : Result ⊤ DbFault) → o ≡ Ok tt → Reads o r bytes → IsBehind r bytes
+    at (Ok x) is h = h
+    at (Err d) is h = absurd cc
+
+-- the result of the bytes is kept
+pub read_kept : (result : Result ⊤ DbFault) (s : ProgramReader) (bytes : List ℕ) → Reads result s bytes → HasRead (record s { outcome = result }) bytes
+read_kept (Ok x) s bytes h = record { going = h.going; at = h.at; parsed = h.parsed }
+read_kept (Err e) s bytes h = h
+
+pub reads_join : (r s t : ProgramReader) (front more : List ℕ) (result : Result ⊤ DbFault) → ReadsOn r front (Ok tt) s → ReadsOn s more result t → ReadsOn r (front ++ more) result t
+reads_join r s t front more result a b = λ bytes h. subst (Reads result t) (append_assoc bytes front more) (b (bytes ++ front) (a bytes h))
+
+pub reads_stop : (r s : ProgramReader) (front more : List ℕ) (e : DbFault) → ReadsOn r front (Err e) s → ReadsOn r (front ++ more) (Err e) s
+reads_stop r s front more e a = λ bytes h. subst (Reads (Err e) s) (append_assoc bytes front more) (refused_then (bytes ++ front) more e (a bytes h))
 
 -- the text of the whole is what has come
 pub answered_text : (bytes : List ℕ) (s : Taken) (t : Text) → taken_on limited begin bytes ≡ Ok s → answer_to limited bytes ≡ Ok t → s.progress.text ≡ t
@@ -150,13 +161,3 @@ read_says r bytes dump h t a same =
         links = sym (ap (λ (u : Text). u.links) same);
       };
     }
-
--- what is refused on the way is refused of the whole piece
-pub refused_at : (bytes piece front more : List ℕ) (n : ℕ) (e : DbFault) → bytes ++ piece ≡ front ++ more → IsRefused (front ++ take n more) (taken_on limited begin (front ++ take n more)) e → IsRefused (bytes ++ piece) (taken_on limited begin (bytes ++ piece)) e
-refused_at bytes piece front more n e same h =
-    let whole : (front ++ take n more) ++ drop n more ≡ bytes ++ piece = append_assoc front (take n more) (drop n more) ∙ ap (λ (b : List ℕ). front ++ b) (take-append-drop n more) ∙ sym same in
-    subst (λ (b : List ℕ). IsRefused b (taken_on limited begin b) e) whole (refused_then (front ++ take n more) (drop n more) e h)
-
-pub front_grows : (bytes piece front more : List ℕ) (n : ℕ) → bytes ++ piece ≡ front ++ more → bytes ++ piece ≡ (front ++ take n more) ++ take (length more - n) (drop n more)
-front_grows bytes piece front more n same =
-    same ∙ ap (λ (b : List ℕ). front ++ b) (sym (take-append-drop n more)) ∙ sym (append_assoc front (take n more) (drop n more)) ∙ ap (λ (b : List ℕ). (front ++ take n more) ++ b) (sym (take_rest more n))

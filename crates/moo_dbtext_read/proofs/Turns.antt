@@ -104,10 +104,6 @@ line_is_part line h =
 pub clean_is_part : (part : List ℕ) → HasNoEnd part → ends part ≤ 1
 clean_is_part part h = let none = clean_ends part h in omega arith
 
-pub rest_is_part : (checked : Bool) (part : List ℕ) → (checked ≡ true) ⊎ HasNoEnd part → (checked ≡ true) ⊎ IsPart part
-rest_is_part checked part (inl is) = inl is
-rest_is_part checked part (inr clean) = inr (clean_is_part part clean)
-
 -- what is refused of a line before which not all objects had come is refused with objects that haven't all come
 refused_early : (r : WorldReader) (bytes part more : List ℕ) (e : DbFault) → IsLoading r bytes → r.is_checked ≡ false → IsPart part → IsRefused (bytes ++ part) (taken_on limited begin (bytes ++ part)) e → e.kind ≢ kind.Memory
     → HasNoObjectFault ((bytes ++ part) ++ more)
@@ -147,23 +143,17 @@ either_way : (checked : Bool) → (checked ≡ true) ⊎ (checked ≡ false)
 either_way true = inl refl
 either_way false = inr refl
 
-pub piece_refused : (r : WorldReader) (p : ProgramReader) (bytes part : List ℕ) (e : DbFault) → IsLoading r bytes → (r.is_checked ≡ true) ⊎ IsPart part → programs.HasRefused p e → HasRead p (bytes ++ part) → IsRefusedFrom (bytes ++ part) e
-piece_refused r p bytes part e h parts failed read = λ more. inl (record {
+pub piece_refused : (r : WorldReader) (p : ProgramReader) (bytes part : List ℕ) (e : DbFault) → IsLoading r bytes → IsPart part → programs.HasRefused p e → HasRead p (bytes ++ part) → IsRefusedFrom (bytes ++ part) e
+piece_refused r p bytes part e h is_part failed read = λ more. inl (record {
   refused = refused_whole ((bytes ++ part) ++ more) e (refused_then (bytes ++ part) more e refused);
   objects = λ known. elim (either_way r.is_checked) [
     | inl checked ↦ subst HasNoObjectFault (sym (append_assoc bytes part more)) (looked_faultless r bytes (part ++ more) h checked)
-    | inr early ↦ refused_early r bytes part more e h early (is_part early) refused known
+    | inr early ↦ refused_early r bytes part more e h early is_part refused known
   ];
 })
   where
     refused : IsRefused (bytes ++ part) (taken_on limited begin (bytes ++ part)) e
     refused = read_failed p e (bytes ++ part) failed read
-
-    is_part : r.is_checked ≡ false → IsPart part
-    is_part early = elim parts [
-      | inl checked ↦ absurd (let e : true ≡ false = sym checked ∙ early in cc)
-      | inr few ↦ few
-    ]
 
 -- at the end no object of the bytes is at fault
 ended_faultless : (r : WorldReader) (bytes : List ℕ) → IsLoading r bytes → HasNoObjectFault bytes

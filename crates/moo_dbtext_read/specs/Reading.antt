@@ -1,5 +1,5 @@
 -- The state of a reader between two pieces, and its answers.
-use Rattle.std.specs.Prelude.{◌≡◌, ℕ, ◌-◌, List, [], ◌∷◌, ◌++◌, length, Option, Some, None, Result, Ok, Err, ◌⊎◌, MatchOption}
+use Rattle.std.specs.Prelude.{◌≡◌, ℕ, ◌-◌, List, [], ◌∷◌, ◌++◌, length, Option, Some, None, Result, Ok, Err, ◌⊎◌, MatchResult, ⊤}
 use Rattle.moo_syntax_grammar.specs.declared.names.Names.TheVariants.{Any}
 use Rattle.moo_syntax.specs.declared.syntax_fault.SyntaxFaultKind.{SyntaxFaultKind}
 use Rattle.moo_syntax.specs.Programs.{Blames}
@@ -49,17 +49,25 @@ pub record IsToldProgram (bytes : List ℕ) (e : DbFault) : Type 0 where
 abbrev pub IsRefused : {A : Type 0} → List ℕ → Result A Told → DbFault → Type 0
 IsRefused bytes answer e = (e.kind ≡ kind.Memory) ⊎ IsRecordFault bytes answer e ⊎ IsToldProgram bytes e
 
+-- What a reader has done with bytes, given the result: it is in this state, or has refused them.
+abbrev pub Reads : Result ⊤ DbFault → ProgramReader → List ℕ → Type 0
+Reads result r bytes = MatchResult result (λ _. IsBehind r bytes) (IsRefused bytes (taken_on limited begin bytes))
+
+-- From one state, more bytes lead to the result and to another state.
+abbrev pub ReadsOn : ProgramReader → List ℕ → Result ⊤ DbFault → ProgramReader → Type 0
+ReadsOn r more result s = (bytes : List ℕ) → IsBehind r bytes → Reads result s (bytes ++ more)
+
 -- The reader has taken these bytes, in whatever pieces, or has refused them.
 abbrev pub HasRead : ProgramReader → List ℕ → Type 0
-HasRead r bytes = MatchOption r.failed (IsBehind r bytes) (IsRefused bytes (taken_on limited begin bytes))
+HasRead r bytes = Reads r.outcome r bytes
 
 -- No fault has come yet.
 abbrev pub IsWell : ProgramReader → Type 0
-IsWell r = r.failed ≡ None
+IsWell r = r.outcome ≡ Ok tt
 
 -- This fault has come.
 abbrev pub HasRefused : ProgramReader → DbFault → Type 0
-HasRefused r e = r.failed ≡ Some e
+HasRefused r e = r.outcome ≡ Err e
 
 -- how many lines have ended
 abbrev pub lines_of : ProgramReader → ℕ

@@ -1,5 +1,5 @@
 -- A reader of worlds by itself, between two pieces.
-use Rattle.std.specs.Prelude.{◌≡◌, ℕ, true, List, Some, None, MatchOption}
+use Rattle.std.specs.Prelude.{◌≡◌, ◌++◌, ℕ, true, List, Result, Ok, Err, MatchResult, ⊤}
 use Rattle.moo_dbtext_record.specs.Sparing.{has_objects}
 use Rattle.moo_dbtext_record.specs.declared.fault.DbFault.{DbFault}
 use Rattle.moo_dbtext_read.specs.Reading as programs
@@ -15,14 +15,22 @@ pub record IsLoading (r : WorldReader) (bytes : List ℕ) : Type 0 where
   pub looked : r.is_checked ≡ has_objects (place_of r.programs).section
   pub faultless : r.is_checked ≡ true → AreFaultless (place_of r.programs).text.objects
 
+-- What a reader has done with bytes, given the result: it is in this state, or has refused them.
+abbrev pub Loads : Result ⊤ DbFault → WorldReader → List ℕ → Type 0
+Loads result r bytes = MatchResult result (λ _. IsLoading r bytes) (IsRefusedFrom bytes)
+
+-- From one state, more bytes lead to the result and to another state.
+abbrev pub LoadsOn : WorldReader → List ℕ → Result ⊤ DbFault → WorldReader → Type 0
+LoadsOn r more result s = (bytes : List ℕ) → IsLoading r bytes → Loads result s (bytes ++ more)
+
 -- The reader has taken these bytes, in whatever pieces, or has refused them.
 abbrev pub HasTaken : WorldReader → List ℕ → Type 0
-HasTaken r bytes = MatchOption r.failed (IsLoading r bytes) (IsRefusedFrom bytes)
+HasTaken r bytes = Loads r.outcome r bytes
 
 -- No fault has come yet.
 abbrev pub IsGoing : WorldReader → Type 0
-IsGoing r = r.failed ≡ None
+IsGoing r = r.outcome ≡ Ok tt
 
 -- This fault has come.
 abbrev pub HasFailed : WorldReader → DbFault → Type 0
-HasFailed r e = r.failed ≡ Some e
+HasFailed r e = r.outcome ≡ Err e

@@ -4,15 +4,17 @@ ghost use Rattle.moo_dbtext_object.specs.Lines.{Line, limited};
 ghost use Rattle.moo_dbtext_record.specs.Programs.{entry_at};
 ghost use Rattle.moo_dbtext_record.specs.Texts.{text_of};
 ghost use Rattle.moo_dbtext_record.specs.Sparing.{AreAlikeTaken, has_objects};
-ghost use Rattle.moo_dbtext_record.specs.Answer.{IsGoing, IsWholeLine, Stops, HasNoEnd, taken_of, taken_on, begin};
+ghost use Rattle.moo_dbtext_record.specs.Answer.{IsGoing, IsWholeLine, Stops, taken_of, taken_on};
 ghost use Rattle.moo_dbtext_record.specs.declared.fault.DbFault.{DbFault};
 ghost use Rattle.moo_dbtext_read.specs.Says.{IsParsedAs, programs_of};
-ghost use Rattle.moo_dbtext_read.specs.Reading.{IsBehind, IsRefused, HasRead, IsWell, HasRefused, Answers, lines_of, ended_between, verb_at, sources_at, place_of, IsSourceRefused};
+ghost use Rattle.moo_dbtext_read.specs.Reading.{ReadsOn, HasRead, IsWell, HasRefused, Answers, lines_of, ended_between, verb_at, sources_at, place_of, IsSourceRefused};
 
 use crate::database::Database;
 use crate::fault::kind_of_source;
 use crate::program_rows::put_program;
-use moo_dbtext_record::{DbFault, DbFaultKind, Dump, RecordFault, RecordReader, first_line};
+use moo_dbtext_record::{
+    DbFault, DbFaultKind, Dump, LineSink, RecordFault, RecordReader, feed_lines,
+};
 use moo_syntax::{Names, parse_with};
 use moo_syntax_grammar::Program;
 use moo_syntax_token::NameInterner;
@@ -85,7 +87,8 @@ pub struct ProgramReader {
     programs: Vec<Vec<Option<Program>>>,
     /// The names that are used in the programs.
     known: NameInterner,
-    failed: Option<DbFault>,
+    /// Whether all bytes so far were taken, or the first fault.
+    outcome: Result<(), DbFault>,
 }
 
 impl ProgramReader {
@@ -98,7 +101,7 @@ impl ProgramReader {
             records: RecordReader::new(alloc),
             programs: Vec::new(alloc),
             known: NameInterner::new(alloc),
-            failed: None,
+            outcome: Ok(()),
         }
     }
 
@@ -117,7 +120,6 @@ impl ProgramReader {
         ensures refused { IfErr result (λ e. (source : List Line) → entry_at (sources_at self.old.records) object verb ≡ Some source → IsSourceRefused (taken_of self.old.records).lines object verb source e) }
         ensures alike { AreAlikeTaken (taken_of self.old.records) (taken_of self.new.records) }
         ensures going { IsGoing self.old.records → IsGoing self.new.records }
-        ensures same { self.new.failed ≡ self.old.failed }
     {
         let Some(program) = program_of(alloc, &mut self.known, &self.records, object, verb)? else {
             return Ok(());
@@ -140,44 +142,6 @@ impl ProgramReader {
         }
     }
 
-    /// Takes a line with its end.
-    #[inline(always)]
-    fn line(&mut self, alloc: Global, line: &[u8]) -> Result<(), DbFault>
-        requires { IsWholeLine line.now }
-        ensures goes { (bytes : List ℕ) → IsBehind self.old bytes → OnOk result (IsBehind self.new (bytes ++ line.now)) }
-        ensures stops { (bytes : List ℕ) → IsBehind self.old bytes → IfErr result (IsRefused (bytes ++ line.now) (taken_on limited begin (bytes ++ line.now))) }
-        ensures same { self.new.failed ≡ self.old.failed }
-    {
-        match take_line(alloc, &mut self.records, line)? {
-            Some((object, verb)) => self.keep(alloc, object, verb),
-            None => Ok(()),
-        }
-    }
-
-    /// Takes a part of a line, without its end.
-    fn part(&mut self, alloc: Global, part: &[u8]) -> Result<(), DbFault>
-        requires { HasNoEnd part.now }
-        ensures goes { (bytes : List ℕ) → IsBehind self.old bytes → OnOk result (IsBehind self.new (bytes ++ part.now)) }
-        ensures stops { (bytes : List ℕ) → IsBehind self.old bytes → IfErr result (IsRefused (bytes ++ part.now) (taken_on limited begin (bytes ++ part.now))) }
-        ensures same { self.new.failed ≡ self.old.failed }
-    {
-        self.records.feed(alloc, part)?;
-        Ok(())
-    }
-
-    fn take(&mut self, alloc: Global, piece: &[u8]) -> Result<(), DbFault>
-        ensures goes { (bytes : List ℕ) → IsBehind self.old bytes → OnOk result (IsBehind self.new (bytes ++ piece.now)) }
-        ensures stops { (bytes : List ℕ) → IsBehind self.old bytes → IfErr result (IsRefused (bytes ++ piece.now) (taken_on limited begin (bytes ++ piece.now))) }
-        ensures same { self.new.failed ≡ self.old.failed }
-    {
-        let mut more = piece;
-        while let Some(size) = first_line(more) {
-            self.line(alloc, &more[..size])?;
-            more = &more[size..];
-        }
-        self.part(alloc, more)
-    }
-
     /// Takes the next piece of the text. Returns the first fault, of a line or a program, or `Memory`.
     pub fn feed(&mut self, alloc: Global, piece: &[u8]) -> Result<(), DbFault>
         ensures taken { (bytes : List ℕ) → HasRead self.old bytes → HasRead self.new (bytes ++ piece.now) }
@@ -185,14 +149,9 @@ impl ProgramReader {
         ensures failed { IfErr result (HasRefused self.new) }
         ensures again { (e : DbFault) → HasRefused self.old e → IsErrOf result e }
     {
-        if let Some(fault) = self.failed {
-            return Err(fault);
-        }
-        let taken = self.take(alloc, piece);
-        if let Err(fault) = taken {
-            self.failed = Some(fault);
-        }
-        taken
+        self.outcome?;
+        self.outcome = feed_lines(self, alloc, piece);
+        self.outcome
     }
 
     /// Takes the next line with its end, as `feed` does, without a search for the end.
@@ -203,14 +162,9 @@ impl ProgramReader {
         ensures failed { IfErr result (HasRefused self.new) }
         ensures again { (e : DbFault) → HasRefused self.old e → IsErrOf result e }
     {
-        if let Some(fault) = self.failed {
-            return Err(fault);
-        }
-        let taken = self.line(alloc, line);
-        if let Err(fault) = taken {
-            self.failed = Some(fault);
-        }
-        taken
+        self.outcome?;
+        self.outcome = self.take_line(alloc, line);
+        self.outcome
     }
 
     /// Returns what the lines so far hold. The lines of a program are dropped at its dot.
@@ -233,10 +187,27 @@ impl ProgramReader {
         ensures answer { (bytes : List ℕ) → HasRead self bytes → Answers result bytes }
         ensures again { (e : DbFault) → HasRefused self e → IsErrOf result e }
     {
-        if let Some(fault) = self.failed {
-            return Err(fault);
-        }
+        self.outcome?;
         let dump = self.records.finish()?;
         Ok(with_programs(dump, self.programs))
+    }
+}
+
+impl LineSink for ProgramReader {
+    type Fault = DbFault;
+
+    ghost takes = { ReadsOn };
+
+    #[inline(always)]
+    fn take_line(&mut self, alloc: Global, line: &[u8]) -> Result<(), DbFault> {
+        match take_line(alloc, &mut self.records, line)? {
+            Some((object, verb)) => self.keep(alloc, object, verb),
+            None => Ok(()),
+        }
+    }
+
+    fn take_part(&mut self, alloc: Global, part: &[u8]) -> Result<(), DbFault> {
+        self.records.feed(alloc, part)?;
+        Ok(())
     }
 }

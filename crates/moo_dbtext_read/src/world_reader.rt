@@ -1,18 +1,17 @@
 //! A reader of database texts that checks the objects as soon as the last of them has come.
-ghost use Rattle.std.specs.Prelude.{◌≡◌, ◌++◌, ◌⊎◌, ℕ, true, false, List, [], map, option_map, OnOk, IfErr, IsErrOf};
+ghost use Rattle.std.specs.Prelude.{◌≡◌, ◌++◌, ℕ, true, List, [], map, option_map, OnOk, IfErr, IsErrOf};
 ghost use Rattle.moo_dbtext_object.specs.Objects.{object_of};
 ghost use Rattle.moo_dbtext_record.specs.declared.fault.DbFault.{DbFault};
-ghost use Rattle.moo_dbtext_record.specs.Answer.{HasNoEnd, IsWholeLine};
 ghost use Rattle.moo_dbtext_record.specs.Sparing.{has_objects};
 ghost use Rattle.moo_dbtext_read.specs.Reading.{HasRead, IsWell, place_of};
 ghost use Rattle.moo_dbtext_read.specs.Objects.{AreFaultless};
 ghost use Rattle.moo_dbtext_read.specs.Loading.{LoadAnswers, IsRefusedFrom, IsTextUntold};
-ghost use Rattle.moo_dbtext_read.specs.Taking.{IsLoading, HasTaken, IsGoing, HasFailed};
+ghost use Rattle.moo_dbtext_read.specs.Taking.{LoadsOn, HasTaken, IsGoing, HasFailed};
 
 use crate::loading::{load, told};
 use crate::{ProgramReader, Saved};
 use moo_dbtext_object::ObjectRecord;
-use moo_dbtext_record::{DbFault, first_line};
+use moo_dbtext_record::{DbFault, LineSink, feed_lines};
 use moo_dbtext_restore::check_objects;
 use std::alloc::Global;
 
@@ -37,7 +36,8 @@ fn check(
 pub(crate) struct WorldReader {
     programs: ProgramReader,
     is_checked: bool,
-    failed: Option<DbFault>,
+    /// Whether all bytes so far were taken, or the first fault.
+    outcome: Result<(), DbFault>,
 }
 
 impl WorldReader {
@@ -47,7 +47,7 @@ impl WorldReader {
         WorldReader {
             programs: ProgramReader::new(alloc),
             is_checked: false,
-            failed: None,
+            outcome: Ok(()),
         }
     }
 
@@ -64,47 +64,6 @@ impl WorldReader {
         check(alloc, self.programs.lines(), &text.players, &text.objects)
     }
 
-    // Takes a line with its end. Checks the objects if the line ends the last of them.
-    fn line(&mut self, alloc: Global, line: &[u8]) -> Result<(), DbFault>
-        requires whole { IsWholeLine line.now }
-        requires early { self.old.is_checked ≡ false }
-        ensures goes { (bytes : List ℕ) → IsLoading self.old bytes → OnOk result (IsLoading self.new (bytes ++ line.now)) }
-        ensures stops { (bytes : List ℕ) → IsLoading self.old bytes → IfErr result (IsRefusedFrom (bytes ++ line.now)) }
-        ensures same { self.new.failed ≡ self.old.failed }
-    {
-        self.programs.feed_line(alloc, line)?;
-        self.look(alloc)?;
-        self.is_checked = self.programs.has_objects();
-        Ok(())
-    }
-
-    // Takes a part of a line without its end, or any bytes after the objects.
-    fn rest(&mut self, alloc: Global, rest: &[u8]) -> Result<(), DbFault>
-        requires { (self.old.is_checked ≡ true) ⊎ HasNoEnd rest.now }
-        ensures goes { (bytes : List ℕ) → IsLoading self.old bytes → OnOk result (IsLoading self.new (bytes ++ rest.now)) }
-        ensures stops { (bytes : List ℕ) → IsLoading self.old bytes → IfErr result (IsRefusedFrom (bytes ++ rest.now)) }
-        ensures same { self.new.failed ≡ self.old.failed }
-    {
-        self.programs.feed(alloc, rest)
-    }
-
-    // Takes a piece line by line, until the objects have been checked, and then the rest.
-    fn take(&mut self, alloc: Global, piece: &[u8]) -> Result<(), DbFault>
-        ensures goes { (bytes : List ℕ) → IsLoading self.old bytes → OnOk result (IsLoading self.new (bytes ++ piece.now)) }
-        ensures stops { (bytes : List ℕ) → IsLoading self.old bytes → IfErr result (IsRefusedFrom (bytes ++ piece.now)) }
-        ensures same { self.new.failed ≡ self.old.failed }
-    {
-        let mut more = piece;
-        while !self.is_checked {
-            let Some(size) = first_line(more) else {
-                return self.rest(alloc, more);
-            };
-            self.line(alloc, &more[..size])?;
-            more = &more[size..];
-        }
-        self.rest(alloc, more)
-    }
-
     pub(crate) fn feed(&mut self, alloc: Global, piece: &[u8]) -> Result<(), DbFault>
         ensures taken { (bytes : List ℕ) → HasTaken self.old bytes → HasTaken self.new (bytes ++ piece.now) }
         ensures ok { OnOk result (IsGoing self.new) }
@@ -112,14 +71,9 @@ impl WorldReader {
         ensures refused { (bytes : List ℕ) → HasTaken self.old bytes → IfErr result (IsRefusedFrom (bytes ++ piece.now)) }
         ensures again { (e : DbFault) → HasFailed self.old e → IsErrOf result e }
     {
-        if let Some(fault) = self.failed {
-            return Err(fault);
-        }
-        let taken = self.take(alloc, piece);
-        if let Err(fault) = taken {
-            self.failed = Some(fault);
-        }
-        taken
+        self.outcome?;
+        self.outcome = feed_lines(self, alloc, piece);
+        self.outcome
     }
 
     /// Returns the saved world of the bytes so far. Frees the memory of its records, or leaks it if `is_left`.
@@ -128,11 +82,29 @@ impl WorldReader {
         ensures answer { (bytes : List ℕ) → HasTaken self bytes → LoadAnswers result bytes }
         ensures again { (e : DbFault) → HasFailed self e → IsErrOf result e }
     {
-        if let Some(fault) = self.failed {
-            return Err(fault);
-        }
+        self.outcome?;
         let lines = self.programs.lines();
         let database = self.programs.finish()?;
         load(alloc, lines, database, is_left)
+    }
+}
+
+impl LineSink for WorldReader {
+    type Fault = DbFault;
+
+    ghost takes = { LoadsOn };
+
+    // Checks the objects if the line ends the last of them.
+    fn take_line(&mut self, alloc: Global, line: &[u8]) -> Result<(), DbFault> {
+        self.programs.feed_line(alloc, line)?;
+        if !self.is_checked {
+            self.look(alloc)?;
+            self.is_checked = self.programs.has_objects();
+        }
+        Ok(())
+    }
+
+    fn take_part(&mut self, alloc: Global, part: &[u8]) -> Result<(), DbFault> {
+        self.programs.feed(alloc, part)
     }
 }

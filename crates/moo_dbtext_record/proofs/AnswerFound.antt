@@ -5,7 +5,6 @@ use Rattle.std.proofs.lemmas.Bool.{eqb-true, ltb-true}
 use Rattle.std.proofs.lemmas.List.{append-nil, length-append}
 use Rattle.std.proofs.lemmas.List.Elements.{All-nil}
 use Rattle.moo_value.specs.Tree.{IsText, IsTextByte}
-use Rattle.moo_value.specs.Size.{IsString}
 use Rattle.moo_dbtext_object.specs.declared.fault.LineFault.{LineFault}
 use Rattle.moo_dbtext_object.specs.declared.fault.LineFault.TheVariants.{Truncated}
 use Rattle.moo_dbtext_object.specs.Lines.{Line, Sizes, unlimited, limited, IsStringOf, IsCountOf, unlines}

@@ -1,5 +1,6 @@
 pub mod HeadingLaws
 pub mod TakenLaws
+pub mod CuttingLaws
 pub mod TableLaws
 pub mod HeadingAgain
 pub mod DumpCut

@@ -1,5 +1,5 @@
 -- What is read does not rest on the sources that have come: a reader that dropped some goes on alike.
-use Rattle.std.proofs.Common.{◌≡◌, ℕ, zero, suc, ◌+◌, Bool, true, false, cond, eqb, ltb, List, [], ◌∷◌, ◌++◌, length, map, Option, Some, None, Result, Ok, Err, refl, sym, ap, subst, ◌∙◌}
+use Rattle.std.proofs.Common.{◌≡◌, ℕ, zero, suc, ◌+◌, Bool, true, false, cond, eqb, ltb, List, [], ◌∷◌, ◌++◌, length, Option, Some, None, Result, Ok, Err, refl, sym, ap, subst, ◌∙◌}
 use Rattle.std.specs.Prelude.{is_some, slice_index_or, codes}
 use Rattle.std.specs.Str.{bytes_eq}
 use Rattle.std.proofs.lemmas.List.{map-append}
@@ -15,7 +15,7 @@ use Rattle.moo_dbtext_record.specs.Texts.{Text, text_of as text_of_dump}
 use Rattle.moo_dbtext_record.specs.Headings.{version_of, head_of, open_verb, verb_named, program_head_of, tasks_of, connection_count_of, connection_of}
 use Rattle.moo_dbtext_record.specs.DumpReading.{Progress, verb_read, with_object, after_programs, after_objects, after_players, after_connections, after_head, after_object_line, after_source, dump_step, end_of, ended}
 use Rattle.moo_dbtext_record.specs.Answer.{Told, Taken, told, and_then, line_ended, taken_on, unended, finished, finished_with, begin, answer_to, taken_of, StopsAt, Stops, Answers}
-use Rattle.moo_dbtext_record.specs.Sparing.{row_marks, marks_of, outline, outline_read, AreAlike, AreAlikeTaken, IsAt, AnswersBut}
+use Rattle.moo_dbtext_record.specs.Sparing.{row_marks, marks_of, outline, AreAlike, AreAlikeTaken, IsAt, AnswersBut}
 use Rattle.moo_dbtext_record.specs.declared.dump.Dump.{Dump}
 use Rattle.moo_dbtext_record.specs.declared.dump_reader.Section.{Section}
 use Rattle.moo_dbtext_record.specs.declared.dump_reader.Section.TheVariants as section

@@ -1,9 +1,13 @@
 -- Bytes that are taken one after another, and lines among them.
-use Rattle.std.proofs.Common.{◌≡◌, ℕ, suc, ◌+◌, ◌-◌, ◌<◌, Bool, true, false, cond, eqb, List, [], ◌∷◌, ◌++◌, length, take, drop, Option, Some, None, Result, Ok, Err, refl, sym, ap, subst, ◌∙◌, append_assoc, arith, MatchOption}
+use Rattle.std.proofs.Common.{◌≡◌, ℕ, suc, ◌-◌, Bool, true, false, cond, eqb, List, [], ◌∷◌, ◌++◌, length, take, Result, Ok, Err, refl, sym, ap, subst, ◌∙◌, append_assoc, arith, MatchResult}
+use Rattle.std.specs.Prelude.{⊤}
 use Rattle.std.proofs.lemmas.Bool.{ne_eqb}
-use Rattle.std.proofs.lemmas.List.{append-nil, length-append, take_all, take_rest, take-append-drop, take-append-le}
-use Rattle.moo_dbtext_object.specs.Lines.{Line, Sizes}
-use Rattle.moo_dbtext_record.specs.Answer.{Told, Taken, and_then, line_ended, taken_on, finished, begin, answer_to, StopsAt, Stops, HasNoEnd, IsWholeLine}
+use Rattle.std.proofs.lemmas.List.{append-nil, length-append, take_all, take-append-le}
+use Rattle.moo_dbtext_object.specs.Lines.{Line, Sizes, limited}
+use Rattle.moo_dbtext_record.specs.Answer.{Told, Taken, and_then, line_ended, taken_on, finished, begin, answer_to, StopsAt, Stops, HasNoEnd, IsWholeLine, Answers, TakesOn, taken_of}
+use Rattle.moo_dbtext_record.specs.Cutting.{Feeds}
+use Rattle.moo_dbtext_record.proofs.CuttingLaws.{fed_whole}
+use Rattle.moo_dbtext_record.specs.declared.record_reader.RecordReader.{RecordReader}
 use Rattle.moo_dbtext_object.specs.declared.fault.Refusal.{Refusal}
 use Rattle.moo_dbtext_object.specs.declared.fault.Refusal.TheVariants as refusal
 use Rattle.moo_dbtext_record.specs.declared.record_reader.RecordFault.{RecordFault}
@@ -65,37 +69,42 @@ whole_taken z s bytes h =
 
 -- ---- the first bytes, and those after them
 
-parts_taken : (z : Sizes) (s : Taken) (bytes : List ℕ) (n : ℕ) → taken_on z s bytes ≡ and_then (taken_on z s (take n bytes)) (λ t. taken_on z t (drop n bytes))
-parts_taken z s bytes n = ap (taken_on z s) (sym (take-append-drop n bytes)) ∙ taken_on-append z s (take n bytes) (drop n bytes)
+pub answers_join : (s t u : Taken) (front rest : List ℕ) (result : Result ⊤ RecordFault) → taken_on limited s front ≡ Ok t → Answers (λ _. u) result (taken_on limited t rest) → Answers (λ _. u) result (taken_on limited s (front ++ rest))
+answers_join s t u front rest result goes h =
+    subst (Answers (λ _. u) result) (sym (taken_on-append limited s front rest ∙ ap (λ (r : Result Taken Told). and_then r (λ v. taken_on limited v rest)) goes)) h
 
-pub front_stops : (z : Sizes) (e : RecordFault) (s : Taken) (bytes : List ℕ) (n : ℕ) (total : Result Taken Told) → taken_on z s bytes ≡ total → Stops e (taken_on z s (take n bytes)) → Stops e total
-front_stops z e s bytes n total so_far stops =
-    subst (Stops e) (sym (parts_taken z s bytes n) ∙ so_far) (stops_then e.kind e.line (taken_on z s (take n bytes)) (λ t. taken_on z t (drop n bytes)) stops)
-
-pub front_goes_on : (z : Sizes) (s t : Taken) (bytes : List ℕ) (n : ℕ) (total : Result Taken Told) → taken_on z s bytes ≡ total → taken_on z s (take n bytes) ≡ Ok t → taken_on z t (take (length bytes - n) (drop n bytes)) ≡ total
-front_goes_on z s t bytes n total so_far goes =
-    ap (taken_on z t) (take_rest bytes n) ∙ sym (parts_taken z s bytes n ∙ ap (λ (r : Result Taken Told). and_then r (λ u. taken_on z u (drop n bytes))) goes) ∙ so_far
+pub stops_on : (s : Taken) (front rest : List ℕ) (e : RecordFault) → Stops e (taken_on limited s front) → Stops e (taken_on limited s (front ++ rest))
+stops_on s front rest e stops =
+    subst (Stops e) (sym (taken_on-append limited s front rest)) (stops_then e.kind e.line (taken_on limited s front) (λ t. taken_on limited t rest) stops)
 
 -- ---- the calls of a reader
 
-pub fails_on : (z : Sizes) → {A : Type 0} (failed : Option RecordFault) (e : RecordFault) (s : Taken) (bytes : List ℕ) (f : Taken → Result A Told) → failed ≡ Some e → MatchOption failed (taken_on z begin bytes ≡ Ok s) (λ d. Stops d (taken_on z begin bytes)) → Stops e (and_then (taken_on z begin bytes) f)
-fails_on z None e s bytes f is h = absurd cc
-fails_on z (Some d) e s bytes f is h = let same : d ≡ e = cc in subst (λ (x : RecordFault). Stops x (and_then (taken_on z begin bytes) f)) same (stops_then d.kind d.line (taken_on z begin bytes) f h)
+pub fails_on : (z : Sizes) → {A : Type 0} (outcome : Result ⊤ RecordFault) (e : RecordFault) (s : Taken) (bytes : List ℕ) (f : Taken → Result A Told) → outcome ≡ Err e → MatchResult outcome (λ _. taken_on z begin bytes ≡ Ok s) (λ d. Stops d (taken_on z begin bytes)) → Stops e (and_then (taken_on z begin bytes) f)
+fails_on z (Ok x) e s bytes f is h = absurd cc
+fails_on z (Err d) e s bytes f is h = let same : d ≡ e = cc in subst (λ (x : RecordFault). Stops x (and_then (taken_on z begin bytes) f)) same (stops_then d.kind d.line (taken_on z begin bytes) f h)
 
-pub goes_on : (z : Sizes) → {A : Type 0} (failed : Option RecordFault) (s : Taken) (bytes : List ℕ) (f : Taken → Result A Told) → failed ≡ None → MatchOption failed (taken_on z begin bytes ≡ Ok s) (λ d. Stops d (taken_on z begin bytes)) → and_then (taken_on z begin bytes) f ≡ f s
-goes_on z None s bytes f is h = ap (λ r. and_then r f) h
-goes_on z (Some d) s bytes f is h = absurd cc
+pub goes_on : (z : Sizes) → {A : Type 0} (outcome : Result ⊤ RecordFault) (s : Taken) (bytes : List ℕ) (f : Taken → Result A Told) → outcome ≡ Ok tt → MatchResult outcome (λ _. taken_on z begin bytes ≡ Ok s) (λ d. Stops d (taken_on z begin bytes)) → and_then (taken_on z begin bytes) f ≡ f s
+goes_on z (Ok x) s bytes f is h = ap (λ r. and_then r f) h
+goes_on z (Err d) s bytes f is h = absurd cc
 
-pub finish_fails : (z : Sizes) → (failed : Option RecordFault) (e : RecordFault) (s : Taken) (bytes : List ℕ) → failed ≡ Some e → MatchOption failed (taken_on z begin bytes ≡ Ok s) (λ d. Stops d (taken_on z begin bytes)) → Stops e (answer_to z bytes)
+pub finish_fails : (z : Sizes) → (outcome : Result ⊤ RecordFault) (e : RecordFault) (s : Taken) (bytes : List ℕ) → outcome ≡ Err e → MatchResult outcome (λ _. taken_on z begin bytes ≡ Ok s) (λ d. Stops d (taken_on z begin bytes)) → Stops e (answer_to z bytes)
 unfolding answer_to
-finish_fails z failed e s bytes is h = fails_on z failed e s bytes finished is h
+finish_fails z outcome e s bytes is h = fails_on z outcome e s bytes finished is h
 
-pub finish_answers : (z : Sizes) → (failed : Option RecordFault) (s : Taken) (bytes : List ℕ) → failed ≡ None → MatchOption failed (taken_on z begin bytes ≡ Ok s) (λ d. Stops d (taken_on z begin bytes)) → answer_to z bytes ≡ finished s
+pub finish_answers : (z : Sizes) → (outcome : Result ⊤ RecordFault) (s : Taken) (bytes : List ℕ) → outcome ≡ Ok tt → MatchResult outcome (λ _. taken_on z begin bytes ≡ Ok s) (λ d. Stops d (taken_on z begin bytes)) → answer_to z bytes ≡ finished s
 unfolding answer_to
-finish_answers z failed s bytes is h = goes_on z failed s bytes finished is h
+finish_answers z outcome s bytes is h = goes_on z outcome s bytes finished is h
 
-pub feed_fails : (z : Sizes) → (failed : Option RecordFault) (e : RecordFault) (s : Taken) (bytes piece : List ℕ) → failed ≡ Some e → MatchOption failed (taken_on z begin bytes ≡ Ok s) (λ d. Stops d (taken_on z begin bytes)) → Stops e (taken_on z begin (bytes ++ piece))
-feed_fails z failed e s bytes piece is h = subst (Stops e) (sym (taken_on-append z begin bytes piece)) (fails_on z failed e s bytes (λ t. taken_on z t piece) is h)
+pub feed_fails : (z : Sizes) → (outcome : Result ⊤ RecordFault) (e : RecordFault) (s : Taken) (bytes piece : List ℕ) → outcome ≡ Err e → MatchResult outcome (λ _. taken_on z begin bytes ≡ Ok s) (λ d. Stops d (taken_on z begin bytes)) → Stops e (taken_on z begin (bytes ++ piece))
+feed_fails z outcome e s bytes piece is h = subst (Stops e) (sym (taken_on-append z begin bytes piece)) (fails_on z outcome e s bytes (λ t. taken_on z t piece) is h)
 
-pub feed_goes_on : (z : Sizes) → (failed : Option RecordFault) (s : Taken) (bytes piece : List ℕ) → failed ≡ None → MatchOption failed (taken_on z begin bytes ≡ Ok s) (λ d. Stops d (taken_on z begin bytes)) → taken_on z begin (bytes ++ piece) ≡ taken_on z s piece
-feed_goes_on z failed s bytes piece is h = taken_on-append z begin bytes piece ∙ goes_on z failed s bytes (λ t. taken_on z t piece) is h
+pub feed_goes_on : (z : Sizes) → (outcome : Result ⊤ RecordFault) (s : Taken) (bytes piece : List ℕ) → outcome ≡ Ok tt → MatchResult outcome (λ _. taken_on z begin bytes ≡ Ok s) (λ d. Stops d (taken_on z begin bytes)) → taken_on z begin (bytes ++ piece) ≡ taken_on z s piece
+feed_goes_on z outcome s bytes piece is h = taken_on-append z begin bytes piece ∙ goes_on z outcome s bytes (λ t. taken_on z t piece) is h
+
+pub fed : (outcome : Result ⊤ RecordFault) (s t : Taken) (bytes piece : List ℕ) (result : Result ⊤ RecordFault) → outcome ≡ Ok tt → MatchResult outcome (λ _. taken_on limited begin bytes ≡ Ok s) (λ d. Stops d (taken_on limited begin bytes)) → Answers (λ _. t) result (taken_on limited s piece) → MatchResult result (λ _. taken_on limited begin (bytes ++ piece) ≡ Ok t) (λ d. Stops d (taken_on limited begin (bytes ++ piece)))
+fed outcome s t bytes piece (Ok x) is h a = feed_goes_on limited outcome s bytes piece is h ∙ a
+fed outcome s t bytes piece (Err e) is h a = subst (Stops e) (sym (feed_goes_on limited outcome s bytes piece is h)) a
+
+pub taken_whole : (r s : RecordReader) (piece : List ℕ) (result : Result ⊤ RecordFault) → Feeds TakesOn r piece result s → TakesOn r piece result s
+taken_whole r s piece result h =
+    fed_whole TakesOn (λ a b c front more end goes then. answers_join (taken_of a) (taken_of b) (taken_of c) front more end goes then) (λ a b front more e stops. stops_on (taken_of a) front more e stops) r s piece result h

@@ -1,5 +1,5 @@
 -- The answer of reading a text, and the state of a reader between two pieces.
-use Rattle.std.specs.Prelude.{◌≡◌, ◌≢◌, ◌<◌, length, slice_index, ℕ, ◌+◌, ◌==◌, zero, suc, List, [], ◌∷◌, ◌++◌, Some, None, Result, Ok, Err, MatchOption, if◌then◌else◌}
+use Rattle.std.specs.Prelude.{◌≡◌, ◌≢◌, ◌<◌, length, slice_index, ℕ, ◌+◌, ◌==◌, zero, suc, List, [], ◌∷◌, ◌++◌, Result, Ok, Err, MatchResult, ⊤, if◌then◌else◌}
 use Rattle.moo_dbtext_object.specs.Lines.{Line, Sizes, limited, unlimited}
 use Rattle.moo_dbtext_record.specs.Texts.{Text}
 use Rattle.moo_dbtext_record.specs.DumpReading.{Progress, progress_of, dump_step, ended, start}
@@ -88,17 +88,21 @@ Answers view (Err e) answer = Stops e answer
 abbrev pub taken_of : RecordReader → Taken
 taken_of r = record { lines = r.lines; progress = progress_of r.reader; rest = r.rest.items }
 
+-- From one state, bytes lead to the result and to another state.
+abbrev pub TakesOn : RecordReader → List ℕ → Result ⊤ RecordFault → RecordReader → Type 0
+TakesOn r bytes result s = Answers (λ _. taken_of s) result (taken_on limited (taken_of r) bytes)
+
 -- The reader has taken these bytes, in whatever pieces, or has failed at their fault.
 abbrev pub HasTaken : RecordReader → List ℕ → Type 0
-HasTaken r bytes = MatchOption r.failed (taken_on limited begin bytes ≡ Ok (taken_of r)) (λ e. Stops e (taken_on limited begin bytes))
+HasTaken r bytes = MatchResult r.outcome (λ _. taken_on limited begin bytes ≡ Ok (taken_of r)) (λ e. Stops e (taken_on limited begin bytes))
 
 -- No fault has come yet.
 abbrev pub IsGoing : RecordReader → Type 0
-IsGoing r = r.failed ≡ None
+IsGoing r = r.outcome ≡ Ok tt
 
 -- This fault has come.
 abbrev pub HasFailed : RecordReader → RecordFault → Type 0
-HasFailed r e = r.failed ≡ Some e
+HasFailed r e = r.outcome ≡ Err e
 
 -- the bytes of the first n lines
 abbrev pub front_lines : ℕ → List ℕ → List ℕ

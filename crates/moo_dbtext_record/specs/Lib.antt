@@ -6,6 +6,7 @@ pub mod Texts
 pub mod Headings
 pub mod DumpReading
 pub mod Answer
+pub mod Cutting
 pub mod Sparing
 pub mod Placing
 -- Writing a text.

@@ -1,17 +1,16 @@
 //! A reader of whole texts that come in pieces.
-ghost use Rattle.std.specs.Prelude.{◌≡◌, ◌<◌, ◌≤◌, ℕ, ◌++◌, List, [], Ok, Some, None, take, length, OnOk, IfErr, IfSome, IsErrOf, MatchOption};
-ghost use Rattle.memchr.specs.Find.{IsFirstByte, is_byte};
+ghost use Rattle.std.specs.Prelude.{◌≡◌, ℕ, ◌++◌, List, [], Some, None, OnOk, IfErr, IsErrOf, MatchOption};
 ghost use Rattle.moo_dbtext_object.specs.Lines.{Gives, limited};
 ghost use Rattle.moo_dbtext_record.specs.Texts.{text_of};
 ghost use Rattle.moo_dbtext_record.specs.declared.record_reader.RecordFault.{RecordFault};
 ghost use Rattle.moo_dbtext_record.specs.DumpReading.{progress_of, verb_read, dump_step};
 ghost use Rattle.moo_dbtext_record.specs.Programs.{entry_at};
 ghost use Rattle.moo_dbtext_record.specs.Sparing.{AreAlikeTaken, IsAt, AnswersBut, has_objects};
-ghost use Rattle.moo_dbtext_record.specs.Answer.{Answers, HasTaken, IsGoing, HasFailed, taken_of, taken_on, line_ended, finished, answer_to, HasNoEnd, IsWholeLine};
+ghost use Rattle.moo_dbtext_record.specs.Answer.{Answers, TakesOn, HasTaken, IsGoing, HasFailed, taken_of, taken_on, line_ended, finished, answer_to, IsWholeLine};
 
 use crate::dump::Dump;
 use crate::dump_reader::DumpReader;
-use memchr::memchr;
+use crate::line_sink::{LineSink, feed_lines};
 use moo_dbtext_object::{LineFault, Refusal};
 use moo_value::MooStr;
 use std::alloc::Global;
@@ -25,42 +24,14 @@ pub struct RecordFault {
     pub kind: Refusal,
 }
 
-/// The number of bytes to compare one by one. Most lines are short numbers, and `memchr` takes longer to start.
-const NEARBY: usize = 8;
-
-// Returns the index of the first line end, if it is among the first `NEARBY` bytes and there are that many.
-fn end_nearby(bytes: &[u8]) -> Option<usize>
-    ensures { IfSome result (λ at. IsFirstByte (is_byte 10) bytes.now (Some at)) }
-{
-    if bytes.len() < NEARBY {
-        return None;
-    }
-    for at in 0..NEARBY {
-        if bytes[at] == b'\n' {
-            return Some(at);
-        }
-    }
-    None
-}
-
-/// Returns the length of the first line with its end, or `None` if no line ends.
-pub fn first_line(bytes: &[u8]) -> Option<usize>
-    ensures { MatchOption result (HasNoEnd bytes.now) (λ n. (0 < n) × (n ≤ length bytes.now) × IsWholeLine (take n bytes.now)) }
-{
-    if let Some(at) = end_nearby(bytes) {
-        return Some(at + 1);
-    }
-    let at = memchr(b'\n', bytes)?;
-    Some(at + 1)
-}
-
 /// Reads a text in pieces. After a fault each call returns that fault.
 #[derive(Drop)]
 pub struct RecordReader {
     lines: u64,
     reader: DumpReader,
     rest: Vec<u8>,
-    failed: Option<RecordFault>,
+    /// Whether all bytes so far were taken, or the first fault.
+    outcome: Result<(), RecordFault>,
 }
 
 impl RecordReader {
@@ -74,7 +45,7 @@ impl RecordReader {
             lines: 0,
             reader: DumpReader::new(alloc),
             rest: Vec::new(alloc),
-            failed: None,
+            outcome: Ok(()),
         }
     }
 
@@ -124,9 +95,9 @@ impl RecordReader {
 
     /// Takes the line that ends with these bytes.
     #[inline(always)]
-    fn line(&mut self, alloc: Global, tail: &[u8]) -> Result<(), Refusal>
+    fn step(&mut self, alloc: Global, tail: &[u8]) -> Result<(), Refusal>
         ensures steps { Gives (λ _. progress_of self.new.reader) result (dump_step limited self.old.reader.section (progress_of self.old.reader) (self.old.rest.items ++ tail.now)) }
-        ensures same { (self.new.lines ≡ self.old.lines) × OnOk result (self.new.rest.items ≡ []) × (self.new.failed ≡ self.old.failed) }
+        ensures same { (self.new.lines ≡ self.old.lines) × OnOk result (self.new.rest.items ≡ []) }
     {
         if self.rest.is_empty() {
             return self.reader.step(alloc, tail);
@@ -140,8 +111,7 @@ impl RecordReader {
     #[inline(always)]
     #[tactic(auto, unfolding(crate::specs::Answer::line_ended))]
     fn end_line(&mut self, alloc: Global, tail: &[u8]) -> Result<(), RecordFault>
-        ensures steps { Answers (λ _. taken_of self.new) result (line_ended limited (taken_of self.old) (self.old.rest.items ++ tail.now)) }
-        ensures same { self.new.failed ≡ self.old.failed }
+        ensures { Answers (λ _. taken_of self.new) result (line_ended limited (taken_of self.old) (self.old.rest.items ++ tail.now)) }
     {
         let Some(line) = self.lines.checked_add(1) else {
             return Err(RecordFault {
@@ -149,40 +119,12 @@ impl RecordReader {
                 kind: Refusal::Memory,
             });
         };
-        match self.line(alloc, tail) {
+        match self.step(alloc, tail) {
             Ok(()) => {
                 self.lines = line;
                 Ok(())
             }
             Err(kind) => Err(RecordFault { line, kind }),
-        }
-    }
-
-    /// Takes a line with its end.
-    #[inline(always)]
-    fn whole(&mut self, alloc: Global, line: &[u8]) -> Result<(), RecordFault>
-        requires { IsWholeLine line.now }
-        ensures steps { Answers (λ _. taken_of self.new) result (taken_on limited (taken_of self.old) line.now) }
-        ensures same { self.new.failed ≡ self.old.failed }
-    {
-        self.end_line(alloc, &line[..line.len() - 1])
-    }
-
-    fn take(&mut self, alloc: Global, piece: &[u8]) -> Result<(), RecordFault>
-        ensures steps { Answers (λ _. taken_of self.new) result (taken_on limited (taken_of self.old) piece.now) }
-        ensures same { self.new.failed ≡ self.old.failed }
-    {
-        let mut more = piece;
-        while let Some(size) = first_line(more) {
-            self.whole(alloc, &more[..size])?;
-            more = &more[size..];
-        }
-        match self.rest.extend_from_slice(more) {
-            Ok(()) => Ok(()),
-            Err(_) => Err(RecordFault {
-                line: self.lines.saturating_add(1),
-                kind: Refusal::Memory,
-            }),
         }
     }
 
@@ -195,14 +137,9 @@ impl RecordReader {
         ensures failed { IfErr result (HasFailed self.new) }
         ensures again { (e : RecordFault) → HasFailed self.old e → IsErrOf result e }
     {
-        if let Some(fault) = self.failed {
-            return Err(fault);
-        }
-        let taken = self.take(alloc, piece);
-        if let Err(fault) = taken {
-            self.failed = Some(fault);
-        }
-        taken
+        self.outcome?;
+        self.outcome = feed_lines(self, alloc, piece);
+        self.outcome
     }
 
     /// Takes the next line with its end, as `feed` does, without a search for the end.
@@ -215,14 +152,9 @@ impl RecordReader {
         ensures failed { IfErr result (HasFailed self.new) }
         ensures again { (e : RecordFault) → HasFailed self.old e → IsErrOf result e }
     {
-        if let Some(fault) = self.failed {
-            return Err(fault);
-        }
-        let taken = self.whole(alloc, line);
-        if let Err(fault) = taken {
-            self.failed = Some(fault);
-        }
-        taken
+        self.outcome?;
+        self.outcome = self.take_line(alloc, line);
+        self.outcome
     }
 
     #[tactic(auto, unfolding(crate::specs::Answer::finished))]
@@ -253,9 +185,28 @@ impl RecordReader {
         ensures spare { IsGoing self → (text : List ℕ) → IsAt self text → AnswersBut result (answer_to limited text) }
         ensures again { (e : RecordFault) → HasFailed self e → IsErrOf result e }
     {
-        if let Some(fault) = self.failed {
-            return Err(fault);
-        }
+        self.outcome?;
         self.end()
+    }
+}
+
+impl LineSink for RecordReader {
+    type Fault = RecordFault;
+
+    ghost takes = { TakesOn };
+
+    #[inline(always)]
+    fn take_line(&mut self, alloc: Global, line: &[u8]) -> Result<(), RecordFault> {
+        self.end_line(alloc, &line[..line.len() - 1])
+    }
+
+    fn take_part(&mut self, _alloc: Global, part: &[u8]) -> Result<(), RecordFault> {
+        match self.rest.extend_from_slice(part) {
+            Ok(()) => Ok(()),
+            Err(_) => Err(RecordFault {
+                line: self.lines.saturating_add(1),
+                kind: Refusal::Memory,
+            }),
+        }
     }
 }

@@ -1,8 +1,8 @@
--- Connections for which nothing is pending.
-use Rattle.std.proofs.Common.{◌≡◌, ℕ, suc, Bool, true, false, List, [], ◌∷◌, ◌++◌, Contains, refl, sym, ◌∙◌, ap, subst, arith}
-use Rattle.std.specs.Prelude.{◌==◌, ◌||◌}
+-- Connections for which something is pending, and those for which nothing is.
+use Rattle.std.proofs.Common.{◌≡◌, ℕ, ◌<◌, suc, zero, Bool, true, false, List, [], ◌∷◌, ◌++◌, length, Contains, refl, sym, ◌∙◌, ap, subst, arith}
+use Rattle.std.specs.Prelude.{◌==◌, ◌||◌, slice_index_or}
 use Rattle.std.specs.List.{list_any}
-use Rattle.std.proofs.lemmas.Bool.{eqb-true, true≢false}
+use Rattle.std.proofs.lemmas.Bool.{eq-eqb, eqb-true, true≢false}
 use Rattle.std.proofs.lemmas.List.Elements.{Contains-append_left, Contains-append_right}
 use Rattle.moo_session_connection.specs.Clients.{is_number}
 
@@ -26,3 +26,16 @@ none_leaves numbers leaving all c is none = by_test (list_any (is_number c) leav
 -- nor is it in the first part
 pub none_first : (numbers leaving all : List ℕ) (c : ℕ) → all ≡ numbers ++ leaving → (Contains all c → ⊥) → Contains numbers c → ⊥
 none_first numbers leaving all c is none there = none (subst (λ (ns : List ℕ). Contains ns c) (sym is) (Contains-append_left numbers leaving c there))
+
+or_right : (a b : Bool) → b ≡ true → (a || b) ≡ true
+or_right true b is = refl
+or_right false b is = is
+
+listed : (numbers : List ℕ) (c k : ℕ) → k < length numbers → slice_index_or numbers k c ≡ c → list_any (is_number c) numbers ≡ true
+listed [] c k lt is = absurd (omega (arith, lt))
+listed (x ∷ xs) c zero lt is = ap (λ (b : Bool). b || list_any (is_number c) xs) (eq-eqb x c is)
+listed (x ∷ xs) c (suc k) lt is = or_right (x == c) (list_any (is_number c) xs) (listed xs c k (omega (arith, lt)) is)
+
+-- a number that is in the second part is leaving
+pub leaves : (leaving : List ℕ) (c : ℕ) → Contains leaving c → list_any (is_number c) leaving ≡ true
+leaves leaving c there = listed leaving c there.0 there.1 there.2

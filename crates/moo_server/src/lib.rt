@@ -7,7 +7,7 @@ pub mod laws;
 mod lives;
 mod moo_application;
 
-pub use lives::run_lives;
+pub use lives::{run_lives, run_lives_on};
 pub use moo_application::MooApplication;
 pub use moo_checkpoint::OpenFault;
 pub use moo_disk::CrashDisk;

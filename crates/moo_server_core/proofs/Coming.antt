@@ -13,6 +13,7 @@ use Rattle.moo_server_core.specs.declared.server_core.ServerCore.{ServerCore}
 use Rattle.moo_server_core.specs.Server.{Lived, state_of, traces_under, turns_of, with_disk}
 use Rattle.moo_server_core.proofs.Marked.{last_taken, run_split}
 use Rattle.moo_dbtext_read.specs.Saved.{Saved}
+use Rattle.moo_server_core.proofs.Idle.{second_and}
 use Rattle.moo_server_core.proofs.Running.{traces-append}
 
 -- one turn at most
@@ -21,15 +22,14 @@ step : (flush : Bool) (left rest : ℕ) → (left ≡ 1 → flush ≡ true → �
 step true left rest not_last some enough = let not_one : left ≢ 1 = λ is. not_last is refl in (omega arith, omega arith)
 step false left rest not_last some enough = (omega arith, omega arith)
 
-second_and : (a b c : Bool) → ((a && b) && c) ≡ true → b ≡ true
-second_and true true c is = refl
-second_and true false c is = is
-second_and false true c is = refl
-second_and false false c is = is
-
 pub in_time_behind : (left : ℕ) (es es' : List Trace) → IsInTime left (es ++ es') → IsInTime (turns_left_after left es) es'
 in_time_behind left [] es' in_time = in_time
 in_time_behind left (e ∷ es) es' in_time = in_time_behind (turns_after left e) es es' in_time.2
+
+-- what is in time is so up to any event
+in_time_front : (left : ℕ) (es es' : List Trace) → IsInTime left (es ++ es') → IsInTime left es
+in_time_front left [] es' in_time = tt
+in_time_front left (e ∷ es) es' in_time = (in_time.0, in_time.1, in_time_front (turns_after left e) es es' in_time.2)
 
 pub turns_behind : (left : ℕ) (es : List Trace) (e : Trace) (text : List ℕ) → e.mark ≡ Some text → turns_left_after left (es ++ e ∷ []) ≡ turns_for text
 turns_behind left [] e text is = ap (λ (m : Option (List ℕ)). turns_marked m (turns_unmarked left e.flush e.report)) is
@@ -99,28 +99,31 @@ module _ {Application Saved : Type 0} (m : Meaning Application Saved) where
       (is_closing marks.1.course, ap (λ (s : State Application). s.writing) marks.3)
 
 module _ {S Application : Type 0} (l : Layer S Application Saved) {D : Type 0} (kind : DiskKind D) where
-  -- behind a mark, so many events of `Flush` have its report
-  pub report_comes : (before after : ServerCore S) (old new : D) (entries front rest : List (Entry Saved)) (e : Entry Saved) (saved : Saved)
-      → Lived l kind (with_disk before old) (with_disk after new) entries → entries ≡ (front ++ e ∷ []) ++ rest → e.mark ≡ Some saved
-      → length (l.meaning.text_of saved) / 65536 + 6 ≤ flushes (traces_under l.meaning rest) → HasReport (traces_under l.meaning rest)
-  report_comes before after old new entries front rest e saved lived all is enough =
-      let parts = run_split l (front ++ e ∷ []) rest (state_of l before) lived.end (subst (λ (es : List (Entry Saved)). Run l.meaning (state_of l before) es lived.end) all lived.run) in
+  -- behind a mark, the first events that have so many of `Flush` have its report
+  pub report_comes : (before after : ServerCore S) (old new : D) (entries front near far : List (Entry Saved)) (e : Entry Saved) (saved : Saved)
+      → Lived l kind (with_disk before old) (with_disk after new) entries → entries ≡ (front ++ e ∷ []) ++ (near ++ far) → e.mark ≡ Some saved
+      → length (l.meaning.text_of saved) / 65536 + 6 ≤ flushes (traces_under l.meaning near) → HasReport (traces_under l.meaning near)
+  report_comes before after old new entries front near far e saved lived all is enough =
+      let parts = run_split l (front ++ e ∷ []) (near ++ far) (state_of l before) lived.end (subst (λ (es : List (Entry Saved)). Run l.meaning (state_of l before) es lived.end) all lived.run) in
       let taken = last_taken l front e (state_of l before) parts.0 parts.1 in
       let writes = marked_open' l.meaning (is_passed_over l.meaning taken.0 e.event) taken.0 parts.0 e saved taken.1.takes is in
+      let soon = run_split l near far parts.0 lived.end parts.2 in
       let within = turns_within (l.meaning.text_of saved) in
-      comes l.meaning rest parts.0 lived.end (turns_for (l.meaning.text_of saved)) writes.0 parts.2 writes.1 in_time (omega arith) (omega (arith, within, enough))
+      comes l.meaning near parts.0 soon.0 (turns_for (l.meaning.text_of saved)) writes.0 soon.1 writes.1 in_time (omega arith) (omega (arith, within, enough))
     where
       trace : Trace
       trace = trace_of l.meaning.text_of e
 
-      split : traces_under l.meaning entries ≡ (traces_under l.meaning front ++ trace ∷ []) ++ traces_under l.meaning rest
-      split = ap (λ (es : List (Entry Saved)). traces_under l.meaning es) all ∙ traces-append l (front ++ e ∷ []) rest
-          ∙ ap (λ (ts : List Trace). ts ++ traces_under l.meaning rest) (traces-append l front (e ∷ []))
+      split : traces_under l.meaning entries ≡ (traces_under l.meaning front ++ trace ∷ []) ++ (traces_under l.meaning near ++ traces_under l.meaning far)
+      split = ap (λ (es : List (Entry Saved)). traces_under l.meaning es) all ∙ traces-append l (front ++ e ∷ []) (near ++ far)
+          ∙ ap (λ (ts : List Trace). ts ++ traces_under l.meaning (near ++ far)) (traces-append l front (e ∷ []))
+          ∙ ap (λ (ts : List Trace). (traces_under l.meaning front ++ trace ∷ []) ++ ts) (traces-append l near far)
 
       count : turns_left_after (turns_of before.writing) (traces_under l.meaning front ++ trace ∷ []) ≡ turns_for (l.meaning.text_of saved)
       count = turns_behind (turns_of before.writing) (traces_under l.meaning front) trace (l.meaning.text_of saved) (ap (option_map l.meaning.text_of) is)
 
-      in_time : IsInTime (turns_for (l.meaning.text_of saved)) (traces_under l.meaning rest)
-      in_time = subst (λ (n : ℕ). IsInTime n (traces_under l.meaning rest)) count
-          (in_time_behind (turns_of before.writing) (traces_under l.meaning front ++ trace ∷ []) (traces_under l.meaning rest)
-          (subst (λ (ts : List Trace). IsInTime (turns_of before.writing) ts) split lived.in_time))
+      in_time : IsInTime (turns_for (l.meaning.text_of saved)) (traces_under l.meaning near)
+      in_time = in_time_front (turns_for (l.meaning.text_of saved)) (traces_under l.meaning near) (traces_under l.meaning far)
+          (subst (λ (n : ℕ). IsInTime n (traces_under l.meaning near ++ traces_under l.meaning far)) count
+          (in_time_behind (turns_of before.writing) (traces_under l.meaning front ++ trace ∷ []) (traces_under l.meaning near ++ traces_under l.meaning far)
+          (subst (λ (ts : List Trace). IsInTime (turns_of before.writing) ts) split lived.in_time)))

@@ -182,14 +182,25 @@ module _ {S Application : Type 0} (l : Layer S Application Saved) where
     }
 
     -- a life that didn't begin
-    pub live_met : (life : Life) (old new : D) (cause : LivesCause) → IsMet l kind old new cause → EndsBefore l kind images life old cause
-    live_met life old new (not_open fault) met = (new, met)
+    pub live_met : (life : Life) (old new : D) (cause : LivesCause) → IsMet l kind old new cause → EndsBefore l kind images life old new cause
+    live_met life old new (not_open fault) met = met
     live_met life old new NoSuchImage met = absurd met
     live_met life old new Memory met = absurd met
 
     -- a crash that left no such text
-    pub stop_met : {X : Type 0} (r : Result X LivesCause) (life : Life) (old new : D) (begin : LifeBegin) → HasLived l kind life old new begin
-        → IfErr r (λ cause. (cause ≡ NoSuchImage) × HasNoImage images life.stop new) → IfErr r (λ cause. EndsBefore l kind images life old cause)
-    stop_met (Ok x) life old new begin lived met = tt
-    stop_met (Err cause) life old new begin lived met =
-        subst (λ (c : LivesCause). EndsBefore l kind images life old c) (sym met.0) (new, begin, lived, met.1)
+    pub stop_met : {X : Type 0} (r : Result X (D × LivesCause)) (life : Life) (old end : D) (begin : LifeBegin) → HasLived l kind life old end begin
+        → IfErr r (λ given. (given.1 ≡ NoSuchImage) × HasNoImage images life.stop end × (given.0 ≡ end)) → IfErr r (λ given. EndsBefore l kind images life old given.0 given.1)
+    stop_met (Ok x) life old end begin lived met = tt
+    stop_met (Err given) life old end begin lived met =
+        subst (λ (c : LivesCause). EndsBefore l kind images life old given.0 c) (sym met.0) (
+          begin,
+          subst (λ (d : D). HasLived l kind life old d begin) (sym met.2) lived,
+          subst (λ (d : D). HasNoImage images life.stop d) (sym met.2) met.1,
+        )
+
+    -- what was lived, and how it was stopped
+    pub stop_lived : {E : Type 0} (r : Result (D × LifeBegin) E) (life : Life) (old end : D) (begin : LifeBegin) → HasLived l kind life old end begin
+        → IfOk r (λ given. (given.1 ≡ begin) × IsStopped kind images life.stop end given.0)
+        → IfOk r (λ given. (end : D) × HasLived l kind life old end given.1 × IsStopped kind images life.stop end given.0)
+    stop_lived (Ok given) life old end begin lived stopped = (end, subst (λ (b : LifeBegin). HasLived l kind life old end b) (sym stopped.0) lived, stopped.1)
+    stop_lived (Err e) life old end begin lived stopped = tt

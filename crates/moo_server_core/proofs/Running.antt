@@ -3,11 +3,11 @@ use Rattle.std.proofs.Common.{◌≡◌, ◌≢◌, ◌⊎◌, inl, inr, ⊎_eli
 use Rattle.std.specs.Prelude.{slice_get}
 use Rattle.std.proofs.lemmas.List.{append-nil, map-append, map_more, take_all}
 use Rattle.std.proofs.lemmas.Option.{slice_get-get_or}
-use Rattle.moo_disk.specs.Disk.{DiskKind, Gains, MakesOneCall}
+use Rattle.moo_disk.specs.Disk.{DiskKind, Gains}
 use Rattle.moo_server_core.specs.Traces.{Done, Trace}
 use Rattle.moo_server_core.specs.Crash.{IsOneOf, Survives}
-use Rattle.moo_server_core.specs.Turns.{CallsAtMostOnce, CountsReport, FailsAtMostOnce, IsInTime, turns_after, turns_left_after}
-use Rattle.moo_server_core.specs.Seen.{Event, Flush, seen}
+use Rattle.moo_server_core.specs.Turns.{CountsReport, FailsAtMostOnce, IsInTime, turns_after, turns_left_after}
+use Rattle.moo_server_core.specs.Seen.{Event, Flush, is_flush, seen}
 use Rattle.moo_server_core.specs.Application.{Layer, Output, then_out}
 use Rattle.moo_server_core.specs.Meaning.{State, Entry, Run, MayWant, out_of, refusal, trace_of}
 use Rattle.moo_server_core.specs.declared.event.Event as given
@@ -15,9 +15,9 @@ use Rattle.moo_server_core.specs.declared.event.Cause.{Cause}
 use Rattle.moo_server_core.specs.declared.event.Cause.TheVariants.{NoSuchConnection, ConnectionInUse, ClockBack, Memory}
 use Rattle.moo_server_core.specs.declared.event.Cause.TheVariants.{Halted as halted_cause, Closed as closed_cause}
 use Rattle.moo_server_core.specs.declared.server_core.ServerCore.{ServerCore}
-use Rattle.moo_server_core.specs.Server.{Does, DoesTo, EachDoes, FailsAsReported, Halts, HasCause, IsAlive, Lived, MarksSpell, Ran, Runs, Same, TakenEvent, entries_of, is_refused, on_its_way, state_of, text_of_open, traces_under, turns_of, waiting_of, wants_memory, was_halted, with_disk}
+use Rattle.moo_server_core.specs.Server.{Does, DoesTo, EachDoes, FailsAsReported, Halts, HaltsInTurn, HasCause, IsAlive, Lived, MakesCallOf, MarksSpell, Ran, Runs, Same, TakenEvent, entries_of, is_refused, on_its_way, state_of, text_of_open, traces_under, turns_of, waiting_of, wants_memory, was_halted, with_disk}
 use Rattle.moo_server_core.proofs.Joining.{Texts, survives_none, survives_join, gains_less, one_of_left}
-use Rattle.moo_server_core.proofs.Taken.{one_or_none}
+use Rattle.moo_server_core.proofs.Taken.{flush_is, isnt_flush, one_or_none}
 use Rattle.moo_server_core.proofs.Out.{then_silence, then_then}
 
 -- a turn in an event that halts the server
@@ -257,7 +257,7 @@ module _ {S Application Saved : Type 0} (l : Layer S Application Saved) where
     goes_none server disk events = record { taken = []; events_are = refl; each = (refl, refl); fails = tt }
 
     pub goes_more : (before mid after : ServerCore S) (old between new : D) (events : List given.Event) (done : ℕ) (d : given.Event) → done < length events → d ≡ get_or events done d
-        → IsAlive mid → ((seen d ≢ Flush) ⊎ (mid.writing ≡ None) → new ≡ between) → (seen d ≡ Flush → mid.writing ≢ None → MakesOneCall kind between new)
+        → IsAlive mid → ((seen d ≢ Flush) ⊎ (mid.writing ≡ None) → new ≡ between) → (seen d ≡ Flush → MakesCallOf kind mid.writing between new)
         → (kind.honest between → kind.honest new) → Goes before mid old between events done
         → Took mid after between new (seen d) → Goes before after old new events (done + 1)
     goes_more before mid after old between new events done d lt event_is alive still call keeps goes took =
@@ -287,6 +287,7 @@ module _ {S Application Saved : Type 0} (l : Layer S Application Saved) where
       at_most_once = inl refl;
       still = λ event is other. refl;
       refused = tt;
+      halts = tt;
     }
 
     -- a halted server takes none
@@ -298,6 +299,7 @@ module _ {S Application Saved : Type 0} (l : Layer S Application Saved) where
       at_most_once = inl refl;
       still = λ event is other. refl;
       refused = was_halted (slice_get events 0) halted;
+      halts = λ memory event is flush. absurd (cc);
     }
 
   module _ {D : Type 0} (kind : DiskKind D) (before mid after : ServerCore S) (old between new : D) (events : List given.Event) (done : ℕ) (d : given.Event) where
@@ -307,41 +309,47 @@ module _ {S Application Saved : Type 0} (l : Layer S Application Saved) where
 
     -- a refused event leaves the run as it was, and a halt all that a crash may leave
     pub run_stops : (cause : Cause) → done < length events → d ≡ get_or events done d → IsAlive before → IsAlive mid
-        → FailsAtMostOnce (kind.failures between) (kind.failures new) → CallsAtMostOnce kind between new → ((seen d ≢ Flush) ⊎ (mid.writing ≡ None) → new ≡ between)
+        → FailsAtMostOnce (kind.failures between) (kind.failures new) → (cause ≡ Memory → seen d ≡ Flush → HaltsInTurn kind mid.writing between new) → ((seen d ≢ Flush) ⊎ (mid.writing ≡ None) → new ≡ between)
         → (cause ≡ Memory → (after.halted ≡ true) × (waiting_of l after ≡ waiting_of l mid)
         × (kind.honest between → Survives kind between new (on_its_way mid) (on_its_way after) []))
         → (cause ≡ Memory → MayWant l.meaning (state_of l mid) (seen d))
         → (cause ≢ Memory → (refusal l.meaning (state_of l mid) (seen d) ≡ Some cause) × (after ≡ mid) × (new ≡ between))
         → Goes kind before mid old between events done → Ends cause
-    run_stops cause lt event_is began alive at_most_once calls still memory wanting other goes = by_cause cause memory wanting other
+    run_stops cause lt event_is began alive at_most_once turn still memory wanting other goes = by_cause cause turn memory wanting other
       where
         next : slice_get events done ≡ Some d
         next = slice_get-get_or events done d lt ∙ ap Some (sym event_is)
 
-        ended : (cause : Cause) → ((after ≡ mid) × (new ≡ between)) ⊎ Halts l kind (with_disk mid between) (with_disk after new) → HasCause l before mid after (Some d) cause → Ends cause
-        ended cause ends has = record {
+        ended : (cause : Cause) → ((after ≡ mid) × (new ≡ between)) ⊎ Halts l kind (with_disk mid between) (with_disk after new) → HasCause l before mid after (Some d) cause
+            → (cause ≡ Memory → seen d ≡ Flush → HaltsInTurn kind mid.writing between new) → Ends cause
+        ended cause ends has turn' = record {
           ran = record { taken = goes.taken; events_are = goes.events_are; reached = mid; disk = between; each = goes.each; ends = ends };
           fails = goes.fails;
           at_most_once = at_most_once;
           still = λ event is nothing. still (⊎_elim (λ other'. inl (λ flush. other' (ap seen (let same : event ≡ d = cc (next, is) in same) ∙ flush))) (λ none. inr none) nothing);
           refused = subst (λ (e : Option given.Event). HasCause l before mid after e cause) (sym next) has;
+          halts = λ memory' event is flush. turn' memory' (sym (ap seen (let same : event ≡ d = cc (next, is) in same)) ∙ flush);
         }
 
-        refused : (cause : Cause) → (refusal l.meaning (state_of l mid) (seen d) ≡ Some cause) × (after ≡ mid) × (new ≡ between) → Ends cause
-        refused cause facts =
-            ended cause (inl (facts.1, facts.2)) (is_refused d cause began (ap (λ (s : ServerCore S). s.halted) facts.1 ∙ alive) facts.0)
+        refused : (cause : Cause) → cause ≢ Memory → (refusal l.meaning (state_of l mid) (seen d) ≡ Some cause) × (after ≡ mid) × (new ≡ between) → Ends cause
+        refused cause never facts =
+            ended cause (inl (facts.1, facts.2)) (is_refused d cause began (ap (λ (s : ServerCore S). s.halted) facts.1 ∙ alive) facts.0) (λ memory'. absurd (never memory'))
 
-        by_cause : (cause : Cause) → (cause ≡ Memory → (after.halted ≡ true) × (waiting_of l after ≡ waiting_of l mid)
+        called : (cause : Cause) → cause ≡ Memory → (cause ≡ Memory → seen d ≡ Flush → HaltsInTurn kind mid.writing between new) → (new ≡ between) ⊎ MakesCallOf kind mid.writing between new
+        called cause memory' turn' =
+            ⊎_elim (λ flush. inr ((turn' memory' (flush_is (seen d) flush)).call)) (λ other'. inl (still (inl (isnt_flush (seen d) other')))) (true_or_false (is_flush (seen d)))
+
+        by_cause : (cause : Cause) → (cause ≡ Memory → seen d ≡ Flush → HaltsInTurn kind mid.writing between new) → (cause ≡ Memory → (after.halted ≡ true) × (waiting_of l after ≡ waiting_of l mid)
             × (kind.honest between → Survives kind between new (on_its_way mid) (on_its_way after) []))
             → (cause ≡ Memory → MayWant l.meaning (state_of l mid) (seen d))
             → (cause ≢ Memory → (refusal l.meaning (state_of l mid) (seen d) ≡ Some cause) × (after ≡ mid) × (new ≡ between))
             → Ends cause
-        by_cause Memory memory wanting other =
+        by_cause Memory turn' memory wanting other =
             let facts = memory refl in
-            ended Memory (inr (record { alive_before = alive; halted = facts.0; waiting = facts.1; survives = facts.2; calls = calls }))
-            (wants_memory d began facts.0 (wanting refl))
-        by_cause halted_cause memory wanting other = refused halted_cause (other (λ is. cc))
-        by_cause NoSuchConnection memory wanting other = refused NoSuchConnection (other (λ is. cc))
-        by_cause ConnectionInUse memory wanting other = refused ConnectionInUse (other (λ is. cc))
-        by_cause ClockBack memory wanting other = refused ClockBack (other (λ is. cc))
-        by_cause closed_cause memory wanting other = refused closed_cause (other (λ is. cc))
+            ended Memory (inr (record { alive_before = alive; halted = facts.0; waiting = facts.1; survives = facts.2; calls = called Memory refl turn' }))
+            (wants_memory d began facts.0 (wanting refl)) turn'
+        by_cause halted_cause turn' memory wanting other = refused halted_cause (λ is. cc) (other (λ is. cc))
+        by_cause NoSuchConnection turn' memory wanting other = refused NoSuchConnection (λ is. cc) (other (λ is. cc))
+        by_cause ConnectionInUse turn' memory wanting other = refused ConnectionInUse (λ is. cc) (other (λ is. cc))
+        by_cause ClockBack turn' memory wanting other = refused ClockBack (λ is. cc) (other (λ is. cc))
+        by_cause closed_cause turn' memory wanting other = refused closed_cause (λ is. cc) (other (λ is. cc))

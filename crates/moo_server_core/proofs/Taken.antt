@@ -1,10 +1,10 @@
 -- One event, from its parts: its own effect or a turn of the open checkpoint, and then a mark.
-use Rattle.std.proofs.Common.{◌≡◌, ◌≢◌, inl, inr, ℕ, List, [], ◌∷◌, Option, Some, None, Bool, true, false, refl, sym, ◌∙◌, ap, subst}
+use Rattle.std.proofs.Common.{◌≡◌, ◌≢◌, ◌⊎◌, inl, inr, ℕ, List, [], ◌∷◌, Option, Some, None, Bool, true, false, refl, sym, ◌∙◌, ap, subst}
 use Rattle.std.specs.Prelude.{MatchBool, ◌&&◌, not}
 use Rattle.std.specs.Option.{option_map}
-use Rattle.moo_disk.specs.Disk.{DiskKind, Gains}
+use Rattle.moo_disk.specs.Disk.{DiskKind, Gains, HasRisen}
 use Rattle.moo_checkpoint.specs.Checkpoint.{text_of}
-use Rattle.moo_server_core.specs.Traces.{Report, Done}
+use Rattle.moo_server_core.specs.Traces.{Report, Done, Failed}
 use Rattle.moo_server_core.specs.Crash.{IsOneOf}
 use Rattle.moo_server_core.specs.Turns.{flush_takes, turns_unmarked, turns_marked}
 use Rattle.moo_server_core.specs.Courses.{is_closing}
@@ -28,6 +28,10 @@ isnt_flush event is same = let flush : is_flush event ≡ true = ap is_flush sam
 pub one_or_none : (o : Option declared.Open) → IsOneOrNone (text_of_open o)
 one_or_none None = inl refl
 one_or_none (Some o) = inr (text_of o.checkpoint, refl)
+
+no_texts : (o : Option declared.Open) → text_of_open o ≡ [] → o ≡ None
+no_texts None is = refl
+no_texts (Some o) is = absurd (cc)
 
 not_flush : (flush : Bool) (left : ℕ) → flush ≡ false → flush_takes flush left ≡ left
 not_flush flush left is = subst (λ (b : Bool). flush_takes b left ≡ left) (sym is) refl
@@ -61,6 +65,13 @@ module _ {Application Saved : Type 0} (m : Meaning Application Saved) where
   opens_turns (Some saved) old new opens = ap turns_of opens.1 ∙ opens.4
 
   module _ {D : Type 0} (kind : DiskKind D) where
+    -- if no checkpoint is open after a turn, the turn was the last of one, or the device failed in it
+    pub over_if_none : (before after : State Application) (was is : Option declared.Open) (old new : D) (report : Option Report) (out : Output)
+        → Turns m kind before after was is old new report out → is ≡ None → was ≢ None → (turns_of was ≡ 1) ⊎ HasRisen (kind.failures old) (kind.failures new)
+    over_if_none before after was is old new None out turns none some = absurd (some (no_texts was (sym (turns.unreported refl) ∙ ap text_of_open none)))
+    over_if_none before after was is old new (Some Done) out turns none some = inl (turns.last refl)
+    over_if_none before after was is old new (Some Failed) out turns none some = inr turns.counts
+
     -- an event from its parts
     pub taken : (before reported after : State Application) (was mid is : Option declared.Open) (old new : D) (entry : Entry Saved)
         → Takes m before entry after

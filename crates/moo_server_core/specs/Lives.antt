@@ -1,9 +1,12 @@
 -- Lives of a server over one disk. Each ends by a crash, or by an end of the server alone.
-use Rattle.std.specs.Prelude.{◌≡◌, ◌≢◌, ◌⊎◌, ◌<◌, ◌≤◌, ℕ, List, [], ◌∷◌, length, take, slice_get, All, Some, Result, Ok, Err}
+use Rattle.std.specs.Prelude.{◌≡◌, ◌≢◌, ◌⊎◌, ◌+◌, ◌<◌, ◌≤◌, ℕ, List, [], ◌∷◌, length, take, slice_get, All, Some, Result, Ok, Err}
 use Rattle.moo_disk.specs.Disk.{DiskKind, IsLeftBy, KeepsMain, KeepsSpare, OnlyReads}
-use Rattle.moo_checkpoint.specs.Recovering.{CountsFault}
+use Rattle.moo_checkpoint.specs.Recovering.{CountsFault, ReadsAtMost}
 use Rattle.moo_checkpoint.specs.declared.open_fault.OpenFault.{OpenFault}
-use Rattle.moo_checkpoint.specs.declared.open_fault.OpenFault.TheVariants.{Device, Memory as no_memory}
+use Rattle.moo_checkpoint.specs.declared.open_fault.OpenFault.TheVariants.{Db, Device, Memory as no_memory}
+use Rattle.moo_dbtext_record.specs.declared.fault.DbFault.{DbFault}
+use Rattle.moo_dbtext_record.specs.declared.fault.DbFaultKind.TheVariants as fault_kind
+use Rattle.moo_dbtext_read.specs.Refusals.{Refuses as RefusesText}
 use Rattle.moo_dbtext_read.specs.Saved.{Saved}
 use Rattle.moo_server_core.specs.Application.{Layer}
 use Rattle.moo_server_core.specs.Crash.{IsOneOf, since_done}
@@ -111,26 +114,29 @@ module _ {S Application : Type 0} (l : Layer S Application Saved) where
       pub is : IsLife run
       pub told : IsTold life run begin
 
-    -- A life that didn't begin, since no server was opened. The disk was read, no other call was made, and nothing was written. The device is reported if it failed, and where main
-    -- spells a saved world within the limits, either it failed or memory ran out.
+    -- A life that didn't begin, since no server was opened. The disk was read, no other call was made, and nothing was written. The device is
+    -- reported exactly if it failed, and a fault of the text only if the text has it. If main spells a saved world within the limits, the
+    -- device failed or memory ran out.
     pub record NotBegun (old new : D) (fault : OpenFault) : Type 0 where
+      pub refused : kind.honest old → (f : DbFault) → fault ≡ Db f → RefusesText (kind.view old).main_text f × (f.kind ≢ fault_kind.Memory)
       pub sound : kind.honest old → (s : Saved) → l.meaning.Spells (kind.view old).main_text s → IsSound fault
       pub device : CountsFault (kind.honest old) (kind.failures old) (kind.failures new) fault
       pub main : kind.honest old → KeepsMain (kind.view old) (kind.view new)
       pub spare : kind.honest old → KeepsSpare (kind.view old) (kind.view new)
       pub reads : OnlyReads kind old new
+      pub few : kind.honest old → ReadsAtMost kind (length (kind.view old).main_text + 1) old new
 
     abbrev pub IsMet : D → D → LivesCause → Type 0
     IsMet old new (not_open fault) = NotBegun old new fault
     IsMet old new cause = ⊥
 
     module _ (images : D → List (List ℕ)) where
-      -- a life that didn't begin, or whose crash leaves no such text, or that ended before memory ran out for what is returned of it
-      abbrev pub EndsBefore : Life → D → LivesCause → Type 0
-      EndsBefore life old (not_open fault) = (new : D) × IsMet old new (not_open fault)
-      EndsBefore life old NoSuchImage = (new : D) × (begin : LifeBegin) × HasLived life old new begin × HasNoImage images life.stop new
-      EndsBefore life old Memory =
-          (end : D) × (new : D) × (begin : LifeBegin) × HasLived life old end begin × IsStopped kind images life.stop end new
+      -- A life that didn't begin, or whose crash leaves no such text, or that ended before memory ran out for what is returned of it; and the
+      -- disk that it left.
+      abbrev pub EndsBefore : Life → D → D → LivesCause → Type 0
+      EndsBefore life old left (not_open fault) = NotBegun old left fault
+      EndsBefore life old left NoSuchImage = (begin : LifeBegin) × HasLived life old left begin × HasNoImage images life.stop left
+      EndsBefore life old left Memory = (end : D) × (begin : LifeBegin) × HasLived life old end begin × IsStopped kind images life.stop end left
 
       -- One life, over the disk that the one before it left. One of `texts` is under main before it, and one of `after` afterwards.
       pub record LivesOnce (disk : D) (texts : List (List ℕ)) (life : LifeRun S D) (after : List (List ℕ)) (next : D) : Type 0 where
@@ -162,15 +168,12 @@ module _ {S Application : Type 0} (l : Layer S Application Saved) where
         pub within : (c : List ℕ) → (kind.view disk).may_leave c → IsOneOf left c
         pub spelled : (c : List ℕ) → IsOneOf left c → (s : Saved) × l.meaning.Spells c s
 
-      abbrev pub LivesSoFar : List Life → List LifeBegin → D → Type 0
-      LivesSoFar lives begins first = (disk : D) × SoFar lives begins first disk
-
-      -- the lives before the one that the fault names, and what that one met
-      pub record EndsAt (lives : List Life) (first : D) (fault : LivesFault) : Type 0 where
+      -- the lives before the one that the fault names, what that one met, and the disk that it left
+      pub record EndsAt (lives : List Life) (first last : D) (fault : LivesFault) : Type 0 where
         pub place : fault.life < length lives
         pub begins : List LifeBegin
         pub disk : D
         pub so_far : SoFar (take fault.life lives) begins first disk
         pub life : Life
         pub life_is : slice_get lives fault.life ≡ Some life
-        pub meets : EndsBefore life disk fault.cause
+        pub meets : EndsBefore life disk last fault.cause

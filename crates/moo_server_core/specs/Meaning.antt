@@ -66,6 +66,11 @@ begun_at moment asked course interval sessions = record {
   writing = None;
 }
 
+-- the state at the moment of an event: another one only if the event is a moment
+abbrev pub at_moment_of : {Application : Type 0} → Event → State Application → State Application
+at_moment_of (Moment moment) state = record state { moment = moment }
+at_moment_of event state = state
+
 module _ {Application Saved : Type 0} (m : Meaning Application Saved) where
   -- the reason why an event is refused, if it is
   abbrev pub refusal_in : Course → ℕ → Application → Event → Option Cause
@@ -112,14 +117,16 @@ module _ {Application Saved : Type 0} (m : Meaning Application Saved) where
   abbrev pub is_due : State Application → Bool
   is_due state = not (is_closed state.course) && is_none state.writing && (state.asked || nat_le state.due state.moment)
 
-  -- bytes for a connection that is leaving
-  abbrev pub is_for_leaving : State Application → Event → Bool
-  is_for_leaving state (Bytes c piece) = m.is_leaving state.sessions c
-  is_for_leaving state event = false
+  -- An event whose own effect needs no memory: bytes for a connection that is leaving, a moment, and a `Flush` while no checkpoint is open.
+  abbrev pub acts_without_memory : State Application → Event → Bool
+  acts_without_memory state (Bytes c piece) = m.is_leaving state.sessions c
+  acts_without_memory state (Moment moment) = true
+  acts_without_memory state Flush = is_none state.writing
+  acts_without_memory state event = false
 
-  -- such bytes while no checkpoint is due: they have no effect and need no memory
+  -- such an event, if no checkpoint is due then: it needs no memory at all
   abbrev pub is_idle : State Application → Event → Bool
-  is_idle state event = is_for_leaving state event && not (is_due state)
+  is_idle state event = acts_without_memory state event && not (is_due (at_moment_of event state))
 
   -- `checkpoint_started` runs; then the request is cleared, the due moment is set, and the world is marked as it then is.
   abbrev pub Marks : Option Saved → State Application → Output → State Application → Type 0
@@ -152,7 +159,8 @@ module _ {Application Saved : Type 0} (m : Meaning Application Saved) where
     pub mark : entry.mark ≡ None
     pub out : entry.out ≡ silence
 
-  -- An event that may need memory: it is neither refused nor passed over, nor bytes for a connection that is leaving while no checkpoint is due.
+  -- An event that may need memory: it is neither refused nor passed over. While no checkpoint is due, it is no bytes for a connection that
+  -- is leaving, no moment, and no `Flush` without an open checkpoint.
   abbrev pub MayWant : State Application → Event → Type 0
   MayWant state event = (refusal state event ≡ None) × (is_passed_over state event ≡ false) × (is_idle state event ≡ false)
 

@@ -1,11 +1,11 @@
 -- The state of a server, and what a run does to it and to its disk.
-use Rattle.std.specs.Prelude.{◌≡◌, ◌≢◌, ◌⊎◌, ◌-◌, ℕ, List, [], ◌∷◌, take, map, slice_get, Result, Ok, Err, IfErr, Option, Some, None, Bool, true, false, eqb, if◌then◌else◌}
+use Rattle.std.specs.Prelude.{◌≡◌, ◌≢◌, ◌⊎◌, ◌-◌, ℕ, List, [], ◌∷◌, length, take, map, slice_get, Result, Ok, Err, IfErr, Option, Some, None, Bool, true, false, eqb, if◌then◌else◌}
 use Rattle.std.specs.Option.{option_map}
-use Rattle.moo_disk.specs.Disk.{DiskKind, MakesOneCall}
-use Rattle.moo_checkpoint.specs.Checkpoint.{Continues, IsFresh, text_of, turns_left}
+use Rattle.moo_disk.specs.Disk.{Append, DiskKind, HasRisen}
+use Rattle.moo_checkpoint.specs.Checkpoint.{AppendsAPiece, Continues, IsFresh, IsNextCall, MakesNextCall, text_of, turns_left}
 use Rattle.moo_server_core.specs.Traces.{Report, Done, Trace}
 use Rattle.moo_server_core.specs.Crash.{IsOneOf, Survives}
-use Rattle.moo_server_core.specs.Turns.{CallsAtMostOnce, CountsReport, FailsAtMostOnce, IsInTime, turns_after, turns_left_after, turns_for}
+use Rattle.moo_server_core.specs.Turns.{CountsReport, FailsAtMostOnce, IsInTime, turns_after, turns_left_after, turns_for}
 use Rattle.moo_server_core.specs.Seen.{Flush, seen}
 use Rattle.moo_server_core.specs.Application.{Layer, Meaning, Output, silence, then_out}
 use Rattle.moo_server_core.specs.Meaning.{State, Entry, Reports, Takes, Run, MayWant, refusal, trace_of, traces_of}
@@ -40,6 +40,23 @@ on_its_way server = text_of_open server.writing
 abbrev pub OpenFollows : {D : Type 0} → DiskKind D → Option Open → D → Type 0
 OpenFollows kind None disk = Unit {0}
 OpenFollows kind (Some o) disk = Continues kind o.checkpoint disk
+
+-- A checkpoint took its next turn: one call of the disk, which the turns left say. If the device didn't fail, an append was a whole piece, or
+-- all that was left of the text.
+pub record TakesTurn {D : Type 0} (kind : DiskKind D) (o : Open) (old new : D) : Type 0 where
+  pub call : MakesNextCall kind (length (text_of o.checkpoint)) (turns_left o.checkpoint) old new
+  pub appends : kind.honest old → (HasRisen (kind.failures old) (kind.failures new) → ⊥)
+      → IsNextCall Append (length (text_of o.checkpoint)) (turns_left o.checkpoint) → AppendsAPiece (text_of o.checkpoint) (kind.view old) (kind.view new)
+
+-- so did the open checkpoint; if none is open, no call was made
+abbrev pub MakesCallOf : {D : Type 0} → DiskKind D → Option Open → D → D → Type 0
+MakesCallOf kind None old new = new ≡ old
+MakesCallOf kind (Some o) old new = TakesTurn kind o old new
+
+-- A `Flush` that halted the server made that call. If a checkpoint was open, the call was its last, or the device failed in it.
+pub record HaltsInTurn {D : Type 0} (kind : DiskKind D) (writing : Option Open) (old new : D) : Type 0 where
+  pub call : MakesCallOf kind writing old new
+  pub over : writing ≢ None → (turns_of writing ≡ 1) ⊎ HasRisen (kind.failures old) (kind.failures new)
 
 -- how many events a run took
 abbrev pub done_of : Result ℕ RunFault → ℕ
@@ -166,9 +183,9 @@ module _ {S Application Saved : Type 0} (l : Layer S Application Saved) where
       pub does : Does l.meaning kind (state_of from.server) (state_of one.server) from.server.writing one.server.writing from.disk one.disk one.entry
       -- what it sent waits, after what waited before, and nothing else does
       pub waiting : waiting_of one.server ≡ then_out (waiting_of from.server) one.entry.out
-      -- only a `Flush` makes a call of the disk, and only while a checkpoint is open; then it makes one
+      -- only a `Flush` makes a call of the disk, and only while a checkpoint is open; then it makes the one of the next turn
       pub still : (one.entry.event ≢ Flush) ⊎ (from.server.writing ≡ None) → one.disk ≡ from.disk
-      pub call : one.entry.event ≡ Flush → from.server.writing ≢ None → MakesOneCall kind from.disk one.disk
+      pub call : one.entry.event ≡ Flush → MakesCallOf kind from.server.writing from.disk one.disk
       pub honest_still : kind.honest from.disk → kind.honest one.disk
 
     -- Each of these events did so, one after another: they lead from a server and its disk to another state of both.
@@ -176,13 +193,13 @@ module _ {S Application Saved : Type 0} (l : Layer S Application Saved) where
     EachDoes from [] to = (to.server ≡ from.server) × (to.disk ≡ from.disk)
     EachDoes from (one ∷ taken) to = DoesTo from one × EachDoes (with_disk one.server one.disk) taken to
 
-    -- An event halted the server. Nothing of what it sent waits, and its turn may have called the disk once.
+    -- An event halted the server. Nothing of what it sent waits, and it made the call of the next turn or none.
     pub record Halts (from to : WithDisk S D) : Type 0 where
       pub alive_before : IsAlive from.server
       pub halted : to.server.halted ≡ true
       pub waiting : waiting_of to.server ≡ waiting_of from.server
       pub survives : kind.honest from.disk → Survives kind from.disk to.disk (on_its_way from.server) (on_its_way to.server) []
-      pub calls : CallsAtMostOnce kind from.disk to.disk
+      pub calls : (to.disk ≡ from.disk) ⊎ MakesCallOf kind from.server.writing from.disk to.disk
 
     -- A run took the first `done` events.
     pub record Ran (from to : WithDisk S D) (events : List given.Event) (done : ℕ) : Type 0 where
@@ -228,3 +245,6 @@ module _ {S Application Saved : Type 0} (l : Layer S Application Saved) where
     -- the event after those that were taken makes a call of the disk only if it is a `Flush` and a checkpoint is open
     pub still : (event : given.Event) → slice_get events (done_of result) ≡ Some event → (seen event ≢ Flush) ⊎ (ran.reached.writing ≡ None) → to.disk ≡ ran.disk
     pub refused : IfErr result (λ fault. HasCause from.server ran.reached to.server (slice_get events fault.done) fault.cause)
+    -- a `Flush` that halted the server ended the open checkpoint, if there was one
+    pub halts : IfErr result (λ fault. fault.cause ≡ Memory → (event : given.Event) → slice_get events fault.done ≡ Some event → seen event ≡ Flush
+        → HaltsInTurn kind ran.reached.writing ran.disk to.disk)

@@ -1,6 +1,6 @@
 -- The turns that an open checkpoint still takes, its report, and the failures of the device.
 use Rattle.std.specs.Prelude.{◌≡◌, ◌≢◌, ◌⊎◌, ℕ, ◌+◌, ◌-◌, List, [], ◌∷◌, length, Option, Some, None, Bool, true, false}
-use Rattle.moo_disk.specs.Disk.{DiskKind, HasRisen, MakesOneCall}
+use Rattle.moo_disk.specs.Disk.{HasRisen}
 use Rattle.moo_checkpoint.specs.Checkpoint.{pieces}
 use Rattle.moo_server_core.specs.Traces.{Report, Done, Failed, Trace}
 
@@ -44,10 +44,6 @@ CountsReport (Some Failed) before now = HasRisen before now
 -- The device failed at most once.
 abbrev pub FailsAtMostOnce : ℕ → ℕ → Type 0
 FailsAtMostOnce before now = (now ≡ before) ⊎ HasRisen before now
-
--- The disk was called once, or not at all.
-abbrev pub CallsAtMostOnce : {D : Type 0} → DiskKind D → D → D → Type 0
-CallsAtMostOnce kind old new = (new ≡ old) ⊎ MakesOneCall kind old new
 
 -- there is a report
 abbrev pub HasReport : List Trace → Type 0

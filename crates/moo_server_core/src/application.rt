@@ -1,5 +1,5 @@
 //! The interface of an application: the world, its connections, and the output that waits to be sent.
-ghost use Rattle.std.specs.Prelude.{◌≡◌, ℕ, [], false, true, Contains, IfOk, Ok};
+ghost use Rattle.std.specs.Prelude.{◌≡◌, ◌≢◌, ◌⊎◌, ℕ, [], false, true, Contains, IfOk, Ok};
 ghost use Rattle.moo_dbtext_read.specs.Saved.{Saved};
 ghost use Rattle.moo_server_core.specs.Application.{HandsOut, HandsOutLog, Happens, IsApt, Layer, is_dropped, seen_happening, silence, then_out};
 
@@ -74,11 +74,13 @@ pub trait Application: Drop {
     fn interval(&self) -> u32
         ensures { result ≡ layer.meaning.interval (layer.state self.now) };
 
-    /// Returns the numbers of the connections for which bytes wait or that are leaving, perhaps with others. Fails only if
+    /// Returns the numbers of the connections for which bytes wait or that are leaving, and no others. Fails only if
     /// memory runs out.
     fn pending(&self) -> Result<Vec<u16>, AllocError>
-        ensures { IfOk result (λ numbers. (c : ℕ) → (Contains numbers.items c → ⊥)
-            → ((layer.waiting self.now).sent c ≡ []) × (layer.meaning.is_leaving (layer.state self.now) c ≡ false)) };
+        ensures all { IfOk result (λ numbers. (c : ℕ) → (Contains numbers.items c → ⊥)
+            → ((layer.waiting self.now).sent c ≡ []) × (layer.meaning.is_leaving (layer.state self.now) c ≡ false)) }
+        ensures only { IfOk result (λ numbers. (c : ℕ) → Contains numbers.items c
+            → ((layer.waiting self.now).sent c ≢ []) ⊎ (layer.meaning.is_leaving (layer.state self.now) c ≡ true)) };
 
     /// Removes and returns the bytes that wait for a connection.
     fn take_output(&mut self, c: u16) -> Vec<u8>

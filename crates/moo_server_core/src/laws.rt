@@ -75,14 +75,15 @@ pub fn a_report_done_is_durable<S: Application, D: Disk, E: Disk>()
         → last_of (since_done [] (traces_under S.layer.meaning entries)) ≡ c ∷ [] }
 {}
 
-/// Shows that after a mark whose text has n bytes, one of the next n / 65,536 + 6 events `Flush` has a report.
+/// Shows that after a mark whose text has n bytes, one of the next n / 65,536 + 6 events `Flush` has a report: `near` are
+/// the events after it up to one with so many, and `far` those after them.
 pub fn a_report_comes<S: Application, D: Disk, E: Disk>()
     ensures { (before after : ServerCore S) (old new : Lent D E) (calls : List (Call S (Lent D E)))
-        (entries front rest : List (Entry Saved)) (e : Entry Saved) (saved : Saved)
+        (entries front near far : List (Entry Saved)) (e : Entry Saved) (saved : Saved)
         → Calls S.layer D.kind E.kind (with_disk before old) calls (with_disk after new) entries
-        → entries ≡ (front ++ e ∷ []) ++ rest → e.mark ≡ Some saved
-        → length (S.layer.meaning.text_of saved) / 65536 + 6 ≤ flushes (traces_under S.layer.meaning rest)
-        → HasReport (traces_under S.layer.meaning rest) }
+        → entries ≡ (front ++ e ∷ []) ++ (near ++ far) → e.mark ≡ Some saved
+        → length (S.layer.meaning.text_of saved) / 65536 + 6 ≤ flushes (traces_under S.layer.meaning near)
+        → HasReport (traces_under S.layer.meaning near) }
 {}
 
 /// Shows that what a stop leaves under main, also within a call of the disk, spells the world after a prefix of the

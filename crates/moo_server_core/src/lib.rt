@@ -18,6 +18,6 @@ mod taking;
 pub use application::{Application, Input, Requests};
 pub use event::{Cause, Event, Phase, RunFault};
 pub use life::{Life, LifeBegin, LifeStop, LivesCause, LivesFault};
-pub use lives::run_lives;
+pub use lives::{run_lives, run_lives_on};
 pub use server_core::ServerCore;
 pub use start_application::StartApplication;

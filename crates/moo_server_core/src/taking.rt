@@ -1,12 +1,12 @@
 //! What a server does in one event.
-ghost use Rattle.std.specs.Prelude.{ℕ, ◌≡◌, ◌≢◌, ◌↔◌, ◌||◌, None, false, true, OnOk, IfErr, Err, IsOk, Some, [], if◌then◌else◌};
-ghost use Rattle.moo_disk.specs.Disk.{Gains, MakesOneCall};
+ghost use Rattle.std.specs.Prelude.{ℕ, ◌≡◌, ◌≢◌, ◌⊎◌, ◌↔◌, ◌||◌, None, false, true, OnOk, IfErr, Err, IsOk, Some, [], if◌then◌else◌};
+ghost use Rattle.moo_disk.specs.Disk.{Gains, HasRisen};
 ghost use Rattle.moo_dbtext_read.specs.Saved.{Saved};
 ghost use Rattle.moo_server_core.specs.Application.{Finishes, IsApt, Output, is_dropped, seen_happening, then_out};
 ghost use Rattle.moo_server_core.specs.Crash.{IsOneOf, Survives};
-ghost use Rattle.moo_server_core.specs.Turns.{CallsAtMostOnce, CountsReport, FailsAtMostOnce};
+ghost use Rattle.moo_server_core.specs.Turns.{CountsReport, FailsAtMostOnce};
 ghost use Rattle.moo_server_core.specs.Seen.{Flush, seen};
-ghost use Rattle.moo_server_core.specs.Meaning.{State, Acts, Entry, FindsFree, Hears, Marks, is_due, MayWant, is_for_leaving, is_passed_over, refusal, refusal_in};
+ghost use Rattle.moo_server_core.specs.Meaning.{State, Acts, Entry, FindsFree, Hears, Marks, is_due, MayWant, acts_without_memory, at_moment_of, is_passed_over, refusal, refusal_in};
 
 use crate::event::Course;
 use crate::server_core::Open;
@@ -16,7 +16,7 @@ use moo_disk::Disk;
 use std::alloc::AllocError;
 
 impl<S: Application> ServerCore<S> {
-    ghost use Rattle.moo_server_core.specs.Server.{Does, Follows, IsAlive, MarkSpells, OpenFollows, Opens, Turns, on_its_way, state_of, under_way_of, waiting_of, with_disk};
+    ghost use Rattle.moo_server_core.specs.Server.{Does, Follows, HaltsInTurn, IsAlive, MakesCallOf, MarkSpells, OpenFollows, Opens, Turns, on_its_way, state_of, turns_of, under_way_of, waiting_of, with_disk};
 
     // Gives the application an input, and notes the requests that result.
     fn apply(&mut self, happening: Input) -> Result<(), AllocError>
@@ -62,8 +62,8 @@ impl<S: Application> ServerCore<S> {
         ensures waiting { waiting_of S.layer self.new ≡ waiting_of S.layer self.old }
         ensures writing { self.new.writing ≡ self.old.writing }
         ensures halted { self.new.halted ≡ self.old.halted }
-        ensures dropped { is_for_leaving S.layer.meaning (state_of S.layer self.old) (seen event.now) ≡ true
-            → IsOk result × (is_due S.layer.meaning (state_of S.layer self.new) ≡ is_due S.layer.meaning (state_of S.layer self.old)) }
+        ensures without_memory { acts_without_memory S.layer.meaning (state_of S.layer self.old) (seen event.now) ≡ true → IsOk result
+            × (is_due S.layer.meaning (state_of S.layer self.new) ≡ is_due S.layer.meaning (at_moment_of (seen event.now) (state_of S.layer self.old))) }
     {
         match event {
             Event::Open(c) => self.apply(Input::Opens(*c)),
@@ -139,9 +139,10 @@ impl<S: Application> ServerCore<S> {
         ensures follows { OnOk result (OpenFollows D.kind self.new.writing disk.new) }
         ensures gains { D.kind.honest disk.old → Gains (IsOneOf (on_its_way self.old)) (D.kind.view disk.old) (D.kind.view disk.new) }
         ensures at_most_once { FailsAtMostOnce (D.kind.failures disk.old) (D.kind.failures disk.new) }
-        ensures call { self.old.writing ≢ None → MakesOneCall D.kind disk.old disk.new }
-        ensures calls { CallsAtMostOnce D.kind disk.old disk.new }
+        ensures call { MakesCallOf D.kind self.old.writing disk.old disk.new }
+        ensures over { IfErr result (λ _. (turns_of self.old.writing ≡ 1) ⊎ HasRisen (D.kind.failures disk.old) (D.kind.failures disk.new)) }
         ensures idle { self.old.writing ≡ None → disk.new ≡ disk.old }
+        ensures without_memory { self.old.writing ≡ None → IsOk result × (state_of S.layer self.new ≡ state_of S.layer self.old) }
         ensures honest { D.kind.honest disk.old ↔ D.kind.honest disk.new }
     {
         let Some(mut open) = self.writing.take() else {
@@ -214,8 +215,8 @@ impl<S: Application> ServerCore<S> {
         ensures follows { OnOk result (OpenFollows D.kind self.new.writing disk.new) }
         ensures gains { D.kind.honest disk.old → Gains (IsOneOf (on_its_way self.old)) (D.kind.view disk.old) (D.kind.view disk.new) }
         ensures at_most_once { FailsAtMostOnce (D.kind.failures disk.old) (D.kind.failures disk.new) }
-        ensures call { seen event.now ≡ Flush → self.old.writing ≢ None → MakesOneCall D.kind disk.old disk.new }
-        ensures calls { CallsAtMostOnce D.kind disk.old disk.new }
+        ensures call { seen event.now ≡ Flush → MakesCallOf D.kind self.old.writing disk.old disk.new }
+        ensures halts { IfErr result (λ _. seen event.now ≡ Flush → HaltsInTurn D.kind self.old.writing disk.old disk.new) }
         ensures idle { self.old.writing ≡ None → disk.new ≡ disk.old }
         ensures still { seen event.now ≢ Flush → disk.new ≡ disk.old }
         ensures honest { D.kind.honest disk.old ↔ D.kind.honest disk.new }
@@ -247,8 +248,8 @@ impl<S: Application> ServerCore<S> {
             → (refusal S.layer.meaning (state_of S.layer self.old) (seen event.now) ≡ Some cause) × (self.new ≡ self.old) × (disk.new ≡ disk.old)) }
         ensures follows { Follows S.layer D.kind (with_disk self.new disk.new) }
         ensures at_most_once { FailsAtMostOnce (D.kind.failures disk.old) (D.kind.failures disk.new) }
-        ensures call { OnOk result (seen event.now ≡ Flush → self.old.writing ≢ None → MakesOneCall D.kind disk.old disk.new) }
-        ensures calls { CallsAtMostOnce D.kind disk.old disk.new }
+        ensures call { OnOk result (seen event.now ≡ Flush → MakesCallOf D.kind self.old.writing disk.old disk.new) }
+        ensures halts { result ≡ Err Cause.Memory → seen event.now ≡ Flush → HaltsInTurn D.kind self.old.writing disk.old disk.new }
         ensures idle { self.old.writing ≡ None → disk.new ≡ disk.old }
         ensures still { seen event.now ≢ Flush → disk.new ≡ disk.old }
         ensures honest { D.kind.honest disk.old ↔ D.kind.honest disk.new }

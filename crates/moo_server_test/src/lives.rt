@@ -2,7 +2,7 @@
 
 use crate::playing::{WORLD, add_events, disk_of};
 use crate::stops::letter;
-use moo_server::{Life, LifeStop, LivesCause, run_lives};
+use moo_server::{Life, LifeStop, LivesCause, run_lives, run_lives_on};
 use std::alloc::Global;
 use std::test::Fail;
 
@@ -113,5 +113,31 @@ fn each_life_begins_from_what_the_one_before_left(rt: HostRuntime) -> Result<(),
         let ends = ends_of(number);
         assert!(rt; begun(alloc, ends)? == expected(alloc, ends)?, "{number}");
     }
+    Ok(())
+}
+
+/// The letter of the world under main of the disk that a life with this end leaves, and a `!` behind it after a fault.
+fn left_by(alloc: Global, end: (usize, usize)) -> Result<Vec<u8>, Fail> {
+    let mut lives = Vec::new(alloc);
+    lives.push(life(alloc, ROWS[0], end)?)?;
+    let mut letters = Vec::new(alloc);
+    match run_lives_on(alloc, disk_of(alloc, WORLD)?, &lives) {
+        Ok((disk, _begins)) => letters.push(letter(disk.main_text()))?,
+        Err((disk, _fault)) => {
+            letters.push(letter(disk.main_text()))?;
+            letters.push(b'!')?;
+        }
+    }
+    Ok(letters)
+}
+
+#[test]
+fn the_disk_that_lives_leave_is_returned(rt: HostRuntime) -> Result<(), Fail> {
+    let alloc = rt.alloc();
+    assert!(rt; left_by(alloc, (3, 2))?.as_slice() == b"R".as_slice());
+    assert!(rt; left_by(alloc, (4, 0))?.as_slice() == b"R".as_slice());
+    assert!(rt; left_by(alloc, (4, 1))?.as_slice() == b"A".as_slice());
+    assert!(rt; left_by(alloc, (5, 2))?.as_slice() == b"A".as_slice());
+    assert!(rt; left_by(alloc, (5, 1))?.as_slice() == b"A!".as_slice());
     Ok(())
 }

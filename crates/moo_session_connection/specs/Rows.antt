@@ -1,5 +1,5 @@
 -- Rows of bytes of which some are touched.
-use Rattle.std.specs.Prelude.{◌≡◌, ℕ, ◌==◌, false, List, [], ◌∷◌, ◌++◌, slice_index_or, slice_set, if◌then◌else◌}
+use Rattle.std.specs.Prelude.{◌≡◌, ℕ, ◌==◌, nat_lt, Bool, false, List, [], ◌∷◌, ◌++◌, length, slice_index_or, slice_set, if◌then◌else◌}
 use Rattle.std.specs.BTreeSet.{BTreeSet, contains}
 use Rattle.std.specs.List.{list_any}
 use Rattle.std.specs.Ordering.{nat_cmp}
@@ -13,6 +13,10 @@ OnlyTouched rows touched = (c : ℕ) → list_any (λ n. n == c) touched ≡ fal
 -- only these numbers have bytes
 abbrev pub OnlyFilled : List Bytes → BTreeSet ℕ → Type 0
 OnlyFilled rows filled = (c : ℕ) → contains nat_cmp filled c ≡ false → slice_index_or rows c no_bytes ≡ no_bytes
+
+-- bytes wait for a number
+abbrev pub has_waiting : List Bytes → ℕ → Bool
+has_waiting rows c = nat_lt 0 (length (slice_index_or rows c no_bytes).waiting)
 
 -- the bytes that are under way wait
 abbrev pub committed : Bytes → Bytes

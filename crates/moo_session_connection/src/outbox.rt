@@ -5,7 +5,7 @@ ghost use Rattle.moo_session_connection.specs.Outbox.{empty, bytes_of, sent_wait
 ghost use Rattle.moo_session_connection.specs.Rows.{sent_for};
 
 use crate::Sent;
-use crate::row::{Row, commit_all, grow, rollback_all};
+use crate::row::{Row, commit_all, grow, keep_waiting, rollback_all};
 use moo_value::MooStr;
 use std::alloc::{AllocError, Global};
 use std::collections::BTreeSet;
@@ -121,12 +121,14 @@ impl Outbox {
         self.log.truncate(self.settled);
     }
 
-    /// Returns the numbers for which bytes wait, perhaps with others. The time depends only on their count. Fails only if
-    /// memory runs out.
+    /// Returns the numbers for which bytes wait, and no others. The time depends only on how many numbers have bytes. Fails
+    /// only if memory runs out.
     pub fn numbers(&self) -> Result<Vec<u16>, AllocError>
-        ensures { IfOk result (λ numbers. (c : ℕ) → (Contains numbers.items c → ⊥) → sent_waiting self.now c ≡ []) }
+        ensures all { IfOk result (λ numbers. (c : ℕ) → (Contains numbers.items c → ⊥) → sent_waiting self.now c ≡ []) }
+        ensures only { IfOk result (λ numbers. (c : ℕ) → Contains numbers.items c → sent_waiting self.now c ≢ []) }
     {
-        let numbers = elements_of(self.alloc, &self.filled)?;
+        let mut numbers = elements_of(self.alloc, &self.filled)?;
+        keep_waiting(&mut numbers, &self.rows);
         Ok(numbers)
     }
 

@@ -1,8 +1,8 @@
 //! The bytes for one number.
-ghost use Rattle.std.specs.Prelude.{◌≡◌, ◌<◌, ◌++◌, ℕ, [], length, slice_index_or, OnOk};
+ghost use Rattle.std.specs.Prelude.{◌≡◌, ◌<◌, ◌++◌, ℕ, [], filter, length, nat_lt, slice_index_or, OnOk};
 ghost use Rattle.moo_session_connection.specs.Streams.{ended};
 ghost use Rattle.moo_session_connection.specs.Outbox.{no_bytes};
-ghost use Rattle.moo_session_connection.specs.Rows.{committed, rolled_back, changed_at, all_changed};
+ghost use Rattle.moo_session_connection.specs.Rows.{committed, rolled_back, changed_at, all_changed, has_waiting};
 
 use std::alloc::{AllocError, Global};
 use std::marker::Model;
@@ -37,6 +37,13 @@ impl Row {
             bytes: Vec::new(alloc),
             settled: 0,
         }
+    }
+
+    // Returns whether bytes wait.
+    fn has_waiting(&self) -> bool
+        ensures { result ≡ nat_lt 0 (length self.now.waiting) }
+    {
+        0 < self.settled
     }
 
     // Appends a line and its end.
@@ -83,6 +90,24 @@ pub(crate) fn grow(alloc: Global, rows: &mut Vec<Row>, number: usize) -> Result<
         rows.push(Row::new(alloc))?;
     }
     Ok(())
+}
+
+// Drops the numbers for which no bytes wait.
+pub(crate) fn keep_waiting(numbers: &mut Vec<u16>, rows: &[Row])
+    ensures { numbers.new.items ≡ filter (has_waiting rows.now) numbers.old.items }
+{
+    numbers.retain(|number| has_waiting(rows, *number));
+}
+
+fn has_waiting(rows: &[Row], number: u16) -> bool
+    ensures { result ≡ has_waiting rows.now number }
+{
+    let place = usize::from(number);
+    if place < rows.len() {
+        rows[place].has_waiting()
+    } else {
+        false
+    }
 }
 
 // Makes the bytes that are under way for these numbers wait.

@@ -51,6 +51,14 @@ pub fn run_lives<D: CrashDisk + Drop>(
     moo_server::run_lives(alloc, disk, lives)
 }
 
+pub fn run_lives_on<D: CrashDisk + Drop>(
+    alloc: Global,
+    disk: D,
+    lives: &[Life],
+) -> Result<(D, Vec<LifeBegin>), (D, LivesFault)> {
+    moo_server::run_lives_on(alloc, disk, lives)
+}
+
 /// Returns the number of an event's form.
 pub fn event(event: &Event) -> u8 {
     match event {

@@ -1,8 +1,8 @@
-use Rattle.std.proofs.Common.{◌<◌, ◌^◌, ℕ, Option, IfSome, Some, None, arith, sym, subst, refl, ◌∙◌}
+use Rattle.std.proofs.Common.{◌+◌, ◌<◌, ◌≤◌, ◌^◌, ℕ, List, length, Option, IfSome, Some, None, arith, sym, subst, refl, ◌∙◌}
 use Rattle.std.proofs.lemmas.Result.{err_from_is_err_and}
 use Rattle.std.specs.List.{length_refill}
 use Rattle.moo_disk.specs.Disk.{no_call, one_more}
-use Rattle.moo_checkpoint.proofs.Answered.{counts_on, fed_on, fed_to, keeps_still, keeps_then, tells_on}
+use Rattle.moo_checkpoint.proofs.Answered.{counts_on, fed_on, fed_to, keeps_still, keeps_then, reads_more, tells_on}
 use Rattle.moo_checkpoint.proofs.recovery.feed_main.Goals as goal
 
 pub loop-buffer-init : goal.loop-buffer-init
@@ -13,6 +13,8 @@ loop-buffer-init g c = record {
   count = refl;
   keeps = keeps_still g.D.Disk.kind c.args.disk.now;
   reads = no_call c.args.disk.now;
+  few = λ honest. let none : 0 ≤ 0 = omega arith in (no_call c.args.disk.now, none);
+  within = λ honest. omega arith;
 }
 
 pub returns-in_err-after-clause-told : goal.returns-in_err-after-clause-told
@@ -53,6 +55,14 @@ loop-buffer-preserved g c =
       count = c.in_ok-after.ensures.device ∙ i.count;
       keeps = keeps_then g.D.Disk.kind c.args.disk.now c.loop-buffer.disk c.feed_at.new.disk i.keeps c.in_ok-after.ensures.keeps;
       reads = one_more c.args.disk.now c.loop-buffer.disk c.feed_at.new.disk i.reads c.feed_at.ensures.made;
+      few = λ honest.
+          let h = subst (λ (o : Option ℕ). IfSome o (λ (after : ℕ). (c.loop-buffer.at < after) × (after < 2 ^ 63))) c.in-Some.is c.in_ok-after.ensures.place in
+          let before = i.few honest in
+          reads_more g.D.Disk.kind c.loop-buffer.at c.in-Some.after c.args.disk.now c.loop-buffer.disk c.feed_at.new.disk (omega (arith, h.0)) before c.feed_at.ensures.made;
+      within = λ honest.
+          let same = (i.keeps.main honest).text in
+          let h = subst (λ (o : Option ℕ). IfSome o (λ (after : ℕ). after ≤ length mid)) c.in-Some.is (c.in_ok-after.ensures.within (i.keeps.honest.0 honest)) in
+          subst (λ (text : List ℕ). c.in-Some.after ≤ length text) same h;
     }
 
 pub returns-clause-fed : goal.returns-clause-fed
@@ -68,3 +78,18 @@ returns-clause-keeps g c = keeps_then g.D.Disk.kind c.args.disk.now c.loop-buffe
 
 pub returns-clause-reads : goal.returns-clause-reads
 returns-clause-reads g c = one_more c.args.disk.now c.loop-buffer.disk c.feed_at.new.disk c.loop-buffer.invariant.reads c.feed_at.ensures.made
+
+pub returns-in_err-buffer-clause-few : goal.returns-in_err-buffer-clause-few
+returns-in_err-buffer-clause-few g c honest = let none : 0 ≤ length (g.D.Disk.kind.view c.args.disk.now).main_text + 1 = omega arith in (no_call c.args.disk.now, none)
+
+pub returns-in_err-after-clause-few : goal.returns-in_err-after-clause-few
+returns-in_err-after-clause-few g c honest =
+    let i = c.loop-buffer.invariant in
+    reads_more g.D.Disk.kind c.loop-buffer.at (length (g.D.Disk.kind.view c.args.disk.now).main_text + 1) c.args.disk.now c.loop-buffer.disk c.feed_at.new.disk
+    (omega (arith, i.within honest)) (i.few honest) c.feed_at.ensures.made
+
+pub returns-clause-few : goal.returns-clause-few
+returns-clause-few g c honest =
+    let i = c.loop-buffer.invariant in
+    reads_more g.D.Disk.kind c.loop-buffer.at (length (g.D.Disk.kind.view c.args.disk.now).main_text + 1) c.args.disk.now c.loop-buffer.disk c.feed_at.new.disk
+    (omega (arith, i.within honest)) (i.few honest) c.feed_at.ensures.made

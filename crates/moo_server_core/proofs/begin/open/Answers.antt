@@ -5,6 +5,11 @@ use Rattle.moo_server_core.specs.declared.server_core.Open.{Open}
 use Rattle.moo_server_core.specs.Server.{OpenFollows}
 use Rattle.moo_server_core.proofs.begin.open.Goals as goal
 
+pub returns-in_err-saved-clause-refused : goal.returns-in_err-saved-clause-refused
+returns-in_err-saved-clause-refused g c = λ honest.
+    let p = err_from_is_err_and c.from_residual.result c.from_residual.ensures.1 in
+    rw (p.1, p.2) (c.in_err-saved.ensures.refused honest)
+
 pub returns-in_err-saved-clause-accepted : goal.returns-in_err-saved-clause-accepted
 returns-in_err-saved-clause-accepted g c = λ honest s spells.
     let p = err_from_is_err_and c.from_residual.result c.from_residual.ensures.1 in
@@ -20,6 +25,7 @@ returns-clause-opened g c = record {
     only = λ honest s spells. sym (c.in_ok-saved.ensures.within honest s ((g.met.S.StartApplication.spells_is (g.D.Disk.kind.view c.args.disk.now).main_text s).0 spells));
     main = c.recover.ensures.main;
     reads = c.recover.ensures.reads;
+    few = c.recover.ensures.few;
     honest_still = c.recover.ensures.honest.0;
   };
   text_is = c.in_ok-text.ensures.canonical ∙ sym (g.met.S.StartApplication.text_is (saved_of c.in_ok-saved.saved));

@@ -45,4 +45,4 @@ returns-in-Ok-clause-lived g c =
     }
 
 pub returns-in-Err-clause-met : goal.returns-in-Err-clause-met
-returns-in-Err-clause-met g c = record { sound = c.in-Err.ensures.accepted; device = c.in-Err.ensures.device; main = c.open.ensures.main; spare = c.open.ensures.spare; reads = c.open.ensures.reads }
+returns-in-Err-clause-met g c = record { refused = c.in-Err.ensures.refused; sound = c.in-Err.ensures.accepted; device = c.in-Err.ensures.device; main = c.open.ensures.main; spare = c.open.ensures.spare; reads = c.open.ensures.reads; few = c.open.ensures.few }

@@ -22,4 +22,5 @@ returns-in-Err-clause-met g c = (
   refl,
   subst (λ (s : LifeStop). HasNoImage g.D.CrashDisk.images s c.args.disk) (sym c.in-Crash.is)
       (no_image c.crash.result _ c.in-Crash.i _ c.in-Err.is c.crash.ensures.count),
+  c.in-Err.ensures.same,
 )

@@ -1,30 +1,10 @@
-use Rattle.std.proofs.Common.{ℕ, List, sym, subst}
-use Rattle.std.specs.Prelude.{IfErr, OnOk}
-use Rattle.std.proofs.lemmas.Result.{err_from_is_err_and}
-use Rattle.moo_dbtext_read.proofs.Refused.{front_grows}
-use Rattle.moo_cli_check.specs.Reading.{IsBehind, IsEnded}
-use Rattle.moo_cli_check.proofs.Ended.{ended_at}
+use Rattle.moo_dbtext_record.proofs.CuttingLaws.{fed_whole}
+use Rattle.moo_dbtext_read.proofs.Cases.{ok_of, err_of}
+use Rattle.moo_cli_check.specs.Reading.{SurveysOn}
+use Rattle.moo_cli_check.proofs.Ended.{surveys_join, surveys_stop}
 use Rattle.moo_cli_check.proofs.survey.Survey.feed.Goals as goal
 
-pub returns-in_err-line-clause-stops : goal.returns-in_err-line-clause-stops
-returns-in_err-line-clause-stops c = λ bytes h.
-    let i = c.loop-size.invariant.behind bytes h in
-    let p = err_from_is_err_and c.from_residual.result c.from_residual.ensures.1 in
-    rw (p.1, p.2) (ended_at bytes c.args.piece.now i.0 c.loop-size.more.now c.in-Some.size _ c.in_err-line.field-0.0 i.1 (c.in_err-line.ensures.stops i.0 i.2))
-
-pub loop-size-preserved : goal.loop-size-preserved
-loop-size-preserved c = record {
-  behind = λ bytes h.
-      let i = c.loop-size.invariant.behind bytes h in
-      (_, front_grows bytes c.args.piece.now i.0 c.loop-size.more.now c.in-Some.size i.1, c.in_ok-line.ensures.goes i.0 i.2);
-}
-
-pub returns-clause-goes : goal.returns-clause-goes
-returns-clause-goes c = λ bytes h.
-    let i = c.loop-size.invariant.behind bytes h in
-    subst (λ (b : List ℕ). OnOk c.part.result (IsBehind c.part.new.self b)) (sym i.1) (c.part.ensures.goes i.0 i.2)
-
-pub returns-clause-stops : goal.returns-clause-stops
-returns-clause-stops c = λ bytes h.
-    let i = c.loop-size.invariant.behind bytes h in
-    subst (λ (b : List ℕ). IfErr c.part.result (IsEnded b c.part.new.self.faults.items)) (sym i.1) (c.part.ensures.stops i.0 i.2)
+pub returns : goal.returns
+returns c =
+    let fed = fed_whole SurveysOn surveys_join surveys_stop c.args.self.now c.feed_lines.new.sink c.args.piece.now c.feed_lines.result c.feed_lines.ensures in
+    record { goes = λ bytes h. ok_of c.feed_lines.result _ _ (fed bytes h); stops = λ bytes h. err_of c.feed_lines.result _ _ (fed bytes h) }

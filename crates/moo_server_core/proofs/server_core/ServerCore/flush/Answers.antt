@@ -1,5 +1,8 @@
-use Rattle.std.proofs.Common.{◌≡◌, Some, inl, inr}
+use Rattle.std.proofs.Common.{◌≡◌, Option, Some, inl, inr, sym, ◌∙◌, ap, subst}
 use Rattle.moo_server_core.specs.Traces.{Done, Failed}
+use Rattle.moo_server_core.specs.declared.server_core.Open.{Open}
+use Rattle.moo_server_core.specs.Server.{MakesCallOf, turns_of}
+use Rattle.moo_server_core.proofs.Heard.{if_err_any}
 use Rattle.moo_server_core.proofs.Reported.{on_ok_map, turns}
 use Rattle.moo_server_core.proofs.server_core.ServerCore.flush.Goals as goal
 
@@ -29,19 +32,27 @@ pub returns-in-Failed-clause-at_most_once : goal.returns-in-Failed-clause-at_mos
 returns-in-Failed-clause-at_most_once g c = inr (c.turn.ensures.failed c.in-Failed.is)
 
 pub returns-in-More-clause-call : goal.returns-in-More-clause-call
-returns-in-More-clause-call g c = λ _. c.turn.ensures.call
-
-pub returns-in-More-clause-calls : goal.returns-in-More-clause-calls
-returns-in-More-clause-calls g c = inr c.turn.ensures.call
+returns-in-More-clause-call g c =
+    let was : c.args.self.now.writing ≡ Some c.in-Some.open = cc in
+    subst (λ (w : Option Open). MakesCallOf g.D.Disk.kind w c.args.disk.now c.turn.new.disk) (sym was)
+    (record { call = c.turn.ensures.call; appends = λ h unharmed next. c.turn.ensures.appends h (λ failed. unharmed (c.turn.ensures.failed failed)) next })
 
 pub returns-in-Done-clause-call : goal.returns-in-Done-clause-call
-returns-in-Done-clause-call g c = λ _. c.turn.ensures.call
-
-pub returns-in-Done-clause-calls : goal.returns-in-Done-clause-calls
-returns-in-Done-clause-calls g c = inr c.turn.ensures.call
+returns-in-Done-clause-call g c =
+    let was : c.args.self.now.writing ≡ Some c.in-Some.open = cc in
+    subst (λ (w : Option Open). MakesCallOf g.D.Disk.kind w c.args.disk.now c.turn.new.disk) (sym was)
+    (record { call = c.turn.ensures.call; appends = λ h unharmed next. c.turn.ensures.appends h (λ failed. unharmed (c.turn.ensures.failed failed)) next })
 
 pub returns-in-Failed-clause-call : goal.returns-in-Failed-clause-call
-returns-in-Failed-clause-call g c = λ _. c.turn.ensures.call
+returns-in-Failed-clause-call g c =
+    let was : c.args.self.now.writing ≡ Some c.in-Some.open = cc in
+    subst (λ (w : Option Open). MakesCallOf g.D.Disk.kind w c.args.disk.now c.turn.new.disk) (sym was)
+    (record { call = c.turn.ensures.call; appends = λ h unharmed next. c.turn.ensures.appends h (λ failed. unharmed (c.turn.ensures.failed failed)) next })
 
-pub returns-in-Failed-clause-calls : goal.returns-in-Failed-clause-calls
-returns-in-Failed-clause-calls g c = inr c.turn.ensures.call
+pub returns-in-Done-clause-over : goal.returns-in-Done-clause-over
+returns-in-Done-clause-over g c =
+    let was : c.args.self.now.writing ≡ Some c.in-Some.open = cc in
+    if_err_any c.report.result (inl (ap turns_of was ∙ c.turn.ensures.last c.in-Done.is))
+
+pub returns-in-Failed-clause-over : goal.returns-in-Failed-clause-over
+returns-in-Failed-clause-over g c = if_err_any c.report-in-Failed.result (inr (c.turn.ensures.failed c.in-Failed.is))

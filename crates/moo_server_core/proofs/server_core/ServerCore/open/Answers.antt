@@ -35,6 +35,7 @@ returns-clause-opened g c = (
     only = λ honest s spells. sym (c.in_ok-saved.ensures.within honest s ((g.met.S.StartApplication.spells_is (g.D.Disk.kind.view c.args.disk.now).main_text s).0 spells));
     main = c.recover.ensures.main;
     reads = c.recover.ensures.reads;
+    few = c.recover.ensures.few;
     honest_still = c.recover.ensures.honest.0;
   },
 )

@@ -40,7 +40,7 @@ pub returns-in-Err-clause-ran : goal.returns-in-Err-clause-ran
 returns-in-Err-clause-ran g c =
     let inv = c.loop-done.invariant in
     run_stops g.S.Application.layer g.D.Disk.kind c.args.self.now c.loop-done.self c.take.new.self c.args.disk.now c.loop-done.disk c.take.new.disk c.args.events.now c.loop-done.done
-    c.index-events-done.result c.in-Err.cause c.loop-done-test.true c.index-events-done.is (cc) inv.alive c.take.ensures.at_most_once c.take.ensures.calls (λ nothing. ⊎_elim c.take.ensures.still c.take.ensures.idle nothing)
+    c.index-events-done.result c.in-Err.cause c.loop-done-test.true c.index-events-done.is (cc) inv.alive c.take.ensures.at_most_once (λ is. c.in-Err.ensures.halts (ap Err is)) (λ nothing. ⊎_elim c.take.ensures.still c.take.ensures.idle nothing)
     (λ is. c.in-Err.ensures.memory (ap Err is)) (λ is. c.in-Err.ensures.wanting (ap Err is)) c.in-Err.ensures.refused inv.goes
 
 pub returns-clause-halted : goal.returns-clause-halted

@@ -34,8 +34,5 @@ returns-then-not-is_flush-clause-call g c = λ flush. absurd (isnt_flush (seen c
 pub returns-in-Ok-clause-call : goal.returns-in-Ok-clause-call
 returns-in-Ok-clause-call g c = c.try_take.ensures.call
 
-pub returns-in-Ok-clause-calls : goal.returns-in-Ok-clause-calls
-returns-in-Ok-clause-calls g c = c.try_take.ensures.calls
-
-pub returns-in-Err-clause-calls : goal.returns-in-Err-clause-calls
-returns-in-Err-clause-calls g c = c.try_take.ensures.calls
+pub returns-in-Err-clause-halts : goal.returns-in-Err-clause-halts
+returns-in-Err-clause-halts g c = λ _. c.in-Err.ensures.halts

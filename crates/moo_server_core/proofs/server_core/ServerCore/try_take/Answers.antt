@@ -1,13 +1,13 @@
-use Rattle.std.proofs.Common.{◌≡◌, Option, None, false, inl, refl, sym, ◌∙◌, ap, subst}
+use Rattle.std.proofs.Common.{◌≡◌, Option, None, false, refl, sym, ◌∙◌, ap, subst}
 use Rattle.moo_server_core.specs.Seen.{Event, Flush, is_flush, seen}
 use Rattle.moo_server_core.specs.Application.{Output, then_out}
-use Rattle.moo_server_core.specs.Meaning.{is_passed_over, refusal}
+use Rattle.moo_server_core.specs.Meaning.{is_due, is_passed_over, refusal}
 use Rattle.moo_server_core.specs.Server.{OpenFollows, state_of}
 use Rattle.moo_server_core.specs.declared.server_core.Open.{Open}
 use Rattle.moo_server_core.proofs.Heard.{if_err_any, if_err_map, not_ok}
-use Rattle.moo_server_core.proofs.Idle.{flush_leaves, idle_if}
+use Rattle.moo_server_core.proofs.Idle.{flush_wants, idle_if, none_if_due}
 use Rattle.moo_server_core.proofs.Reported.{on_ok_map, opens_follow}
-use Rattle.moo_server_core.proofs.Taken.{acted, flush_is, flushed, isnt_flush}
+use Rattle.moo_server_core.proofs.Taken.{acted, flush_is, flushed, isnt_flush, over_if_none}
 use Rattle.moo_server_core.proofs.server_core.ServerCore.try_take.Goals as goal
 
 pub returns-then-is_flush-clause-takes : goal.returns-then-is_flush-clause-takes
@@ -65,14 +65,24 @@ returns-clause-follows g c =
 pub returns-in_err-flush-clause-memory : goal.returns-in_err-flush-clause-memory
 returns-in_err-flush-clause-memory g c =
     let flush : seen c.args.event.now ≡ Flush = flush_is (seen c.args.event.now) (sym c.is_flush.ensures ∙ c.if-is_flush.true) in
-    if_err_any c.from_residual.result
-    (c.requires.accepted, c.requires.counts, flush_leaves g.S.Application.layer.meaning (state_of g.S.Application.layer c.args.self.now) (seen c.args.event.now) flush)
+    if_err_any c.from_residual.result (
+      c.requires.accepted,
+      c.requires.counts,
+      flush_wants g.S.Application.layer c.args.self.now (seen c.args.event.now) flush (λ none. absurd (not_ok (c.in_err-flush.ensures.without_memory none).0)),
+    )
 
 pub returns-then-is_flush-clause-memory : goal.returns-then-is_flush-clause-memory
 returns-then-is_flush-clause-memory g c =
+    let l = g.S.Application.layer in
     let flush : seen c.args.event.now ≡ Flush = flush_is (seen c.args.event.now) (sym c.is_flush.ensures ∙ c.if-is_flush.true) in
-    if_err_any c.begin_due_checkpoint.result
-    (c.requires.accepted, c.requires.counts, flush_leaves g.S.Application.layer.meaning (state_of g.S.Application.layer c.args.self.now) (seen c.args.event.now) flush)
+    if_err_map c.begin_due_checkpoint.result
+    (λ due. (
+      c.requires.accepted,
+      c.requires.counts,
+      flush_wants l c.args.self.now (seen c.args.event.now) flush
+          (λ none. ap (is_due l.meaning) (sym (c.in_ok-flush.ensures.without_memory none).1) ∙ due),
+    ))
+    c.begin_due_checkpoint.ensures.due
 
 pub returns-in_err-act-clause-memory : goal.returns-in_err-act-clause-memory
 returns-in_err-act-clause-memory g c =
@@ -80,7 +90,7 @@ returns-in_err-act-clause-memory g c =
     if_err_any c.from_residual-in_err-act.result (
       c.requires.accepted,
       c.requires.counts,
-      idle_if l.meaning (state_of l c.args.self.now) (seen c.args.event.now) (λ leaving. absurd (not_ok (c.in_err-act.ensures.dropped leaving).0)),
+      idle_if l.meaning (state_of l c.args.self.now) (seen c.args.event.now) (λ without. absurd (not_ok (c.in_err-act.ensures.without_memory without).0)),
     )
 
 pub returns-clause-memory : goal.returns-clause-memory
@@ -90,30 +100,42 @@ returns-clause-memory g c =
     (λ due. (
       c.requires.accepted,
       c.requires.counts,
-      idle_if l.meaning (state_of l c.args.self.now) (seen c.args.event.now) (λ leaving. sym (c.in_ok-act.ensures.dropped leaving).1 ∙ due),
+      idle_if l.meaning (state_of l c.args.self.now) (seen c.args.event.now) (λ without. sym (c.in_ok-act.ensures.without_memory without).1 ∙ due),
     ))
     c.begin_due_checkpoint-2.ensures.due
 
 pub returns-in_err-flush-clause-call : goal.returns-in_err-flush-clause-call
 returns-in_err-flush-clause-call g c = λ _. c.flush.ensures.call
 
-pub returns-in_err-flush-clause-calls : goal.returns-in_err-flush-clause-calls
-returns-in_err-flush-clause-calls g c = c.flush.ensures.calls
+pub returns-in_err-flush-clause-halts : goal.returns-in_err-flush-clause-halts
+returns-in_err-flush-clause-halts g c =
+    if_err_any c.from_residual.result (λ _. record { call = c.flush.ensures.call; over = λ _. c.in_err-flush.ensures.over })
 
 pub returns-then-is_flush-clause-call : goal.returns-then-is_flush-clause-call
 returns-then-is_flush-clause-call g c = λ _. c.flush.ensures.call
 
-pub returns-then-is_flush-clause-calls : goal.returns-then-is_flush-clause-calls
-returns-then-is_flush-clause-calls g c = c.flush.ensures.calls
+pub returns-then-is_flush-clause-halts : goal.returns-then-is_flush-clause-halts
+returns-then-is_flush-clause-halts g c =
+    let l = g.S.Application.layer in
+    let turns = c.in_ok-flush.ensures.turns in
+    if_err_map c.begin_due_checkpoint.result
+    (λ due. λ _. record {
+      call = c.flush.ensures.call;
+      over = over_if_none l.meaning g.D.Disk.kind (state_of l c.args.self.now) (state_of l c.flush.new.self) c.args.self.now.writing c.flush.new.self.writing
+          c.args.disk.now c.flush.new.disk turns.0 turns.1 turns.2 (none_if_due l c.flush.new.self due);
+    })
+    c.begin_due_checkpoint.ensures.due
 
 pub returns-in_err-act-clause-call : goal.returns-in_err-act-clause-call
 returns-in_err-act-clause-call g c = λ flush. absurd (isnt_flush (seen c.args.event.now) (sym c.is_flush.ensures ∙ c.if-is_flush.false) flush)
 
-pub returns-in_err-act-clause-calls : goal.returns-in_err-act-clause-calls
-returns-in_err-act-clause-calls g c = inl refl
+pub returns-in_err-act-clause-halts : goal.returns-in_err-act-clause-halts
+returns-in_err-act-clause-halts g c =
+    if_err_any c.from_residual-in_err-act.result (λ flush. absurd (isnt_flush (seen c.args.event.now) (sym c.is_flush.ensures ∙ c.if-is_flush.false) flush))
 
 pub returns-clause-call : goal.returns-clause-call
 returns-clause-call g c = λ flush. absurd (isnt_flush (seen c.args.event.now) (sym c.is_flush.ensures ∙ c.if-is_flush.false) flush)
 
-pub returns-clause-calls : goal.returns-clause-calls
-returns-clause-calls g c = inl refl
+pub returns-clause-halts : goal.returns-clause-halts
+returns-clause-halts g c =
+    if_err_any c.begin_due_checkpoint-2.result (λ flush. absurd (isnt_flush (seen c.args.event.now) (sym c.is_flush.ensures ∙ c.if-is_flush.false) flush))

@@ -1,0 +1,14 @@
+class Taking:
+    def take(self, a):
+        return a
+
+
+taking = Taking()
+
+
+def run(n):
+    o = taking
+    x = 0
+    for i in range(1, n + 1):
+        x = x + o.take(i)
+    return x

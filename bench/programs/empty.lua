@@ -1,0 +1,3 @@
+return function(n)
+    return 0
+end

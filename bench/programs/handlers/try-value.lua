@@ -1,0 +1,20 @@
+local function div(a, b)
+    if b == 0 then
+        error({code = "E_DIV"})
+    end
+    return a // b
+end
+
+return function(n)
+    local y = 0
+    for i = 1, n do
+        local ok, e = pcall(function()
+            local x = div(10, i % 2)
+            y = y + x
+        end)
+        if not ok and e.code == "E_DIV" then
+            y = y + 1
+        end
+    end
+    return y
+end

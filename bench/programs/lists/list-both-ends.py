@@ -1,0 +1,11 @@
+def run(n):
+    x = 0
+    for j in range(1, n + 1):
+        l = []
+        for i in range(1, 41):
+            if i % 2:
+                l.insert(0, i)
+            else:
+                l.append(i)
+        x = x + l[0] + l[-1]
+    return x

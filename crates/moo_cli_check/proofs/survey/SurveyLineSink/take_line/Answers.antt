@@ -16,7 +16,7 @@ returns-in-Some c = λ bytes h.
     let d = at_dot c.args.self.now.records c.take_line.new.records bytes c.args.line.now c.in-Some.object c.in-Some.verb c.requires h.at (c.in_ok-object.ensures.steps h.going) (sym c.in_ok-object.ensures.ended ∙ c.in-Some.is) in
     match_of c.note.result _ _
     (ok_then c.note.result _ _ c.note.ensures.noted (λ noted.
-        behind_ended c.args.self.now c.note.new.self c.take_line.new.records bytes c.args.line.now c.in-Some.object c.in-Some.verb h d (c.note.ensures.going c.in_ok-object.ensures.ok) c.note.ensures.alike (noted _ d.had)))
+    behind_ended c.args.self.now c.note.new.self c.take_line.new.records bytes c.args.line.now c.in-Some.object c.in-Some.verb h d (c.note.ensures.going c.in_ok-object.ensures.ok) c.note.ensures.alike (noted _ d.had)))
     (err_then c.note.result _ _ c.note.ensures.memory (λ e memory. inl memory))
 
 pub returns-in_err-object : goal.returns-in_err-object

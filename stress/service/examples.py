@@ -47,9 +47,22 @@ if shutil.which("systemd-analyze"):
     checks.check("systemd takes the unit", answer.returncode == 0 and "moo.service" not in answer.stdout, answer.stdout)
 else:
     checks.skip("the unit", "there is no systemd-analyze")
-for tool, words in (("stunnel", ["-version"]), ("nginx", ["-t", "-c", os.path.join(EXAMPLES, "nginx.conf")]), ("logrotate", ["-d", os.path.join(EXAMPLES, "logrotate.conf")])):
+
+def nginx_words():
+    """Writes a whole configuration around the example, with a certificate of its own, and returns the words that test it."""
+    key, certificate = (os.path.join(folder, name) for name in ("moo.key", "moo.crt"))
+    run("openssl", "req", "-x509", "-newkey", "rsa:2048", "-nodes", "-subj", "/CN=localhost", "-keyout", key, "-out", certificate)
+    with open(os.path.join(EXAMPLES, "nginx.conf")) as file:
+        text = file.read().replace("/etc/ssl/moo.key", key).replace("/etc/ssl/moo.crt", certificate)
+    whole = os.path.join(folder, "nginx.conf")
+    with open(whole, "w") as file:
+        file.write(f"include /etc/nginx/modules-enabled/*.conf;\npid {folder}/nginx.pid;\nevents {{}}\n{text}")
+    return ["-t", "-c", whole]
+
+
+for tool, words in (("stunnel", lambda: ["-version"]), ("nginx", nginx_words), ("logrotate", lambda: ["-d", os.path.join(EXAMPLES, "logrotate.conf")])):
     if shutil.which(tool):
-        answer = run(tool, *words)
+        answer = run(tool, *words())
         checks.check(f"{tool} takes its file", answer.returncode == 0, answer.stdout)
     else:
         checks.skip(f"{tool}'s file", f"there is no {tool}")

@@ -36,11 +36,11 @@ def block(folder):
 # What the world runs as it begins, what else is there, the options; what is printed, what is logged, the status.
 PROGRAMS = [
     ('server_log("up");', {}, ["--rounds", "1"], LISTENS, BEGUN + "[INFO  moo] up\n", 0),
-    ("dump_database();", {}, ["--rounds", "5"], LISTENS, BEGUN + "[INFO  moo::serve] checkpoint done: 453 bytes\n", 0),
+    ("dump_database();", {}, ["--rounds", "5"], LISTENS, BEGUN + "[INFO  moo::serve] checkpoint done: 453 bytes in TIME\n", 0),
     ("dump_database();", {"before": block}, ["--rounds", "1"], LISTENS,
      "[WARN  moo::serve] no checkpoint can be made: HERE/programs.db.new: Is a directory (os error 21)\n" + BEGUN
      + "[WARN  moo::serve] checkpoint failed: HERE/programs.db.new: Is a directory (os error 21)\n", 0),
-    ("shutdown();", {}, ["--rounds", "1000000000"], LISTENS, BEGUN + "[INFO  moo::serve] checkpoint done: 448 bytes\n", 0),
+    ("shutdown();", {}, ["--rounds", "1000000000"], LISTENS, BEGUN + "[INFO  moo::serve] checkpoint done: 448 bytes in TIME\n", 0),
     ("return 0;", {"is_taken": True}, ["--rounds", "1"], "refused: Device\n",
      "[WARN  moo::serve] 127.0.0.1:PORT: Address already in use (os error 98)\n", 3),
     ("return 2.5;", {}, ["--rounds", "1"], "line 78: Program #0:1 line 1 BadToken\n",
@@ -73,7 +73,7 @@ def a_client_looks_and_is_redirected(moo):
         sees_last(client, b"*** Redirecting connection to new port ***\r\n")
         other.sendall(b"look\r\n;shutdown();\r\n")
         sees_last(other, b"*** Redirecting old connection to this port ***\r\n" + LOOKED + LAST)
-        server.is_over(LISTENS, BEGUN + "[INFO  moo::serve] checkpoint done: 446 bytes\n")
+        server.is_over(LISTENS, BEGUN + "[INFO  moo::serve] checkpoint done: 446 bytes in TIME\n")
 
 
 def output_waits_until_it_is_read(moo):
@@ -117,7 +117,7 @@ def the_next_one_under_a_number_starts_clean(moo):
         client.sendall(b"\n;shutdown();\n")
         sees_last(client, GREETING + LAST)
         told = "".join(f"[INFO  moo] {line}\n" for line in ["#-2", "told", "left", "#-2"])
-        server.is_over(LISTENS, BEGUN + told + "[INFO  moo::serve] checkpoint done: 761 bytes\n")
+        server.is_over(LISTENS, BEGUN + told + "[INFO  moo::serve] checkpoint done: 761 bytes in TIME\n")
 
 
 def a_clock_that_is_set_back_is_not_shown(moo):
@@ -144,12 +144,38 @@ def a_clock_that_is_set_back_is_not_shown(moo):
             sees_last(client, LAST)
 
 
+def the_log_says_who_logs_in(moo):
+    with Server(moo, starting("return 0;"), "--log-logins") as server:
+        client = server.connect()
+        sees(client, GREETING)
+        other = server.connect()
+        sees_last(client, b"*** Redirecting connection to new port ***\r\n")
+        reset(other)
+        server.wait("logged", r"\[INFO  moo::serve\] connection 1: player #3 has left")
+        same("logged", server.read("logged"), BEGUN + "".join(f"[INFO  moo::serve] connection {line}\n" for line in [
+            "0: player #3 has logged in", "1: player #3 has logged in, and is no longer on connection 0", "1: player #3 has left"]))
+
+
+def the_log_says_who_is_refused(moo):
+    with Server(moo, starting('set_verb_code(#0, "do_login_command", {"return 0;"});'), "--log-logins") as server:
+        client = server.connect()
+        client.sendall(b"connect wizard\n")
+        server.wait("logged", r"\[INFO  moo::serve\] connection 0: a line has logged nobody in")
+
+
+def who_sends_nothing_is_hung_up(moo):
+    with Server(moo, starting("return 0;"), "--idle-seconds", "1") as server:
+        client = server.connect()
+        sees_last(client, GREETING)
+        server.wait("logged", r"\[WARN  moo::serve\] connection 0 is hung up: it has sent nothing for 1 s, nor have 0 others")
+
+
 def a_shutdown_is_written_and_the_server_closes(moo):
     with Server(moo, starting("return 0;")) as server:
         client = server.connect()
         client.sendall(b';#2.name = "A Hall"; shutdown();\n')
         sees_last(client, GREETING + LAST)
-        server.is_over(LISTENS, BEGUN + "[INFO  moo::serve] checkpoint done: 438 bytes\n")
+        server.is_over(LISTENS, BEGUN + "[INFO  moo::serve] checkpoint done: 438 bytes in TIME\n")
         same("database", (server.folder / FILE).read_text(), starting("return 0;").replace("The First Room", "A Hall"))
 
 
@@ -161,6 +187,9 @@ CASES = [
     (output_waits_until_it_is_read, ()),
     (the_next_one_under_a_number_starts_clean, ()),
     (a_clock_that_is_set_back_is_not_shown, ()),
+    (the_log_says_who_logs_in, ()),
+    (the_log_says_who_is_refused, ()),
+    (who_sends_nothing_is_hung_up, ()),
     (a_shutdown_is_written_and_the_server_closes, ()),
     (a_line_next_to_a_crowd, ()),
 ]

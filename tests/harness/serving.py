@@ -69,8 +69,8 @@ class Server:
         self.room.cleanup()
 
     def read(self, name):
-        """Returns the text of a file of the folder, with PORT for the port and HERE for the folder."""
-        text = (self.folder / name).read_text()
+        """Returns the text of a file of the folder, with PORT for the port, HERE for the folder and TIME for the milliseconds of a checkpoint."""
+        text = re.sub(r" bytes in \d+ ms$", " bytes in TIME", (self.folder / name).read_text(), flags=re.MULTILINE)
         return text.replace(str(self.folder), "HERE").replace(f"127.0.0.1:{self.port}", "127.0.0.1:PORT")
 
     def wait(self, name, pattern):

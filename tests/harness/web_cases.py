@@ -69,8 +69,8 @@ def at_port(request, port):
 class Page(Server):
     """A server with a page for browsers, at a port that the system gives it."""
 
-    def __init__(self, moo, **found):
-        super().__init__(moo, starting("return 0;"), "--web", "0", "--web-origin", "https://moo.example.org/", **found)
+    def __init__(self, moo, *options, **found):
+        super().__init__(moo, starting("return 0;"), "--web", "0", "--web-origin", "https://moo.example.org/", *options, **found)
 
     def __enter__(self):
         super().__enter__()
@@ -145,6 +145,13 @@ def a_browser_and_a_telnet_client_share_the_world(moo):
         browser.sees(b"*** Redirecting old connection to this port ***\r\n" + LOOKED)
         browser.say(b";shutdown();\r\n")
         browser.sees(LAST)
+
+
+def a_browser_that_sends_no_message_is_hung_up(moo):
+    with Page(moo, "--idle-seconds", "1") as server:
+        browser = WebSocket(server.web)
+        browser.sees_close(1000)
+        server.wait("logged", r"\[WARN  moo::serve\] connection 0 is hung up: it has sent nothing for 1 s, nor have 0 others")
 
 
 def what_breaks_the_protocol_ends_a_websocket(moo):
@@ -264,6 +271,7 @@ CASES = [
     (frames_may_follow_the_request_at_once, ()),
     (a_browser_and_a_telnet_client_share_the_world, ()),
     (what_breaks_the_protocol_ends_a_websocket, ()),
+    (a_browser_that_sends_no_message_is_hung_up, ()),
     (a_close_is_answered, ()),
     (one_who_pings_and_does_not_read_delays_nobody, ()),
     (one_who_pings_and_reads_late_gets_every_pong, ()),

@@ -4,7 +4,7 @@ use moo_cli_args::{Service, Times};
 use moo_cli_file_disk::{Lock, LockFault};
 use moo_cli_io::log_error;
 use moo_cli_log::{LocalTime, LogTimes, TimedLog};
-use moo_cli_serve::{LoginLimits, Served, Web, run_serve};
+use moo_cli_serve::{Limits, LoginLimits, Served, Web, run_serve};
 use moo_server::MooApplication;
 use std::fs::File;
 use std::io;
@@ -29,12 +29,16 @@ pub fn serve(rt: &HostRuntime, service: Service) -> io::Result<u8> {
             origins: &service.web_origins,
         }),
         rounds: service.rounds,
-        most_waiting: service.most_waiting,
-        login: LoginLimits {
-            seconds: service.login_seconds,
-            most: service.most_unconnected,
+        limits: Limits {
+            most_waiting: service.most_waiting,
+            login: LoginLimits {
+                seconds: service.login_seconds,
+                most: service.most_unconnected,
+            },
+            idle_seconds: service.idle_seconds,
         },
         has_console: service.console,
+        logs_players: service.log_logins,
         has_telnet: service.telnet,
         must_save: service.must_save,
     };

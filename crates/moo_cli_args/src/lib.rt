@@ -61,12 +61,16 @@ pub struct Service<'a> {
     pub login_seconds: u64,
     /// The greatest number of connections on which nobody has logged in, or 0 for no limit.
     pub most_unconnected: usize,
+    /// The seconds after which a connection that has sent nothing is hung up, or 0 for no limit.
+    pub idle_seconds: u64,
     /// Whether standard input and output are the operator's own connection.
     pub console: bool,
     /// Whether the commands of telnet are dropped from what clients send.
     pub telnet: bool,
     /// Whether the exit status says that the server ended without a last checkpoint.
     pub must_save: bool,
+    /// Whether the log has lines on who logs in and who leaves.
+    pub log_logins: bool,
     /// The time before each line of the log.
     pub log_times: Times,
 }
@@ -143,9 +147,11 @@ fn service_with<'a>(
         most_waiting: found.get_one::<usize>("most-waiting")?,
         login_seconds: found.get_one::<u64>("login-seconds")?,
         most_unconnected: found.get_one::<usize>("most-unconnected")?,
+        idle_seconds: found.get_one::<u64>("idle-seconds")?,
         console: found.get_flag("console"),
         telnet: found.get_flag("telnet"),
         must_save: found.get_flag("must-save"),
+        log_logins: found.get_flag("log-logins"),
         log_times: times_of(found),
     })
 }
@@ -237,9 +243,11 @@ fn serve<'a>(alloc: Global) -> Result<Command<'a>, AllocError> {
         .arg(most_waiting)?
         .arg(login_seconds(alloc))?
         .arg(most_unconnected(alloc))?
+        .arg(idle_seconds(alloc))?
         .arg(console(alloc))?
         .arg(telnet(alloc))?
         .arg(must_save(alloc))?
+        .arg(log_logins(alloc))?
         .arg(log_times(alloc))
 }
 
@@ -280,6 +288,15 @@ fn most_unconnected<'a>(alloc: Global) -> Arg<'a> {
         .default_value("0")
 }
 
+fn idle_seconds<'a>(alloc: Global) -> Arg<'a> {
+    Arg::new(alloc, "idle-seconds")
+        .long("idle-seconds")
+        .value_name("N")
+        .help("A connection that has sent nothing for N seconds is hung up; 0 for no limit")
+        .value_parser(value_parser!(u64))
+        .default_value("0")
+}
+
 fn console<'a>(alloc: Global) -> Arg<'a> {
     Arg::new(alloc, "console")
         .long("console")
@@ -299,6 +316,13 @@ fn must_save<'a>(alloc: Global) -> Arg<'a> {
         .long("must-save")
         .action(ArgAction::SetTrue)
         .help("End with status 3 if there is no last checkpoint that is done")
+}
+
+fn log_logins<'a>(alloc: Global) -> Arg<'a> {
+    Arg::new(alloc, "log-logins")
+        .long("log-logins")
+        .action(ArgAction::SetTrue)
+        .help("Log who logs in and who leaves, and each line at the login that logs nobody in")
 }
 
 fn log_times<'a>(alloc: Global) -> Arg<'a> {

@@ -8,6 +8,7 @@ use Rattle.moo_server_core.specs.Calls.{Call, Calls, Lent, One, Opened, StartsAg
 use Rattle.moo_server_core.specs.Server.{state_of, with_disk}
 use Rattle.moo_server_core.specs.declared.server_core.ServerCore.{ServerCore}
 use Rattle.moo_cli_serve.specs.Found.{FindsAgain, ServedTo, clock_after, entries_in}
+use Rattle.moo_cli_serve.specs.declared.limits.Limits.{Limits}
 
 module _ {S Application D : Type 0} (l : Layer S Application Saved) (kind : DiskKind D) where
   abbrev LentCall : Type 0
@@ -71,10 +72,10 @@ module _ {S Application D : Type 0} (l : Layer S Application Saved) (kind : Disk
         → ((lent kind kind).view last).left_since (kind.view first).clock (kind'.view found).main_text
         → StartsAgain l kind' (state_of l start) saved [] entries found
 
-    pub found_again : IsFoundAfter → IsFoundSince → (first : D) (most : ℕ) (text : List ℕ) (served : ServedTo l kind first most text)
+    pub found_again : IsFoundAfter → IsFoundSince → (first : D) (limits : Limits) (text : List ℕ) (served : ServedTo l kind first limits text)
         → kind.honest first → ((c : List ℕ) → (kind.view first).may_leave c → SpellsSavedWithin c served.begun.from.saved)
         → (found : E) → kind'.honest found → (kind'.view found).main_text ≡ text → FindsAgain l kind kind' served found
-    found_again after since first most text served h spells found h' same =
+    found_again after since first limits text served h spells found h' same =
         starts_of served.stopped.returned served.stopped.others served.stopped.all
         (subst (λ (t : List ℕ). (kind.view served.end.disk).left_since (clock_after kind (kind.view first).clock served.stopped.returned) t) (sym same) served.stopped.left)
       where

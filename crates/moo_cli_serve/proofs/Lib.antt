@@ -1,7 +1,9 @@
 pub mod Carrying
 pub mod Coursing
 mod Finding
+pub mod Hearing
 pub mod Idling
 pub mod Rounding
 pub mod Serviced
+mod Unheard
 pub mod Writing

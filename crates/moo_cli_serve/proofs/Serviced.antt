@@ -19,9 +19,11 @@ use Rattle.moo_cli_serve.specs.Service.{Begun, BreaksOff, EndsFor, Fails, IsOuts
 use Rattle.moo_cli_serve.specs.declared.console.Console.{Console}
 use Rattle.moo_cli_serve.specs.declared.fault.ServeFault.{ServeFault}
 use Rattle.moo_cli_serve.specs.declared.fault.ServeFault.TheVariants as the
+use Rattle.moo_cli_serve.specs.declared.limits.Limits.{Limits}
 use Rattle.moo_cli_serve.specs.declared.serving.Round.{Round}
 use Rattle.moo_cli_serve.specs.declared.serving.Round.TheVariants as round
 use Rattle.moo_cli_serve.specs.declared.serving.Serving.{Serving}
+use Rattle.moo_cli_serve.specs.declared.silence.Silence.{Silence}
 use Rattle.moo_cli_serve.proofs.Coursing.{hands_join}
 
 abbrev pub is_over : Round → Bool
@@ -32,7 +34,7 @@ pub goes_on : (found : Round) → is_over found ≡ false → found ≡ round.Ov
 goes_on found is over = let no : false ≡ true = sym is ∙ ap is_over over in absurd cc
 
 pub waits_none : {S D : Type 0} (s : Serving S D) → Waits s s
-waits_none s = record { server_is = refl; disk_is = refl; moment_is = refl; most_is = refl; sockets = λ c. refl }
+waits_none s = record { server_is = refl; disk_is = refl; moment_is = refl; most_is = refl; timeouts_are = refl; sockets = λ c. refl }
 
 module _ {S Application D : Type 0} (l : Layer S Application Saved) (kind : DiskKind D) where
   pub not_started : (fault : ServeFault) (disk left : D) → LeavesUnbegun kind disk left fault → NotStarted l kind disk fault
@@ -77,7 +79,7 @@ module _ {S Application D : Type 0} (l : Layer S Application Saved) (kind : Disk
   pub served_out : (n rounds : ℕ) (old new : Serving S D) → n ≡ rounds → Makes l kind n old new → IsServed l kind rounds old new
   served_out n rounds old new all makes = record { made = n; makes = makes; few = omega arith; ends = inr all }
 
-  -- the same, said of a list that is equal
+  -- A server that refused an event of one list refused it of an equal list.
   pub refused_of : (cause : Cause) (events others : List Event) (before after : inner.ServerCore S) (old new : D) → events ≡ others
       → IsRefused l kind cause events before old after new → IsRefused l kind cause others before old after new
   refused_of cause events others before after old new same refused = subst (λ (es : List Event). IsRefused l kind cause es before old after new) same refused
@@ -100,27 +102,30 @@ module _ {S Application D : Type 0} (l : Layer S Application Saved) (kind : Disk
     handed = (then_out refused.handed.0 handed.0, hands_join l refused.handed.0 handed.0 refused.left mid after refused.handed.1 handed.1);
   }
 
-  parted_hands : (cause : Cause) (most : ℕ) (first : List Event) (server mid after : inner.ServerCore S) (old new : D) (read : Slab Socket)
-      → RefusesParted l kind cause most first server old read mid new → ((h : Output) × Hands l h mid after)
-      → RefusesParted l kind cause most first server old read after new
-  parted_hands cause most first server mid after old new read parted handed = record {
+  parted_hands : (cause : Cause) (most : ℕ) (first : List Event) (server mid after : inner.ServerCore S) (old new : D) (read : Slab Socket) (silence : Silence)
+      → RefusesParted l kind cause most first server old read silence mid new → ((h : Output) × Hands l h mid after)
+      → RefusesParted l kind cause most first server old read silence after new
+  parted_hands cause most first server mid after old new read silence parted handed = record {
     given = parted.given;
     between = parted.between;
     gives = parted.gives;
     parted = parted.parted;
     written = parted.written;
     left = parted.left;
+    second = parted.second;
+    listened = parted.listened;
+    listens = parted.listens;
     writes = parted.writes;
     handed = parted.handed;
     refused = refused_hands cause parted.parted parted.written mid after parted.between new parted.refused handed;
   }
 
   either_hands : (cause : Cause) (first : List Event) (old : Serving S D) (read : Slab Socket) (mid after : inner.ServerCore S) (new : D)
-      → IsRefused l kind cause first old.server old.disk mid new ⊎ RefusesParted l kind cause old.clients.most_waiting first old.server old.disk read mid new
+      → IsRefused l kind cause first old.server old.disk mid new ⊎ RefusesParted l kind cause old.clients.most_waiting first old.server old.disk read old.timeouts.silence mid new
       → ((h : Output) × Hands l h mid after)
-      → IsRefused l kind cause first old.server old.disk after new ⊎ RefusesParted l kind cause old.clients.most_waiting first old.server old.disk read after new
+      → IsRefused l kind cause first old.server old.disk after new ⊎ RefusesParted l kind cause old.clients.most_waiting first old.server old.disk read old.timeouts.silence after new
   either_hands cause first old read mid after new (inl refused) handed = inl (refused_hands cause first old.server mid after old.disk new refused handed)
-  either_hands cause first old read mid after new (inr parted) handed = inr (parted_hands cause old.clients.most_waiting first old.server mid after old.disk new read parted handed)
+  either_hands cause first old read mid after new (inr parted) handed = inr (parted_hands cause old.clients.most_waiting first old.server mid after old.disk new read old.timeouts.silence parted handed)
 
   -- A fault outside ends any server,
   pub outside_ends : (fault : ServeFault) (old new : Serving S D) → IsOutside fault → EndsFor l kind fault old new
@@ -145,27 +150,27 @@ module _ {S Application D : Type 0} (l : Layer S Application Saved) (kind : Disk
   ends_hands the.Memory old mid after console ends handed = ends
 
   -- what came of a server that was begun over a disk
-  pub serves_so : {T : Type 0} (most rounds : ℕ) (disk : D) (start end : Serving S D) (r : Result T ServeFault) → Begun l kind disk most start
+  pub serves_so : {T : Type 0} (limits : Limits) (rounds : ℕ) (disk : D) (start end : Serving S D) (r : Result T ServeFault) → Begun l kind disk limits start
       → ((events : List Event) × Course l kind start.server start.disk events end.server end.disk)
-      → OnOk r (IsServed l kind rounds start end) → OnOk r (Serves l kind disk most rounds)
-  serves_so most rounds disk start end (Ok x) begun course served = record { start = start; end = end; begun = begun; served = served; course = course }
-  serves_so most rounds disk start end (Err fault) begun course served = tt
+      → OnOk r (IsServed l kind rounds start end) → OnOk r (Serves l kind disk limits rounds)
+  serves_so limits rounds disk start end (Ok x) begun course served = record { start = start; end = end; begun = begun; served = served; course = course }
+  serves_so limits rounds disk start end (Err fault) begun course served = tt
 
-  pub stops_so : {T : Type 0} (most rounds : ℕ) (disk : D) (start end : Serving S D) (r : Result T ServeFault) → Begun l kind disk most start
+  pub stops_so : {T : Type 0} (limits : Limits) (rounds : ℕ) (disk : D) (start end : Serving S D) (r : Result T ServeFault) → Begun l kind disk limits start
       → ((events : List Event) × Course l kind start.server start.disk events end.server end.disk)
-      → IfErr r (λ fault. BreaksOff l kind rounds fault start end) → IfErr r (Fails l kind disk most rounds)
-  stops_so most rounds disk start end (Ok x) begun course breaks = tt
-  stops_so most rounds disk start end (Err fault) begun course breaks =
+      → IfErr r (λ fault. BreaksOff l kind rounds fault start end) → IfErr r (Fails l kind disk limits rounds)
+  stops_so limits rounds disk start end (Ok x) begun course breaks = tt
+  stops_so limits rounds disk start end (Err fault) begun course breaks =
       inr (record { start = start; end = end; begun = begun; breaks = inr breaks; course = course })
 
--- the same over a file
+-- A file that is served is a disk that is served.
 module _ {S Application F File Dir : Type 0} (l : Layer S Application Saved) where
-  pub serves_file : {T : Type 0} (most rounds : ℕ) (disk : FileDisk F File Dir) (r : Result T ServeFault) → OnOk r (Serves l file_kind disk most rounds)
-      → OnOk r (ServesFile l F File Dir most rounds)
-  serves_file most rounds disk (Ok x) serves = (disk, serves)
-  serves_file most rounds disk (Err fault) serves = tt
+  pub serves_file : {T : Type 0} (limits : Limits) (rounds : ℕ) (disk : FileDisk F File Dir) (r : Result T ServeFault) → OnOk r (Serves l file_kind disk limits rounds)
+      → OnOk r (ServesFile l F File Dir limits rounds)
+  serves_file limits rounds disk (Ok x) serves = (disk, serves)
+  serves_file limits rounds disk (Err fault) serves = tt
 
-  pub fails_file : {T : Type 0} (most rounds : ℕ) (disk : FileDisk F File Dir) (r : Result T ServeFault)
-      → IfErr r (Fails l file_kind disk most rounds) → IfErr r (FailsFile l F File Dir most rounds)
-  fails_file most rounds disk (Ok x) fails = tt
-  fails_file most rounds disk (Err fault) fails = inr (disk, fails)
+  pub fails_file : {T : Type 0} (limits : Limits) (rounds : ℕ) (disk : FileDisk F File Dir) (r : Result T ServeFault)
+      → IfErr r (Fails l file_kind disk limits rounds) → IfErr r (FailsFile l F File Dir limits rounds)
+  fails_file limits rounds disk (Ok x) fails = tt
+  fails_file limits rounds disk (Err fault) fails = inr (disk, fails)

@@ -14,7 +14,7 @@ use Rattle.moo_server_core.specs.Server.{Hands, state_of, waiting_of}
 use Rattle.moo_server_core.specs.declared.event.Event.{Event}
 use Rattle.moo_server_core.specs.declared.event.Event.TheVariants as the
 use Rattle.moo_server_core.specs.declared.server_core.ServerCore.{ServerCore}
-use Rattle.moo_cli_serve.specs.Strangers.{is_stranger, leaves}
+use Rattle.moo_cli_serve.specs.Strangers.{leaves, may_be_late}
 use Rattle.moo_cli_serve.specs.Idle.{IsIdle}
 use Rattle.moo_cli_serve.specs.Room.{HaveRoom, HasRoom, bytes_held}
 use Rattle.moo_cli_serve.specs.Writing.{IsLeft, IsWritten, IsWrittenTo, Writes, is_among, is_parted}
@@ -135,12 +135,12 @@ module _ {S Application : Type 0} (l : Layer S Application Saved) where
           subst (λ (w : Option (List ℕ)). length (bytes_held w) ≤ most) (sym (left c from).socket) (idle_room l most settled late before old c small (idle c from small) room)
 
   -- in the end all are, up to the last number, or where no socket has one from n on
-  pub written_all : (most : ℕ) (late : List ℕ) (n : ℕ) (before after : ServerCore S) (old new : Slab Socket) (events : List Event)
-      → (65536 ≤ n) ⊎ ((c : ℕ) → n ≤ c → held old c ≡ None) → All (λ c. is_stranger l before c ≡ true) late → AreWritten most late n before after old new events → Writes l most before after old new events
-  written_all most late n before after old new events end strangers are = record {
+  pub written_all : (most : ℕ) (silent : ℕ → Bool) (late : List ℕ) (n : ℕ) (before after : ServerCore S) (old new : Slab Socket) (events : List Event)
+      → (65536 ≤ n) ⊎ ((c : ℕ) → n ≤ c → held old c ≡ None) → All (λ c. may_be_late l silent before c ≡ true) late → AreWritten most late n before after old new events → Writes l most silent before after old new events
+  written_all most silent late n before after old new events end late_are are = record {
     below = n;
     late = late;
-    strangers = strangers;
+    late_are = late_are;
     each = are.each;
     beyond = λ c from below. by_end c from below end;
     untaken = λ c from. (are.left c from).waiting;

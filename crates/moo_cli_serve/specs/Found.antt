@@ -11,6 +11,7 @@ use Rattle.moo_server_core.specs.declared.server_core.ServerCore.{ServerCore}
 use Rattle.moo_cli_serve.specs.Course.{Course}
 use Rattle.moo_cli_serve.specs.Service.{Begun, Serves, Stops}
 use Rattle.moo_cli_serve.specs.declared.fault.ServeFault.{ServeFault}
+use Rattle.moo_cli_serve.specs.declared.limits.Limits.{Limits}
 use Rattle.moo_cli_serve.specs.declared.serving.Serving.{Serving}
 
 module _ {S D : Type 0} where
@@ -34,27 +35,27 @@ module _ {S Application D : Type 0} (l : Layer S Application Saved) (kind : Disk
     pub left : (kind.view new).left_since (clock_after kind (kind.view first).clock returned) text
 
   -- A server was begun over the disk `first` and served, and was stopped at some moment, which left this text under main.
-  pub record ServedTo (first : D) (most : ℕ) (text : List ℕ) : Type 0 where
+  pub record ServedTo (first : D) (limits : Limits) (text : List ℕ) : Type 0 where
     pub start : Serving S D
     pub end : Serving S D
-    pub begun : Begun l kind first most start
+    pub begun : Begun l kind first limits start
     pub events : List Event
     pub course : Course l kind start.server start.disk events end.server end.disk
     pub stopped : IsStopped first start.server start.disk events end.server end.disk course text
 
   -- Whoever served to the end was stopped at each moment before it.
-  abbrev pub served_to : {first : D} {most rounds : ℕ} {text : List ℕ} (serves : Serves l kind first most rounds)
-      → IsStopped first serves.start.server serves.start.disk serves.course.0 serves.end.server serves.end.disk serves.course.1 text → ServedTo first most text
+  abbrev pub served_to : {first : D} {limits : Limits} {rounds : ℕ} {text : List ℕ} (serves : Serves l kind first limits rounds)
+      → IsStopped first serves.start.server serves.start.disk serves.course.0 serves.end.server serves.end.disk serves.course.1 text → ServedTo first limits text
   served_to serves stopped = record { start = serves.start; end = serves.end; begun = serves.begun; events = serves.course.0; course = serves.course.1; stopped = stopped }
 
   -- So was one that ended before, for a fault.
-  abbrev pub ended_at : {first : D} {most rounds : ℕ} {fault : ServeFault} {text : List ℕ} (stops : Stops l kind first most rounds fault)
-      → IsStopped first stops.start.server stops.start.disk stops.course.0 stops.end.server stops.end.disk stops.course.1 text → ServedTo first most text
+  abbrev pub ended_at : {first : D} {limits : Limits} {rounds : ℕ} {fault : ServeFault} {text : List ℕ} (stops : Stops l kind first limits rounds fault)
+      → IsStopped first stops.start.server stops.start.disk stops.course.0 stops.end.server stops.end.disk stops.course.1 text → ServedTo first limits text
   ended_at stops stopped = record { start = stops.start; end = stops.end; begun = stops.begun; events = stops.course.0; course = stops.course.1; stopped = stopped }
 
   module _ {E : Type 0} (kind' : DiskKind E) where
     -- Over such a disk a start finds the saved world after a prefix of the events that ends with a mark. The prefix holds every event before the
     -- mark of the last report done of a call that had returned. If there was no such report, it may find the world that was read at first.
-    abbrev pub FindsAgain : {first : D} {most : ℕ} {text : List ℕ} (served : ServedTo first most text) (found : E) → Type 0
+    abbrev pub FindsAgain : {first : D} {limits : Limits} {text : List ℕ} (served : ServedTo first limits text) (found : E) → Type 0
     FindsAgain served found =
         StartsAgain l kind' (state_of l served.start.server) served.begun.from.saved (entries_in served.stopped.returned) (entries_in served.stopped.others) found

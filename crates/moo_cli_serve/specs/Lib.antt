@@ -2,11 +2,13 @@
 pub mod Console
 pub mod Course
 pub mod Found
+pub mod Hearing
 pub mod Idle
 pub mod Program
 pub mod Room
 pub mod Rounds
 pub mod Service
+pub mod Silence
 pub mod Status
 pub mod Strangers
 pub mod Writing

@@ -9,19 +9,20 @@ use Rattle.moo_cli_serve.specs.Service.{Fails, Serves}
 use Rattle.moo_cli_serve.specs.Status.{fault_status}
 use Rattle.moo_cli_serve.specs.declared.fault.ServeFault.{ServeFault}
 use Rattle.moo_cli_serve.specs.declared.fault.ServeFault.TheVariants as the
+use Rattle.moo_cli_serve.specs.declared.limits.Limits.{Limits}
 
 -- There is no disk: the file's name leads to none, or memory was wanting for it.
 abbrev pub NoDisk : ServeFault → Type 0
 NoDisk fault = (fault ≡ the.Open opening.Device) ⊎ (fault ≡ the.Memory)
 
-module _ {S Application : Type 0} (l : Layer S Application Saved) (F File Dir : Type 0) (most : ℕ) where
+module _ {S Application : Type 0} (l : Layer S Application Saved) (F File Dir : Type 0) (limits : Limits) where
   -- the disk over a file was served
   abbrev pub ServesFile : ℕ → Type 0
-  ServesFile rounds = (disk : FileDisk F File Dir) × Serves l file_kind disk most rounds
+  ServesFile rounds = (disk : FileDisk F File Dir) × Serves l file_kind disk limits rounds
 
   -- or it wasn't, or not to the end
   abbrev pub FailsFile : ℕ → ServeFault → Type 0
-  FailsFile rounds fault = NoDisk fault ⊎ ((disk : FileDisk F File Dir) × Fails l file_kind disk most rounds fault)
+  FailsFile rounds fault = NoDisk fault ⊎ ((disk : FileDisk F File Dir) × Fails l file_kind disk limits rounds fault)
 
   -- If the file was served to the end, the status is 0, or 3 only of a server that must save. Else it is that of the fault.
   abbrev pub ShowsService : ℕ → Bool → ℕ → Type 0

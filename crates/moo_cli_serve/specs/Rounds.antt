@@ -14,7 +14,9 @@ use Rattle.moo_server_core.specs.declared.event.Phase.TheVariants as phase
 use Rattle.moo_server_core.specs.declared.server_core.ServerCore.{ServerCore}
 use Rattle.moo_cli_serve.specs.Console.{Types}
 use Rattle.moo_cli_serve.specs.Course.{Given}
+use Rattle.moo_cli_serve.specs.Silence.{Listens, is_silent}
 use Rattle.moo_cli_serve.specs.Writing.{Writes}
+use Rattle.moo_cli_serve.specs.declared.silence.Silence.{Silence}
 
 -- The clock's moment is told; none is where the clock tells none, or one before the last. `before` is the last moment told, and `now`
 -- is then.
@@ -53,16 +55,18 @@ module _ {S Application D : Type 0} (l : Layer S Application Saved) (kind : Disk
       (IsClosed before × (after ≡ before) × (new ≡ old)) ⊎ ((IsClosed before → ⊥) × Given l kind before old events after new)
 
   -- A round: what comes on the sockets, the moment and a flush are given to the server; one write goes to each socket; and the hang-ups
-  -- that come of it are given to the server, unless it is closed.
-  pub record Rounds (most before now : ℕ) (server after : ServerCore S) (old new : D) (sockets left : Slab Socket) : Type 0 where
+  -- that come of it are given to the server, unless it is closed. All this is in a second of a clock that is never set.
+  pub record Rounds (most before now : ℕ) (server after : ServerCore S) (old new : D) (sockets left : Slab Socket) (silence listened : Silence) : Type 0 where
     pub first : List Event
     pub read : Slab Socket
     pub begins : Begins sockets read before now first
+    pub second : ℕ
+    pub listens : Listens second first silence listened
     pub given : ServerCore S
     pub between : D
     pub gives : Given l kind server old first given between
     pub parted : List Event
     pub written : ServerCore S
-    pub writes : Writes l most given written read left parted
+    pub writes : Writes l most (is_silent listened second) given written read left parted
     pub handed : (handed : Output) × Hands l handed given written
     pub ends : GivenIfOpen written between parted after new

@@ -20,10 +20,13 @@ use Rattle.moo_server_core.specs.declared.event.RunFault.{RunFault}
 use Rattle.moo_server_core.specs.declared.server_core.ServerCore as inner
 use Rattle.moo_cli_serve.specs.Course.{Course, Given}
 use Rattle.moo_cli_serve.specs.Rounds.{Begins, IsClosed, Logs, Rounds}
+use Rattle.moo_cli_serve.specs.Silence.{Listens, is_silent}
 use Rattle.moo_cli_serve.specs.Writing.{Writes}
 use Rattle.moo_cli_serve.specs.declared.fault.ServeFault.{ServeFault}
 use Rattle.moo_cli_serve.specs.declared.fault.ServeFault.TheVariants as the
+use Rattle.moo_cli_serve.specs.declared.limits.Limits.{Limits}
 use Rattle.moo_cli_serve.specs.declared.serving.Serving.{Serving}
+use Rattle.moo_cli_serve.specs.declared.silence.Silence.{Silence}
 
 -- a fault of the sockets, the output or the memory: neither of the disk nor of an event
 abbrev pub IsOutside : ServeFault → Type 0
@@ -37,6 +40,7 @@ pub record Waits {S D : Type 0} (old new : Serving S D) : Type 0 where
   pub disk_is : new.disk ≡ old.disk
   pub moment_is : new.moment ≡ old.moment
   pub most_is : new.clients.most_waiting ≡ old.clients.most_waiting
+  pub timeouts_are : new.timeouts ≡ old.timeouts
   pub sockets : (c : ℕ) → held new.clients.sockets.sockets c ≡ held old.clients.sockets.sockets c
 
 module _ {S Application D : Type 0} (l : Layer S Application Saved) (kind : DiskKind D) where
@@ -48,16 +52,18 @@ module _ {S Application D : Type 0} (l : Layer S Application Saved) (kind : Disk
     pub spare : kind.honest disk → KeepsSpare (kind.view disk) (kind.view left)
 
   -- A server was begun over a disk, at the moment that counts as told. No connection has a socket.
-  pub record Begun (disk : D) (most : ℕ) (start : Serving S D) : Type 0 where
+  pub record Begun (disk : D) (limits : Limits) (start : Serving S D) : Type 0 where
     pub from : IsBegunFrom disk start.moment start.server start.disk
     pub none : (c : ℕ) → held start.clients.sockets.sockets c ≡ None
-    pub most_is : start.clients.most_waiting ≡ most
+    pub most_is : start.clients.most_waiting ≡ limits.most_waiting
+    pub idle_is : start.timeouts.silence.limit ≡ limits.idle_seconds
 
   -- a round was made
   pub record Turns (old new : Serving S D) : Type 0 where
     pub turned : inner.ServerCore S
     pub logs : Logs l new.console.is_on turned new.server
     pub rounds : Rounds l kind old.clients.most_waiting old.moment new.moment old.server turned old.disk new.disk old.clients.sockets.sockets new.clients.sockets.sockets
+        old.timeouts.silence new.timeouts.silence
     pub most_is : new.clients.most_waiting ≡ old.clients.most_waiting
 
   -- a round was made, and perhaps it waited behind it
@@ -77,10 +83,10 @@ module _ {S Application D : Type 0} (l : Layer S Application Saved) (kind : Disk
     pub ends : IsClosed new.server ⊎ (made ≡ rounds)
 
   -- a server was begun over a disk and served to its end, by calls of one event each
-  pub record Serves (disk : D) (most rounds : ℕ) : Type 0 where
+  pub record Serves (disk : D) (limits : Limits) (rounds : ℕ) : Type 0 where
     pub start : Serving S D
     pub end : Serving S D
-    pub begun : Begun disk most start
+    pub begun : Begun disk limits start
     pub served : IsServed rounds start end
     pub course : (events : List Event) × Course l kind start.server start.disk events end.server end.disk
 
@@ -123,14 +129,17 @@ module _ {S Application D : Type 0} (l : Layer S Application Saved) (kind : Disk
     pub handed : (handed : Output) × Hands l handed left after
 
   -- A round came to its writes, and a hang-up that came of them was refused for this cause.
-  pub record RefusesParted (cause : Cause) (most : ℕ) (first : List Event) (server : inner.ServerCore S) (old : D) (read : Slab Socket) (after : inner.ServerCore S) (new : D) : Type 0 where
+  pub record RefusesParted (cause : Cause) (most : ℕ) (first : List Event) (server : inner.ServerCore S) (old : D) (read : Slab Socket) (silence : Silence) (after : inner.ServerCore S) (new : D) : Type 0 where
     pub given : inner.ServerCore S
     pub between : D
     pub gives : Given l kind server old first given between
     pub parted : List Event
     pub written : inner.ServerCore S
     pub left : Slab Socket
-    pub writes : Writes l most given written read left parted
+    pub second : ℕ
+    pub listened : Silence
+    pub listens : Listens second first silence listened
+    pub writes : Writes l most (is_silent listened second) given written read left parted
     pub handed : (handed : Output) × Hands l handed given written
     pub refused : IsRefused cause parted written between after new
 
@@ -140,7 +149,7 @@ module _ {S Application D : Type 0} (l : Layer S Application Saved) (kind : Disk
     pub first : List Event
     pub read : Slab Socket
     pub begins : Begins old.clients.sockets.sockets read old.moment moment first
-    pub refused : IsRefused cause first old.server old.disk after new ⊎ RefusesParted cause old.clients.most_waiting first old.server old.disk read after new
+    pub refused : IsRefused cause first old.server old.disk after new ⊎ RefusesParted cause old.clients.most_waiting first old.server old.disk read old.timeouts.silence after new
 
   -- why a server that was begun ended before
   abbrev pub EndsFor : ServeFault → Serving S D → Serving S D → Type 0
@@ -157,12 +166,12 @@ module _ {S Application D : Type 0} (l : Layer S Application Saved) (kind : Disk
     pub ends : EndsFor fault mid new
 
   -- A server was begun over a disk, and ended before for this fault: where it listens couldn't be told, or a round broke off.
-  pub record Stops (disk : D) (most rounds : ℕ) (fault : ServeFault) : Type 0 where
+  pub record Stops (disk : D) (limits : Limits) (rounds : ℕ) (fault : ServeFault) : Type 0 where
     pub start : Serving S D
     pub end : Serving S D
-    pub begun : Begun l kind disk most start
+    pub begun : Begun l kind disk limits start
     pub breaks : (IsOutside fault × (end ≡ start)) ⊎ BreaksOff rounds fault start end
     pub course : (events : List Event) × Course l kind start.server start.disk events end.server end.disk
 
-  abbrev pub Fails : D → ℕ → ℕ → ServeFault → Type 0
-  Fails disk most rounds fault = NotStarted disk fault ⊎ Stops disk most rounds fault
+  abbrev pub Fails : D → Limits → ℕ → ServeFault → Type 0
+  Fails disk limits rounds fault = NotStarted disk fault ⊎ Stops disk limits rounds fault

@@ -1,5 +1,5 @@
 -- What goes out in one round, and who is hung up.
-use Rattle.std.specs.Prelude.{◌≡◌, ℕ, ◌<◌, ◌≤◌, List, [], ◌++◌, length, Option, Some, None, IfSome, Bool, true, false, ◌&&◌, ◌||◌, eqb, nat_lt, All, if◌then◌else◌}
+use Rattle.std.specs.Prelude.{◌≡◌, ℕ, ◌<◌, ◌≤◌, List, [], ◌++◌, length, Option, Some, None, IfSome, Bool, true, ◌&&◌, ◌||◌, eqb, nat_lt, All, if◌then◌else◌}
 use Rattle.std.specs.List.{list_any}
 use Rattle.std.specs.Option.{option_map}
 use Rattle.slab.specs.Slab.{Slab}
@@ -11,10 +11,10 @@ use Rattle.moo_server_core.specs.Server.{waiting_of}
 use Rattle.moo_server_core.specs.declared.event.Event.{Event}
 use Rattle.moo_server_core.specs.declared.event.Event.TheVariants as the
 use Rattle.moo_server_core.specs.declared.server_core.ServerCore.{ServerCore}
-use Rattle.moo_cli_serve.specs.Strangers.{is_stranger, leaves}
+use Rattle.moo_cli_serve.specs.Strangers.{leaves, may_be_late}
 
 -- A connection that was written to is hung up if the socket failed, if the connection leaves and nothing waits for it any
--- more, if more waits than may, and if it is late: a stranger whose time is over. So many bytes still wait; None is for a
+-- more, if more waits than may, and if it is late: a stranger whose time is over, or one that has been silent for too long. So many bytes still wait; None is for a
 -- socket that failed.
 abbrev pub is_parted : ℕ → Bool → Bool → Option ℕ → Bool
 is_parted most leaving late None = true
@@ -48,12 +48,12 @@ module _ {S Application : Type 0} (l : Layer S Application Saved) where
     pub socket : held new c ≡ held old c
     pub waiting : (waiting_of l after).sent c ≡ (waiting_of l before).sent c
 
-  -- One write to each socket, by rising number, with the hang-ups that come of it. Those that are late are strangers. No
-  -- line for the log is handed out.
-  pub record Writes (most : ℕ) (before after : ServerCore S) (old new : Slab Socket) (events : List Event) : Type 0 where
+  -- One write to each socket, by rising number, with the hang-ups that come of it. Those that are late are strangers or
+  -- silent. No line for the log is handed out.
+  pub record Writes (most : ℕ) (silent : ℕ → Bool) (before after : ServerCore S) (old new : Slab Socket) (events : List Event) : Type 0 where
     pub below : ℕ
     pub late : List ℕ
-    pub strangers : All (λ c. is_stranger l before c ≡ true) late
+    pub late_are : All (λ c. may_be_late l silent before c ≡ true) late
     pub each : Each (λ c event. IsWrittenTo most (is_among late c) before after old new c event) below events
     -- there are no others, and what waits in the server for their numbers stays there
     pub beyond : (c : ℕ) → below ≤ c → c < 65536 → (held old c ≡ None) × (held new c ≡ None)

@@ -9,6 +9,7 @@ use moo_cli_sockets::Sockets;
 use moo_server_core::Event;
 use std::alloc::{AllocError, Global};
 use std::rt::Clock;
+use std::time::Duration;
 
 /// Returns the events of a round: those of the sockets and of the console, the moment, and a flush. Sets the last reported
 /// moment. Fails only if memory runs out.
@@ -55,6 +56,11 @@ fn tell(now: Option<u32>, moment: &mut u32, events: &mut Vec<Event>) -> Result<(
         _ => {}
     }
     Ok(())
+}
+
+/// Returns the time of a clock that is never set, or 0 if it can't be read.
+pub fn time(clock: &impl Clock) -> Duration {
+    clock.monotonic().unwrap_or(Duration::ZERO)
 }
 
 /// Returns the seconds since 1970, or `None` if the clock fails or is past the year 2106.

@@ -7,34 +7,37 @@ ghost use Rattle.moo_cli_serve.specs.Room.{HasRoom, HaveRoom};
 ghost use Rattle.moo_server_core.specs.Application.{Output};
 ghost use Rattle.moo_server_core.specs.Server.{Hands, waiting_of};
 ghost use Rattle.moo_cli_serve.specs.Rounds.{Logs};
+ghost use Rattle.moo_cli_serve.specs.Silence.{is_silent};
 ghost use Rattle.moo_cli_serve.specs.Writing.{IsLeft, IsWrittenTo, Writes, is_among, is_parted};
 
 use crate::console::Console;
-use crate::strangers::Strangers;
+use crate::timeouts::Timeouts;
 use log::{Log, info, warn};
 use moo_cli_sockets::{Sockets, put, sort_numbers};
 use moo_server_core::{Event, ServerCore, StartApplication};
 use std::alloc::{AllocError, Global};
-use std::rt::Clock;
 
 /// Writes once to each socket for which output came since the last round, or which can take more of what waits for it.
 /// Returns the hang-ups of the connections that it closes. Nothing happens to the other sockets, so they cost no time: if the
 /// last round ended well, none of them has more waiting than may. Fails only if memory runs out.
-pub fn write_all<S: StartApplication, L: Clock + Log>(
+pub fn write_all<S: StartApplication, L: Log>(
     rt: &L,
     alloc: Global,
     server: &mut ServerCore<S>,
     sockets: &mut Sockets,
     most_waiting: usize,
     is_settled: bool,
-    strangers: &mut Strangers,
+    now: u64,
+    timeouts: &mut Timeouts,
 ) -> Result<Vec<Event>, AllocError>
     requires { is_settled ≡ true → HaveRoom most_waiting sockets.old.sockets }
     ensures handed { (handed : Output) × Hands S.layer handed server.old server.new }
-    ensures written { IfOk result (λ events. Writes S.layer most_waiting server.old server.new sockets.old.sockets sockets.new.sockets events.items) }
+    ensures written { IfOk result (λ events. Writes S.layer most_waiting (is_silent timeouts.new.silence now) server.old server.new sockets.old.sockets sockets.new.sockets events.items) }
     ensures room { OnOk result (HaveRoom most_waiting sockets.new.sockets) }
+    ensures heard { timeouts.new.silence.heard ≡ timeouts.old.silence.heard }
+    ensures limit { timeouts.new.silence.limit ≡ timeouts.old.silence.limit }
 {
-    let late = strangers.find_late(rt, alloc, server, sockets)?;
+    let late = timeouts.find_late(rt, alloc, now, server, sockets)?;
     let due = due(alloc, server, sockets, &late, is_settled)?;
     let mut parted = Vec::new(alloc);
     for c in &due {
@@ -136,7 +139,7 @@ fn write<S: StartApplication, L: Log>(
 }
 
 // Returns whether a connection is hung up: the socket failed, or the connection leaves and nothing waits, or too much
-// waits, or nobody has logged in on it in time.
+// waits, or it is late: nobody has logged in on it in time, or it has sent nothing for long.
 fn is_parted(most: usize, is_leaving: bool, is_late: bool, waiting: Option<usize>) -> bool
     ensures { result ≡ is_parted most is_leaving is_late waiting }
 {

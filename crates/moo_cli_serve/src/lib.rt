@@ -10,12 +10,17 @@ mod fault;
 mod giving;
 pub mod laws;
 mod leaving;
+mod limits;
 mod listening;
+mod players;
 mod program;
 mod serving;
+mod silence;
 mod strangers;
+mod timeouts;
 
 pub use fault::ServeFault;
+pub use limits::Limits;
 pub use listening::Web;
 pub use program::{Served, run_serve};
 pub use serving::{Round, Serving};

@@ -4,9 +4,9 @@ ghost use Rattle.moo_cli_serve.specs.Program.{FailsFile, NoDisk, ServesFile, Sho
 ghost use Rattle.moo_cli_serve.specs.Service.{Fails, IsOutside, Serves};
 
 use crate::fault::ServeFault;
+use crate::limits::Limits;
 use crate::listening::Web;
 use crate::serving::Serving;
-use crate::strangers::LoginLimits;
 use log::{Log, info, warn};
 use moo_checkpoint::OpenFault;
 use moo_cli_file_disk::{FileDisk, Watched};
@@ -37,12 +37,12 @@ pub struct Served<'a> {
     pub web: Option<Web<'a>>,
     /// The greatest number of rounds.
     pub rounds: u64,
-    /// The number of waiting bytes past which a connection is hung up.
-    pub most_waiting: usize,
-    /// The limits for connections on which nobody has logged in.
-    pub login: LoginLimits,
+    /// The limits for connections.
+    pub limits: Limits,
     /// Whether standard input and output are the operator's own connection.
     pub has_console: bool,
+    /// Whether the log has lines on who logs in and who leaves.
+    pub logs_players: bool,
     /// Whether the commands of telnet are dropped from what clients send.
     pub has_telnet: bool,
     /// Whether a server that ends without a last checkpoint has ended badly.
@@ -59,7 +59,7 @@ pub fn run_serve<S: StartApplication, R: Net + Clock + Log, F: Files + Drop, O: 
     output: &mut O,
     served: Served<'_>,
 ) -> u8
-    ensures { ShowsService S.layer F F.File F.Dir served.entry.most_waiting served.entry.rounds served.entry.must_save result }
+    ensures { ShowsService S.layer F F.File F.Dir served.entry.limits served.entry.rounds served.entry.must_save result }
 {
     match serve_file::<S, R, F, O>(rt, files, alloc, output, served) {
         Ok(is_saved) => end_status(rt, output, served.must_save, is_saved),
@@ -92,8 +92,8 @@ fn serve_file<S: StartApplication, R: Net + Clock + Log, F: Files + Drop, O: Wri
     output: &mut O,
     served: Served<'_>,
 ) -> Result<bool, ServeFault>
-    ensures served { OnOk result (ServesFile S.layer F F.File F.Dir served.entry.most_waiting served.entry.rounds) }
-    ensures ended { IfErr result (FailsFile S.layer F F.File F.Dir served.entry.most_waiting served.entry.rounds) }
+    ensures served { OnOk result (ServesFile S.layer F F.File F.Dir served.entry.limits served.entry.rounds) }
+    ensures ended { IfErr result (FailsFile S.layer F F.File F.Dir served.entry.limits served.entry.rounds) }
 {
     match FileDisk::open(alloc, files, served.db) {
         Ok(disk) => {
@@ -113,8 +113,8 @@ pub fn serve_disk<S: StartApplication, D: Disk + Watched + Drop, R: Net + Clock 
     output: &mut O,
     served: Served<'_>,
 ) -> Result<bool, ServeFault>
-    ensures served { OnOk result (Serves S.layer D.kind disk served.entry.most_waiting served.entry.rounds) }
-    ensures ended { IfErr result (Fails S.layer D.kind disk served.entry.most_waiting served.entry.rounds) }
+    ensures served { OnOk result (Serves S.layer D.kind disk served.entry.limits served.entry.rounds) }
+    ensures ended { IfErr result (Fails S.layer D.kind disk served.entry.limits served.entry.rounds) }
 {
     let mut serving = Serving::<S, D>::open(
         rt,
@@ -123,9 +123,9 @@ pub fn serve_disk<S: StartApplication, D: Disk + Watched + Drop, R: Net + Clock 
         served.host,
         served.port,
         served.web,
-        served.most_waiting,
-        served.login,
+        served.limits,
         served.has_console,
+        served.logs_players,
         served.has_telnet.then_some(Telnet::new()),
     )?;
     let address = serving.address()?;

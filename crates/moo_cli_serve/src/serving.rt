@@ -8,13 +8,17 @@ ghost use Rattle.moo_cli_serve.specs.Service.{Begun, BreaksOff, EndsFor, IsOutsi
 
 use crate::beginning::{begin, tell_checkpoint};
 use crate::clients::Clients;
-use crate::coming::{come, now};
+use crate::coming::{come, now, time};
 use crate::console::Console;
 use crate::fault::ServeFault;
 use crate::giving::{give, give_if_open};
 use crate::leaving::{log_lines, write_all};
+use crate::limits::Limits;
 use crate::listening::{Web, listen};
-use crate::strangers::{LoginLimits, Strangers};
+use crate::players::Players;
+use crate::silence::Silence;
+use crate::strangers::Strangers;
+use crate::timeouts::Timeouts;
 use log::Log;
 use moo_cli_file_disk::{News, Watched};
 use moo_cli_telnet::Telnet;
@@ -24,6 +28,7 @@ use std::alloc::Global;
 use std::mem;
 use std::net::{IpAddr, Net, SocketAddr};
 use std::rt::Clock;
+use std::time::Duration;
 
 /// The longest wait of an idle server, in seconds: a moment has whole ones.
 const WAIT_SECONDS: u64 = 1;
@@ -48,10 +53,13 @@ pub struct Serving<S: StartApplication, D: Disk> {
     disk: D,
     /// The last reported moment.
     moment: u32,
-    strangers: Strangers,
+    timeouts: Timeouts,
+    players: Players,
     console: Console,
     /// Whether the clock is before the last reported moment.
     is_late: bool,
+    /// When the open checkpoint began, by a clock that is never set.
+    began: Option<Duration>,
 }
 
 impl<S: StartApplication, D: Disk + Watched> Serving<S, D> {
@@ -64,14 +72,14 @@ impl<S: StartApplication, D: Disk + Watched> Serving<S, D> {
         host: IpAddr,
         port: u16,
         web: Option<Web<'_>>,
-        most_waiting: usize,
-        login: LoginLimits,
+        limits: Limits,
         has_console: bool,
+        logs_players: bool,
         telnet: Option<Telnet>,
     ) -> Result<Serving<S, D>, ServeFault>
     where
         D: Drop,
-        ensures begun { IfOk result (Begun S.layer D.kind disk most_waiting) }
+        ensures begun { IfOk result (Begun S.layer D.kind disk limits) }
         ensures follows { IfOk result (λ serving. Follows S.layer D.kind (with_disk serving.server serving.disk)) }
         ensures refused { IfErr result (NotStarted S.layer D.kind disk) }
     {
@@ -79,19 +87,25 @@ impl<S: StartApplication, D: Disk + Watched> Serving<S, D> {
         let moment = now(rt).unwrap_or(0);
         let server = begin(rt, alloc, &mut disk, moment)?;
         let sockets = listen(rt, alloc, host, port, telnet, web)?;
+        let silence = Silence::new(alloc, limits.idle_seconds);
         Ok(Serving {
             alloc,
             clients: Clients {
                 sockets,
-                most_waiting,
+                most_waiting: limits.most_waiting,
                 is_settled: true,
             },
             server,
             disk,
             moment,
-            strangers: Strangers::new(login),
+            timeouts: Timeouts {
+                strangers: Strangers::new(limits.login),
+                silence,
+            },
+            players: Players::new(alloc, logs_players),
             console: Console::new(has_console),
             is_late: false,
+            began: None,
         })
     }
 
@@ -170,7 +184,7 @@ impl<S: StartApplication, D: Disk + Watched> Serving<S, D> {
         ensures follows { Follows S.layer D.kind (with_disk self.new.server self.new.disk) }
         ensures course { (events : List given.Event) × Course S.layer D.kind self.old.server self.old.disk events self.new.server self.new.disk }
         ensures round { OnOk result (Rounds S.layer D.kind self.old.clients.most_waiting self.old.moment self.new.moment self.old.server self.new.server self.old.disk self.new.disk
-            self.old.clients.sockets.sockets self.new.clients.sockets.sockets) }
+            self.old.clients.sockets.sockets self.new.clients.sockets.sockets self.old.timeouts.silence self.new.timeouts.silence) }
         ensures most { self.new.clients.most_waiting ≡ self.old.clients.most_waiting }
         ensures ended { IfErr result (λ fault. EndsFor S.layer D.kind fault self.old self.new) }
     {
@@ -186,10 +200,14 @@ impl<S: StartApplication, D: Disk + Watched> Serving<S, D> {
             &mut self.moment,
             &mut self.is_late,
         )?;
+        let now = time(rt);
+        let second = now.as_secs();
+        self.timeouts.silence.hear(second, &came)?;
         let calls = self.disk.calls();
         let given = give(&mut self.server, &mut self.disk, &came);
-        tell_checkpoint(rt, &self.disk, calls);
+        tell_checkpoint(rt, &self.disk, calls, now, &mut self.began);
         given?;
+        self.players.log(rt, second, &self.server, &came);
         let parted = write_all(
             rt,
             self.alloc,
@@ -197,10 +215,12 @@ impl<S: StartApplication, D: Disk + Watched> Serving<S, D> {
             &mut clients.sockets,
             clients.most_waiting,
             is_settled,
-            &mut self.strangers,
+            second,
+            &mut self.timeouts,
         )?;
         clients.is_settled = true;
         give_if_open(&mut self.server, &mut self.disk, &parted)?;
+        self.players.log(rt, second, &self.server, &parted);
         Ok(())
     }
 

@@ -3,10 +3,9 @@ ghost use Rattle.std.specs.Prelude.{◌≡◌, All, IfOk, IfSome, true};
 ghost use Rattle.moo_cli_serve.specs.Strangers.{is_stranger};
 
 use log::{Log, warn};
-use moo_cli_sockets::{Age, Sockets, seconds};
+use moo_cli_sockets::{Age, Sockets};
 use moo_server_core::{ServerCore, StartApplication};
 use std::alloc::{AllocError, Global};
-use std::rt::Clock;
 
 /// The limits for strangers: the connections on which no player is connected, and which aren't leaving.
 #[derive(Clone, Copy, Debug, PartialEq, Eq)]
@@ -48,16 +47,16 @@ impl Strangers {
     /// Returns the strangers that are hung up now, and logs it. These are all that are past the seconds of the limits,
     /// and the oldest one if there are too many. Without limits there are none. Searches only in a new second, or after
     /// new connections with which there may be too many. Fails only if memory runs out.
-    pub fn find_late<S: StartApplication, L: Clock + Log>(
+    pub fn find_late<S: StartApplication, L: Log>(
         &mut self,
         rt: &L,
         alloc: Global,
+        now: u64,
         server: &ServerCore<S>,
         sockets: &Sockets,
     ) -> Result<Vec<u16>, AllocError>
         ensures { IfOk result (λ late. All (λ c. is_stranger S.layer server.now c ≡ true) late.items) }
     {
-        let now = seconds(rt);
         if !self.is_due(now, sockets.arrivals()) {
             return Ok(Vec::new(alloc));
         }
@@ -108,7 +107,7 @@ impl Strangers {
 fn is_stranger<S: StartApplication>(server: &ServerCore<S>, c: u16) -> bool
     ensures { result ≡ is_stranger S.layer server.now c }
 {
-    !server.is_leaving(c) && !server.has_player(c)
+    !server.is_leaving(c) && server.player_on(c).is_none()
 }
 
 // Returns the strangers that are past so many seconds. 0 seconds are no limit.

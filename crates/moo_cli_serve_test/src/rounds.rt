@@ -2,7 +2,7 @@
 ghost use Rattle.moo_server_core.specs.Server.{Follows, with_disk};
 
 use moo_cli_file_disk::{FileDisk, Watched};
-use moo_cli_serve::{LoginLimits, Serving};
+use moo_cli_serve::{Limits, LoginLimits, Serving};
 use moo_disk::Disk;
 use moo_server::{MooApplication, StartApplication};
 use std::fs;
@@ -62,11 +62,15 @@ fn a_client_looks_round_by_round(rt: HostRuntime) -> Result<(), Fail> {
         host,
         0,
         None,
-        1_000_000,
-        LoginLimits {
-            seconds: 0,
-            most: 0,
+        Limits {
+            most_waiting: 1_000_000,
+            login: LoginLimits {
+                seconds: 0,
+                most: 0,
+            },
+            idle_seconds: 0,
         },
+        false,
         false,
         None,
     )?;

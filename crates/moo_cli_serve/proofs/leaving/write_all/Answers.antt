@@ -1,5 +1,5 @@
-use Rattle.std.proofs.Common.{◌≡◌, ℕ, ◌+◌, ◌<◌, ◌≤◌, Bool, List, length, get_or, Contains, refl, sym, ◌∙◌, ap, subst, arith, rules}
-use Rattle.std.proofs.Common.{inl, inr}
+use Rattle.std.proofs.Common.{◌≡◌, ℕ, ◌+◌, ◌<◌, ◌≤◌, Bool, List, length, get_or, Contains, refl, sym, ap, subst, arith, rules}
+use Rattle.std.proofs.Common.{inl}
 use Rattle.std.specs.List.{AllPairs}
 use Rattle.std.proofs.lemmas.List.{get_or_default}
 use Rattle.slab.specs.Slab.{Slab}
@@ -8,6 +8,7 @@ use Rattle.moo_cli_sockets.specs.Coming.{held}
 use Rattle.moo_cli_sockets.proofs.Elements.{visited_more}
 use Rattle.moo_server_core.specs.Application.{silence, then_out}
 use Rattle.moo_cli_serve.specs.Idle.{IsIdle}
+use Rattle.moo_cli_serve.specs.Silence.{is_silent}
 use Rattle.moo_cli_serve.specs.Writing.{IsWrittenTo, is_among}
 use Rattle.moo_cli_serve.proofs.Coursing.{hands_join, hands_none}
 use Rattle.moo_cli_serve.proofs.Idling.{between_due, past_due}
@@ -105,7 +106,8 @@ returns-clause-written g c =
     rest k below
     (λ there. past_due numbers c.loop-c.c-index so_far.0 k so_far.3 (omega (arith, c.loop-c-test.false)) from
     (subst (λ (ns : List ℕ). Contains ns k) (sym c.deref-c-items.ensures.value) there)) in
-    written_all g.S.Application.layer c.args.most_waiting late 65536 c.args.server.now c.loop-c.server old c.loop-c.sockets.sockets c.loop-c.parted.items (inl (omega arith)) c.in_ok-late.ensures
+    written_all g.S.Application.layer c.args.most_waiting (is_silent c.find_late.new.self.silence c.args.now) late 65536 c.args.server.now c.loop-c.server old c.loop-c.sockets.sockets c.loop-c.parted.items (inl (omega arith))
+    c.in_ok-late.ensures.late
     (written_gap g.S.Application.layer c.args.most_waiting c.args.is_settled late so_far.0 65536 c.args.server.now c.loop-c.server old c.loop-c.sockets.sockets c.loop-c.parted.items
     so_far.2 (omega arith) idle c.requires so_far.1)
 

@@ -1,4 +1,4 @@
-use Rattle.std.proofs.Common.{◌≡◌, ℕ, true}
+use Rattle.std.proofs.Common.{◌≡◌, true}
 use Rattle.std.specs.Prelude.{IfSome}
 use Rattle.moo_cli_serve.specs.Strangers.{is_stranger}
 use Rattle.moo_cli_serve.proofs.strangers.oldest.Given as goal

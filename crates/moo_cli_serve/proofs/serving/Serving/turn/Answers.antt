@@ -6,6 +6,8 @@ use Rattle.moo_cli_serve.specs.Course.{Given}
 use Rattle.moo_cli_serve.specs.Room.{HaveRoom}
 use Rattle.moo_cli_serve.specs.Rounds.{GivenIfOpen}
 use Rattle.moo_cli_serve.proofs.Coursing.{course_none}
+use Rattle.moo_cli_serve.specs.Silence.{Listens}
+use Rattle.moo_cli_serve.proofs.Hearing.{listens_kept}
 use Rattle.moo_cli_serve.proofs.Idling.{room_follows, room_same}
 use Rattle.moo_cli_serve.proofs.Serviced.{refused_of}
 use Rattle.moo_cli_serve.proofs.Rounding.{begins_on, course_end, course_round, follows_end}
@@ -22,6 +24,9 @@ invariant_of-clients-in-Break-branch-3 g c = record { room = λ on. absurd (true
 
 pub invariant_of-clients-in-Break-branch-4 : goal.invariant_of-clients-in-Break-branch-4
 invariant_of-clients-in-Break-branch-4 g c = record { room = λ on. absurd (true≢false (sym on ∙ c.replace-is_settled.ensures.after)) }
+
+pub invariant_of-clients-in-Break-branch-5 : goal.invariant_of-clients-in-Break-branch-5
+invariant_of-clients-in-Break-branch-5 g c = record { room = λ on. absurd (true≢false (sym on ∙ c.replace-is_settled.ensures.after)) }
 
 pub invariant_of-clients-2 : goal.invariant_of-clients-2
 invariant_of-clients-2 g c = record { room = λ on. c.in_ok-parted.ensures.room }
@@ -43,6 +48,15 @@ returns-in_err-came-clause-course g c = ([], course_none g.S.Application.layer g
 
 pub returns-in_err-came-clause-round : goal.returns-in_err-came-clause-round
 returns-in_err-came-clause-round g c = search rules
+
+pub returns-in_err-hear-clause-follows : goal.returns-in_err-hear-clause-follows
+returns-in_err-hear-clause-follows g c = record { still = c.requires.still; continues = c.requires.continues }
+
+pub returns-in_err-hear-clause-course : goal.returns-in_err-hear-clause-course
+returns-in_err-hear-clause-course g c = ([], course_none g.S.Application.layer g.D.Disk.kind c.args.self.now.server c.args.self.now.disk)
+
+pub returns-in_err-hear-clause-round : goal.returns-in_err-hear-clause-round
+returns-in_err-hear-clause-round g c = search rules
 
 pub give-given-requires : goal.give-given-requires
 give-given-requires g c = record { still = c.requires.still; continues = c.requires.continues }
@@ -108,16 +122,20 @@ returns-clause-round g c = record {
   read = c.come.new.sockets.sockets;
   begins = begins_on c.args.self.now.clients.sockets.sockets c.look.new.self.sockets c.come.new.sockets.sockets c.args.self.now.moment c.come.new.moment c.in_ok-came.came.items
       (λ k. c.look.ensures k ∙ c.rest.ensures k) c.in_ok-came.ensures;
+  second = c.as_secs-second.result;
+  listens = listens_kept c.as_secs-second.result c.in_ok-came.came.items c.args.self.now.timeouts.silence c.hear.new.self c.write_all.new.timeouts.silence
+      (subst (λ (es : List Event). Listens c.as_secs-second.result es c.args.self.now.timeouts.silence c.hear.new.self) c.deref.ensures.value c.in_ok-hear.ensures)
+      c.in_ok-parted.ensures.heard c.in_ok-parted.ensures.limit;
   given = c.give-given.new.server;
   between = c.give-given.new.disk;
   gives = subst (λ (es : List Event). Given g.S.Application.layer g.D.Disk.kind c.args.self.now.server c.args.self.now.disk es c.give-given.new.server c.give-given.new.disk)
-      c.deref.ensures.value c.in_ok-given.ensures.all;
+      c.deref-2.ensures.value c.in_ok-given.ensures.all;
   parted = c.in_ok-parted.parted.items;
   written = c.write_all.new.server;
   writes = c.in_ok-parted.ensures.written;
   handed = c.in_ok-parted.ensures.handed;
   ends = subst (λ (es : List Event). GivenIfOpen g.S.Application.layer g.D.Disk.kind c.write_all.new.server c.give-given.new.disk es c.give_if_open.new.server c.give_if_open.new.disk)
-      c.deref-2.ensures.value c.in_ok-give_if_open.ensures.all;
+      c.deref-4.ensures.value c.in_ok-give_if_open.ensures.all;
 }
 
 pub returns-in_err-look-clause-most : goal.returns-in_err-look-clause-most
@@ -125,6 +143,9 @@ returns-in_err-look-clause-most g c = search rules
 
 pub returns-in_err-came-clause-most : goal.returns-in_err-came-clause-most
 returns-in_err-came-clause-most g c = search rules
+
+pub returns-in_err-hear-clause-most : goal.returns-in_err-hear-clause-most
+returns-in_err-hear-clause-most g c = search rules
 
 pub returns-in_err-given-clause-most : goal.returns-in_err-given-clause-most
 returns-in_err-given-clause-most g c = search rules
@@ -146,6 +167,10 @@ pub returns-in_err-came-clause-ended : goal.returns-in_err-came-clause-ended
 returns-in_err-came-clause-ended g c =
     let p = err_from_is_err_and c.from_residual-in_err-came.result c.from_residual-in_err-came.ensures.1 in rw (p.1, p.2) tt
 
+pub returns-in_err-hear-clause-ended : goal.returns-in_err-hear-clause-ended
+returns-in_err-hear-clause-ended g c =
+    let p = err_from_is_err_and c.from_residual-in_err-hear.result c.from_residual-in_err-hear.ensures.1 in rw (p.1, p.2) tt
+
 pub returns-in_err-given-clause-ended : goal.returns-in_err-given-clause-ended
 returns-in_err-given-clause-ended g c =
     let p = err_from_is_err_and c.from_residual-in_err-given.result c.from_residual-in_err-given.ensures.1 in
@@ -155,7 +180,7 @@ returns-in_err-given-clause-ended g c =
       begins = begins_on c.args.self.now.clients.sockets.sockets c.look.new.self.sockets c.come.new.sockets.sockets c.args.self.now.moment c.come.new.moment c.in_ok-came.came.items
           (λ k. c.look.ensures k ∙ c.rest.ensures k) c.in_ok-came.ensures;
       refused = inl (refused_of g.S.Application.layer g.D.Disk.kind _ _ c.in_ok-came.came.items
-          c.args.self.now.server c.give-given.new.server c.args.self.now.disk c.give-given.new.disk c.deref.ensures.value c.in_err-given.ensures.refused);
+          c.args.self.now.server c.give-given.new.server c.args.self.now.disk c.give-given.new.disk c.deref-2.ensures.value c.in_err-given.ensures.refused);
     })
 
 pub returns-in_err-parted-clause-ended : goal.returns-in_err-parted-clause-ended
@@ -174,14 +199,19 @@ returns-in_err-give_if_open-clause-ended g c =
         given = c.give-given.new.server;
         between = c.give-given.new.disk;
         gives = subst (λ (es : List Event). Given g.S.Application.layer g.D.Disk.kind c.args.self.now.server c.args.self.now.disk es c.give-given.new.server c.give-given.new.disk)
-            c.deref.ensures.value c.in_ok-given.ensures.all;
+            c.deref-2.ensures.value c.in_ok-given.ensures.all;
         parted = c.in_ok-parted.parted.items;
         written = c.write_all.new.server;
         left = c.write_all.new.sockets.sockets;
+        second = c.as_secs-second.result;
+        listened = c.write_all.new.timeouts.silence;
+        listens = listens_kept c.as_secs-second.result c.in_ok-came.came.items c.args.self.now.timeouts.silence c.hear.new.self c.write_all.new.timeouts.silence
+            (subst (λ (es : List Event). Listens c.as_secs-second.result es c.args.self.now.timeouts.silence c.hear.new.self) c.deref.ensures.value c.in_ok-hear.ensures)
+            c.in_ok-parted.ensures.heard c.in_ok-parted.ensures.limit;
         writes = c.in_ok-parted.ensures.written;
         handed = c.in_ok-parted.ensures.handed;
         refused = refused_of g.S.Application.layer g.D.Disk.kind _ _ c.in_ok-parted.parted.items
-            c.write_all.new.server c.give_if_open.new.server c.give-given.new.disk c.give_if_open.new.disk c.deref-2.ensures.value c.in_err-give_if_open.ensures.refused;
+            c.write_all.new.server c.give_if_open.new.server c.give-given.new.disk c.give_if_open.new.disk c.deref-4.ensures.value c.in_err-give_if_open.ensures.refused;
       });
     })
 

@@ -7,14 +7,4 @@ pub mod Hooking
 pub mod Texts
 mod Direct
 mod Lengthened
-mod Appended
 mod Placed
-mod Foreseen
-mod Fits
-mod Functions
-mod Known
-mod Scattered
-mod Branched
-mod Turned
-mod Returned
-mod InTurn

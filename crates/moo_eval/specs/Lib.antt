@@ -3,5 +3,3 @@ pub mod Hooks
 pub mod Ends
 pub mod Growth
 pub mod Element
-pub mod Turning
-pub mod Callee

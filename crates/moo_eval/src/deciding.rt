@@ -1,21 +1,42 @@
 //! Expressions that evaluate only some of their parts.
-ghost use Rattle.std.specs.Prelude.{◌≤◌};
+ghost use Rattle.std.specs.Prelude.{◌≡◌, ◌≤◌, Ok, Err, IfOk, IfErr};
+ghost use Rattle.moo_value.specs.Tree.{Tree};
 ghost use Rattle.moo_syntax_ast.specs.Tree.{logic, conditional};
-ghost use Rattle.moo_syntax_ast.specs.View.{tree};
-ghost use Rattle.moo_eval_frame.specs.Seen.{context_of, seen_answer, IsKnownFailure};
+ghost use Rattle.moo_syntax_lower.specs.Source.{source};
+ghost use Rattle.moo_builtin_operator.specs.Truth.{is_true};
+ghost use Rattle.moo_eval_frame.specs.Seen.{context_of, seen_answer, stop_of, HadMemory, IsKnownFailure};
 ghost use Rattle.moo_builtin.specs.Telling.{Faults};
-ghost use Rattle.moo_eval_semantics.specs.Meaning.{Computes};
+ghost use Rattle.moo_eval_semantics.specs.Meaning.{Evaluates, Computes};
 ghost use Rattle.moo_eval.specs.Seen.{state_of};
 
 use crate::interpreter::Task;
-use moo_builtin_operator::is_decided;
-use moo_eval_frame::{Activation, CallStack, Failure};
-use moo_syntax_ast::Expr;
+use moo_builtin_operator::{is_decided, is_true};
+use moo_eval_frame::{Activation, CallStack, Failure, Stop};
 use moo_syntax_ast::operator::LogicOperator;
+use moo_syntax_lower::Node;
 use moo_value::Value;
 use moo_world::World;
 
 impl Task {
+    /// Returns whether the value of a test is true.
+    #[cycle(evaluation)]
+    #[inline]
+    pub(crate) fn passes(
+        &mut self,
+        world: &mut World,
+        active: &mut Activation,
+        stack: &CallStack<'_>,
+        indexed: Option<&Value>,
+        test: &Node,
+    ) -> Result<bool, Stop>
+        ensures ok { IfOk result (λ b. (v : Tree) × Evaluates Faults (context_of stack.now indexed.entry) (source test.now) (state_of self.old world.old active.old) (Ok v) (state_of self.new world.new active.new) × (is_true v ≡ b)) }
+        ensures err { IfErr result (λ stop. HadMemory stop → Evaluates Faults (context_of stack.now indexed.entry) (source test.now) (state_of self.old world.old active.old) (Err (stop_of stop)) (state_of self.new world.new active.new)) }
+        ensures ticks { self.new.ticks_left ≤ self.old.ticks_left }
+    {
+        let value = self.evaluate(world, active, stack, indexed, test)?;
+        Ok(is_true(&value))
+    }
+
     // Evaluates the second operand only if the first doesn't decide.
     #[cycle(evaluation)]
     #[inline(never)]
@@ -26,10 +47,10 @@ impl Task {
         stack: &CallStack<'_>,
         indexed: Option<&Value>,
         operator: LogicOperator,
-        left: &Expr,
-        right: &Expr,
+        left: &Node,
+        right: &Node,
     ) -> Result<Value, Failure>
-        ensures meaning { IsKnownFailure result → Computes Faults (context_of stack.now indexed.entry) (logic operator (tree left.now) (tree right.now)) (state_of self.old world.old active.old) (seen_answer result) (state_of self.new world.new active.new) }
+        ensures meaning { IsKnownFailure result → Computes Faults (context_of stack.now indexed.entry) (logic operator (source left.now) (source right.now)) (state_of self.old world.old active.old) (seen_answer result) (state_of self.new world.new active.new) }
         ensures ticks { self.new.ticks_left ≤ self.old.ticks_left }
     {
         let first = self.evaluate(world, active, stack, indexed, left)?;
@@ -48,17 +69,17 @@ impl Task {
         active: &mut Activation,
         stack: &CallStack<'_>,
         indexed: Option<&Value>,
-        test: &Expr,
-        first: &Expr,
-        second: &Expr,
+        test: &Node,
+        first: &Node,
+        second: &Node,
     ) -> Result<Value, Failure>
-        ensures meaning { IsKnownFailure result → Computes Faults (context_of stack.now indexed.entry) (conditional (tree test.now) (tree first.now) (tree second.now)) (state_of self.old world.old active.old) (seen_answer result) (state_of self.new world.new active.new) }
+        ensures meaning { IsKnownFailure result → Computes Faults (context_of stack.now indexed.entry) (conditional (source test.now) (source first.now) (source second.now)) (state_of self.old world.old active.old) (seen_answer result) (state_of self.new world.new active.new) }
         ensures ticks { self.new.ticks_left ≤ self.old.ticks_left }
     {
         let passes = self.passes(world, active, stack, indexed, test)?;
         if passes {
-            return Ok(self.evaluate_part(world, active, stack, indexed, first)?);
+            return Ok(self.evaluate(world, active, stack, indexed, first)?);
         }
-        Ok(self.evaluate_part(world, active, stack, indexed, second)?)
+        Ok(self.evaluate(world, active, stack, indexed, second)?)
     }
 }

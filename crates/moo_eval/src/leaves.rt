@@ -1,9 +1,12 @@
-//! Expressions without parts.
+//! Evaluates variables and literals.
 ghost use Rattle.std.specs.Prelude.{◌≡◌, ◌≤◌, Option, Err};
 ghost use Rattle.std.specs.Borrow.{Bor};
+ghost use Rattle.moo_value.specs.View.{tree};
 ghost use Rattle.moo_value.specs.declared.value.Value.{Value as ValueModel};
 ghost use Rattle.moo_value.specs.declared.error_code.ErrorCode.TheVariants.{VariableNotFound};
-ghost use Rattle.moo_syntax_ast.specs.Tree.{literal as literal_node, variable};
+ghost use Rattle.moo_syntax_ast.specs.declared.tree.Literal.{Literal};
+ghost use Rattle.moo_syntax_ast.specs.declared.tree.Literal.TheVariants.{Str};
+ghost use Rattle.moo_syntax_ast.specs.Tree.{literal, literal_value, variable};
 ghost use Rattle.moo_eval_frame.specs.Outcome.{fails, settled};
 ghost use Rattle.moo_eval_frame.specs.Seen.{context_of, seen_value, trace_of, IsKnown};
 ghost use Rattle.moo_world_table.specs.World.{World};
@@ -12,12 +15,12 @@ ghost use Rattle.moo_eval_semantics.specs.Meaning.{Evaluates};
 ghost use Rattle.moo_eval.specs.Seen.{state_of};
 
 use crate::interpreter::Task;
-use moo_eval_frame::{Activation, CallStack, Failure, Stop, literal_value, settle};
-use moo_syntax_ast::{Literal, Name};
+use moo_eval_frame::{Activation, CallStack, Failure, Stop, settle};
+use moo_syntax_ast::{Name, Text};
 use moo_value::{ErrorCode, Value};
 
 impl Task {
-    /// The value of a variable, which takes a tick, whatever `$` measures.
+    /// Returns the value of a variable, which takes a tick, whatever `$` measures.
     pub(crate) fn variable(
         &mut self,
         active: &Activation,
@@ -34,7 +37,7 @@ impl Task {
         }
     }
 
-    // What a variable gives that isn't set.
+    // Returns the outcome of a variable that isn't set.
     #[cold]
     #[inline(never)]
     fn unset(&self, active: &Activation, stack: &CallStack<'_>) -> Result<Value, Stop>
@@ -44,17 +47,32 @@ impl Task {
         settle(self.alloc(), stack, active, outcome)
     }
 
-    /// The value of a literal, which takes a tick, whatever `$` measures.
+    /// Returns the value of a literal, which takes a tick, whatever `$` measures.
+    #[inline]
     pub(crate) fn literal(
         &mut self,
         active: &Activation,
         stack: &CallStack<'_>,
-        literal: &Literal,
+        value: Value,
     ) -> Result<Value, Stop>
-        ensures meaning { (indexed : Option (Bor ValueModel)) (w : World) → IsKnown result → Evaluates Faults (context_of stack.now indexed) (literal_node literal.now) (state_of self.old w active.now) (seen_value result) (state_of self.new w active.now) }
+        ensures meaning { (l : Literal) (indexed : Option (Bor ValueModel)) (w : World) → tree value ≡ literal_value l → IsKnown result → Evaluates Faults (context_of stack.now indexed) (literal l) (state_of self.old w active.now) (seen_value result) (state_of self.new w active.now) }
         ensures ticks { self.new.ticks_left ≤ self.old.ticks_left }
     {
         self.take_tick(active, stack)?;
-        Ok(literal_value(literal)?)
+        Ok(value)
+    }
+
+    /// Returns the value of a literal string, which takes a tick, whatever `$` measures.
+    pub(crate) fn text(
+        &mut self,
+        active: &Activation,
+        stack: &CallStack<'_>,
+        text: &Text,
+    ) -> Result<Value, Stop>
+        ensures meaning { (indexed : Option (Bor ValueModel)) (w : World) → IsKnown result → Evaluates Faults (context_of stack.now indexed) (literal (Str text.now)) (state_of self.old w active.now) (seen_value result) (state_of self.new w active.now) }
+        ensures ticks { self.new.ticks_left ≤ self.old.ticks_left }
+    {
+        self.take_tick(active, stack)?;
+        Ok(Value::Str(text.string().try_clone()?))
     }
 }

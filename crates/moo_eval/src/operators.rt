@@ -1,7 +1,7 @@
 //! Evaluates operators, indexes, ranges and lists.
 ghost use Rattle.std.specs.Prelude.{◌≡◌, ◌≤◌};
 ghost use Rattle.moo_syntax_ast.specs.Tree.{unary, binary, index, range, list};
-ghost use Rattle.moo_syntax_ast.specs.View.{tree, items_of};
+ghost use Rattle.moo_syntax_lower.specs.Source.{source, source_items};
 ghost use Rattle.moo_builtin_operator.specs.Places.{made_list};
 ghost use Rattle.moo_eval_frame.specs.Outcome.{answers};
 ghost use Rattle.moo_eval_frame.specs.Seen.{context_of, seen_answer, IsKnownFailure};
@@ -11,10 +11,10 @@ ghost use Rattle.moo_eval.specs.Seen.{state_of};
 
 use crate::interpreter::Task;
 use moo_builtin_operator as operation;
-use moo_eval_fast_expr::integers;
+use moo_eval_access::binary;
 use moo_eval_frame::{Activation, CallStack, Failure, Gathered};
 use moo_syntax_ast::operator::{BinaryOperator, UnaryOperator};
-use moo_syntax_ast::{Expr, Item};
+use moo_syntax_lower::{Node, NodeItem};
 use moo_value::Value;
 use moo_world::World;
 use std::alloc::Global;
@@ -29,9 +29,9 @@ impl Task {
         stack: &CallStack<'_>,
         indexed: Option<&Value>,
         operator: UnaryOperator,
-        operand: &Expr,
+        operand: &Node,
     ) -> Result<Value, Failure>
-        ensures meaning { IsKnownFailure result → Computes Faults (context_of stack.now indexed.entry) (unary operator (tree operand.now)) (state_of self.old world.old active.old) (seen_answer result) (state_of self.new world.new active.new) }
+        ensures meaning { IsKnownFailure result → Computes Faults (context_of stack.now indexed.entry) (unary operator (source operand.now)) (state_of self.old world.old active.old) (seen_answer result) (state_of self.new world.new active.new) }
         ensures ticks { self.new.ticks_left ≤ self.old.ticks_left }
     {
         let operand = self.evaluate(world, active, stack, indexed, operand)?;
@@ -47,15 +47,15 @@ impl Task {
         stack: &CallStack<'_>,
         indexed: Option<&Value>,
         operator: BinaryOperator,
-        left: &Expr,
-        right: &Expr,
+        left: &Node,
+        right: &Node,
     ) -> Result<Value, Failure>
-        ensures meaning { IsKnownFailure result → Computes Faults (context_of stack.now indexed.entry) (binary operator (tree left.now) (tree right.now)) (state_of self.old world.old active.old) (seen_answer result) (state_of self.new world.new active.new) }
+        ensures meaning { IsKnownFailure result → Computes Faults (context_of stack.now indexed.entry) (binary operator (source left.now) (source right.now)) (state_of self.old world.old active.old) (seen_answer result) (state_of self.new world.new active.new) }
         ensures ticks { self.new.ticks_left ≤ self.old.ticks_left }
     {
         let left = self.evaluate(world, active, stack, indexed, left)?;
         let right = self.evaluate(world, active, stack, indexed, right)?;
-        Ok(integers::binary(self.alloc, operator, &left, &right)?)
+        Ok(binary(self.alloc(), operator, &left, &right)?)
     }
 
     // Evaluates `base[index]`; in the index `$` is the length of the base.
@@ -67,15 +67,15 @@ impl Task {
         active: &mut Activation,
         stack: &CallStack<'_>,
         indexed: Option<&Value>,
-        base: &Expr,
-        place: &Expr,
+        base: &Node,
+        place: &Node,
     ) -> Result<Value, Failure>
-        ensures meaning { IsKnownFailure result → Computes Faults (context_of stack.now indexed.entry) (index (tree base.now) (tree place.now)) (state_of self.old world.old active.old) (seen_answer result) (state_of self.new world.new active.new) }
+        ensures meaning { IsKnownFailure result → Computes Faults (context_of stack.now indexed.entry) (index (source base.now) (source place.now)) (state_of self.old world.old active.old) (seen_answer result) (state_of self.new world.new active.new) }
         ensures ticks { self.new.ticks_left ≤ self.old.ticks_left }
     {
         let base = self.evaluate(world, active, stack, indexed, base)?;
         let place = self.evaluate(world, active, stack, Some(&base), place)?;
-        Ok(operation::index(self.alloc, &base, &place)?)
+        Ok(operation::index(self.alloc(), &base, &place)?)
     }
 
     #[cycle(evaluation)]
@@ -86,17 +86,17 @@ impl Task {
         active: &mut Activation,
         stack: &CallStack<'_>,
         indexed: Option<&Value>,
-        base: &Expr,
-        low: &Expr,
-        high: &Expr,
+        base: &Node,
+        low: &Node,
+        high: &Node,
     ) -> Result<Value, Failure>
-        ensures meaning { IsKnownFailure result → Computes Faults (context_of stack.now indexed.entry) (range (tree base.now) (tree low.now) (tree high.now)) (state_of self.old world.old active.old) (seen_answer result) (state_of self.new world.new active.new) }
+        ensures meaning { IsKnownFailure result → Computes Faults (context_of stack.now indexed.entry) (range (source base.now) (source low.now) (source high.now)) (state_of self.old world.old active.old) (seen_answer result) (state_of self.new world.new active.new) }
         ensures ticks { self.new.ticks_left ≤ self.old.ticks_left }
     {
         let base = self.evaluate(world, active, stack, indexed, base)?;
-        let low = self.evaluate_part(world, active, stack, Some(&base), low)?;
-        let high = self.evaluate_part(world, active, stack, Some(&base), high)?;
-        Ok(operation::range(self.alloc, &base, &low, &high)?)
+        let low = self.evaluate(world, active, stack, Some(&base), low)?;
+        let high = self.evaluate(world, active, stack, Some(&base), high)?;
+        Ok(operation::range(self.alloc(), &base, &low, &high)?)
     }
 
     #[cycle(evaluation)]
@@ -107,13 +107,13 @@ impl Task {
         active: &mut Activation,
         stack: &CallStack<'_>,
         indexed: Option<&Value>,
-        items: &[Item],
+        items: &[NodeItem],
     ) -> Result<Value, Failure>
-        ensures meaning { IsKnownFailure result → Computes Faults (context_of stack.now indexed.entry) (list (items_of items.now)) (state_of self.old world.old active.old) (seen_answer result) (state_of self.new world.new active.new) }
+        ensures meaning { IsKnownFailure result → Computes Faults (context_of stack.now indexed.entry) (list (source_items items.now)) (state_of self.old world.old active.old) (seen_answer result) (state_of self.new world.new active.new) }
         ensures ticks { self.new.ticks_left ≤ self.old.ticks_left }
     {
         let values = self.evaluate_all(world, active, stack, indexed, items)?;
-        listed(self.alloc, values)
+        listed(self.alloc(), values)
     }
 }
 

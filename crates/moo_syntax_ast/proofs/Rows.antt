@@ -4,7 +4,7 @@ use Rattle.moo_syntax_ast.specs.declared.tree.Expr.{Row_of-Item, end_of-Item, mo
 use Rattle.moo_syntax_ast.specs.declared.tree.Codes.TheBlock.{hidden-the_row-Item-0}
 use Rattle.moo_syntax_ast.specs.declared.tree.Item.{Item}
 use Rattle.moo_syntax_ast.specs.Tree
-use Rattle.moo_syntax_ast.specs.Tree.{Items, Arms}
+use Rattle.moo_syntax_ast.specs.Tree.{Items}
 use Rattle.moo_syntax_ast.specs.View.{row, with_item, items_of, statement, statements, block, arms_row, with_arm, arms_of, handlers_row, with_handler, handlers_of}
 use Rattle.moo_syntax_ast.specs.declared.tree.Stmt.{Stmt, Row_of-Stmt, end_of-Stmt, more_of-Stmt, items-the_row-Stmt, items_hidden-the_row-Stmt-0}
 use Rattle.moo_syntax_ast.specs.declared.tree.Arm.{Arm}

@@ -1,6 +1,6 @@
 -- A verb is in the bucket of each name that matches it.
 use Rattle.std.proofs.Common.{◌≡◌, ◌≢◌, ◌⊎◌, inl, inr, ℕ, zero, suc, ◌+◌, ◌*◌, ◌-◌, ◌/◌, ◌%◌, ◌≤◌, ◌<◌, Bool, true, false, not, ◌&&◌, ◌||◌, cond, List, [], ◌∷◌, ◌++◌, length, take, drop, get_or, set, filter, refl, sym, ap, ◌∙◌, subst, bit_and, arith, nat_lt, eqb, ltb, min, max, IsTrue, ◌↔◌}
-use Rattle.std.proofs.lemmas.Bool.{cases_Bool, or_parts, eqb-true, eq-eqb, false≢true, ltb-true, ltb-false}
+use Rattle.std.proofs.lemmas.Bool.{cases_Bool, or_parts, eqb-true, eqb-false, eq-eqb, false≢true, ltb-true, ltb-false}
 use Rattle.std.proofs.lemmas.Bool.Decides.{nat_tests, same_from_decides}
 use Rattle.std.proofs.lemmas.List.{get_or-map, length-map, length-append, map-append, get_or_default, get_or_append_left}
 use Rattle.std.proofs.Math.Seq.{take-append_seam}
@@ -9,7 +9,7 @@ use Rattle.std.specs.Char.{to_ascii_lowercase}
 use Rattle.moo_value.specs.Compare.{folded}
 use Rattle.moo_world_object.specs.Patterns.{is_star, is_blank, is_word, base, least, ends_in_star, fits, fits_names, Fits, Begins, EndsInStar}
 use Rattle.moo_world_object.specs.Verbs.{fits_verb, is_needed, changed_at}
-use Rattle.moo_world_object.specs.Index.{letter_at, letters_hash, class_of, hash_of, bucket_of, no_verbs, Holds, Grows, CoversPattern, Covers, AreIndexed}
+use Rattle.moo_world_object.specs.Index.{letter_at, letters_hash, class_of, hash_of, bucket_of, no_verbs, Holds, IsListed, Grows, CoversPattern, Covers, AreIndexed}
 use Rattle.moo_world_object.specs.declared.verb.Verb.{Verb}
 use Rattle.moo_world_object.specs.declared.verb.Need.{Need}
 use Rattle.moo_world_object.specs.declared.verb_index.Bucket.{Bucket}
@@ -56,18 +56,18 @@ same_letters_hash a b same =
 pub same_hash : (a b : List ℕ) → folded a ≡ folded b → hash_of a ≡ hash_of b
 same_hash a b same = ap (λ n. n * 2 + class_of (first_letter a)) (same_letters_hash a b same) ∙ ap (λ n. letters_hash b * 2 + class_of n) (same_first a b same)
 
--- the bucket of a name is even or odd as its class
+-- the lowest bit of a hash
 class_low : (first : ℕ) → class_of first < 2
 class_low first = elim (cases_Bool (ltb first 65)) [
   | inl low ↦ rw (low) (omega arith)
   | inr high ↦ rw (high) (omega arith)
 ]
 
-class_of_sum : (n c m : ℕ) → c < 2 → (m * 2 + (n * 2 + c) % 2) % 2 ≡ c
-class_of_sum n c m low = omega (arith, low)
+lowest_bit : (n c : ℕ) → c < 2 → (n * 2 + c) % 2 ≡ c
+lowest_bit n c low = omega (arith, low)
 
-class_of_bucket : (mask : ℕ) (name : List ℕ) → bucket_of mask (hash_of name) % 2 ≡ class_of (first_letter name)
-class_of_bucket mask name = class_of_sum (letters_hash name) (class_of (first_letter name)) (bit_and (hash_of name / 2) mask) (class_low (first_letter name))
+class_of_hash : (name : List ℕ) → hash_of name % 2 ≡ class_of (first_letter name)
+class_of_hash name = lowest_bit (letters_hash name) (class_of (first_letter name)) (class_low (first_letter name))
 
 -- a name that fits a pattern is of its class, if that begins with no star
 star_low : (b : ℕ) → is_star (to_ascii_lowercase b) ≡ false → is_star b ≡ false
@@ -82,15 +82,21 @@ first_of_fit [] (n ∷ ns) plain (inl ((behind, is), long)) = absurd (cc)
 first_of_fit [] (n ∷ ns) plain (inr ((front, is), begins)) = absurd (omega (arith, ap length is, length-append front (42 ∷ [])))
 first_of_fit (b ∷ bs) name plain fit = begins_so b bs name (star_low b plain) fit
 
-pub open_covers : (buckets : List Bucket) (i : ℕ) (pattern : List ℕ) → is_star (first_letter pattern) ≡ false → ((j : ℕ) → j % 2 ≡ class_of (first_letter pattern) → Holds buckets j i) → (mask : ℕ) → CoversPattern buckets mask pattern i
-open_covers buckets i pattern plain all mask = λ name fit.
-    all (bucket_of mask (hash_of name)) (class_of_bucket mask name ∙ ap class_of (first_of_fit pattern name plain ((fits_is pattern name).0 fit)))
+pub open_covers : (buckets : List Bucket) (i : ℕ) (pattern : List ℕ) → is_star (first_letter pattern) ≡ false → Holds buckets (class_of (first_letter pattern)) i → (mask : ℕ) → CoversPattern buckets mask pattern i
+open_covers buckets i pattern plain holds mask = λ name fit.
+    let class : hash_of name % 2 ≡ class_of (first_letter pattern) = class_of_hash name ∙ ap class_of (first_of_fit pattern name plain ((fits_is pattern name).0 fit)) in
+    inr (subst (λ j. Holds buckets j i) (sym class) holds)
 
-pub class_more : (buckets later : List Bucket) (i j class : ℕ) → Grows buckets later → ((k : ℕ) → k < j → k % 2 ≡ class → Holds buckets k i) → (j % 2 ≡ class → Holds later j i) → (k : ℕ) → k < j + 1 → k % 2 ≡ class → Holds later k i
-class_more buckets later i j class grows below here k low is = elim (cases_Bool (ltb k j)) [
-  | inl less ↦ grows.1 k i (below k (ltb-true k j less) is)
-  | inr more ↦ let e : k ≡ j = omega (arith, low, ltb-false k j more) in subst (λ n. Holds later n i) (sym e) (here (sym (ap (λ n. n % 2) e) ∙ is))
+-- a place in both buckets of open patterns is listed for all names
+pub both_list : (buckets : List Bucket) (i : ℕ) → Holds buckets 0 i → Holds buckets 1 i → (mask hash : ℕ) → IsListed buckets mask hash i
+both_list buckets i zeroth first mask hash = elim (cases_Bool (eqb (hash % 2) 0)) [
+  | inl is ↦ inr (subst (λ j. Holds buckets j i) (sym (eqb-true (hash % 2) 0 is)) zeroth)
+  | inr other ↦ let one : hash % 2 ≡ 1 = omega (arith, eqb-false (hash % 2) 0 other) in inr (subst (λ j. Holds buckets j i) (sym one) first)
 ]
+
+pub listed_later : (buckets later : List Bucket) (mask hash i : ℕ) → Grows buckets later → IsListed buckets mask hash i → IsListed later mask hash i
+listed_later buckets later mask hash i grows (inl own) = inl (grows.1 (bucket_of mask hash) i own)
+listed_later buckets later mask hash i grows (inr shared) = inr (grows.1 (hash % 2) i shared)
 
 -- a name that matches a pattern without a star at its end is a prefix of the base
 pub prefix_of_base : (pattern name : List ℕ) → ends_in_star pattern ≡ false → fits pattern name ≡ true →
@@ -118,7 +124,7 @@ HoldsPrefixes buckets mask pattern i end = (n : ℕ) → least pattern ≤ n →
 pub prefixes_cover : (buckets : List Bucket) (mask : ℕ) (pattern : List ℕ) (i : ℕ) → HoldsPrefixes buckets mask pattern i (length (base pattern) + 1) → ends_in_star pattern ≡ false → CoversPattern buckets mask pattern i
 prefixes_cover buckets mask pattern i all closed = λ name fit.
     let p = prefix_of_base pattern name closed fit in
-    subst (λ h. Holds buckets (bucket_of mask h) i) (same_hash (take (length name) (base pattern)) name p.2) (all (length name) p.0 (omega (arith, p.1)))
+    inl (subst (λ h. Holds buckets (bucket_of mask h) i) (same_hash (take (length name) (base pattern)) name p.2) (all (length name) p.0 (omega (arith, p.1))))
 
 -- ends_in_star as a relation is the test
 pub star_test : (pattern : List ℕ) (r : Bool) → (IsTrue r ↔ EndsInStar pattern) → r ≡ ends_in_star pattern
@@ -126,7 +132,7 @@ star_test pattern r both = same_from_decides r (ends_in_star pattern) both (ends
 
 -- patterns as names
 pub parts_cover : (buckets : List Bucket) (mask i : ℕ) (parts : List (List ℕ)) → ((k : ℕ) → k < length parts → CoversPattern buckets mask (get_or parts k []) i)
-    → (name : List ℕ) → list_any (λ pattern. fits pattern name) (filter is_word parts) ≡ true → Holds buckets (bucket_of mask (hash_of name)) i
+    → (name : List ℕ) → list_any (λ pattern. fits pattern name) (filter is_word parts) ≡ true → IsListed buckets mask (hash_of name) i
 parts_cover buckets mask i [] all name some = absurd (false≢true some)
 parts_cover buckets mask i (part ∷ parts) all name some = elim (cases_Bool (is_word part)) [
   | inl word ↦
@@ -143,16 +149,16 @@ covers_patterns buckets mask i names all = λ name fit. parts_cover buckets mask
 
 -- what an earlier index covers
 pub covers_later : (buckets later : List Bucket) (mask i : ℕ) (names : List ℕ) → Grows buckets later → Covers buckets mask names i → Covers later mask names i
-covers_later buckets later mask i names grows covers = λ name fit. grows.1 (bucket_of mask (hash_of name)) i (covers name fit)
+covers_later buckets later mask i names grows covers = λ name fit. listed_later buckets later mask (hash_of name) i grows (covers name fit)
 
 pub pattern_later : (buckets later : List Bucket) (mask i : ℕ) (pattern : List ℕ) → Grows buckets later → CoversPattern buckets mask pattern i → CoversPattern later mask pattern i
-pattern_later buckets later mask i pattern grows covers = λ name fit. grows.1 (bucket_of mask (hash_of name)) i (covers name fit)
+pattern_later buckets later mask i pattern grows covers = λ name fit. listed_later buckets later mask (hash_of name) i grows (covers name fit)
 
 pub grows_more : (one two three : List Bucket) → Grows one two → Grows two three → Grows one three
 grows_more one two three first second = (second.0 ∙ first.0, λ j i holds. second.1 j i (first.1 j i holds))
 
 -- a verb outside the bucket of a name does not match it
-pub outside : (buckets : List Bucket) (mask : ℕ) (verbs : List Verb) (need : Need) (name : List ℕ) (k : ℕ) (d : Verb) → AreIndexed buckets mask verbs → k < length verbs → (Holds buckets (bucket_of mask (hash_of name)) k → ⊥) → fits_verb need name (get_or verbs k d) ≡ false
+pub outside : (buckets : List Bucket) (mask : ℕ) (verbs : List Verb) (need : Need) (name : List ℕ) (k : ℕ) (d : Verb) → AreIndexed buckets mask verbs → k < length verbs → (IsListed buckets mask (hash_of name) k → ⊥) → fits_verb need name (get_or verbs k d) ≡ false
 outside buckets mask verbs need name k d indexed low out = elim (cases_Bool (fits_verb need name (get_or verbs k d))) [
   | inl fit ↦ absurd (out (indexed k (get_or verbs k d) low (get_or_default verbs k d (get_or verbs k d) low) name (and_second (is_needed need (get_or verbs k d)) fit)))
   | inr off ↦ off
@@ -183,12 +189,6 @@ same_index buckets mask i f verbs keeps indexed = λ k v low here.
     subst (λ ns. Covers buckets mask ns k) names (indexed k was inside (get_or_default verbs k v was inside))
 
 -- the loops
-pub holds_more : (buckets later : List Bucket) (i j : ℕ) → Grows buckets later → ((k : ℕ) → k < j → Holds buckets k i) → Holds later j i → (k : ℕ) → k < j + 1 → Holds later k i
-holds_more buckets later i j grows below here k low = elim (cases_Bool (ltb k j)) [
-  | inl less ↦ grows.1 k i (below k (ltb-true k j less))
-  | inr more ↦ let e : j ≡ k = omega (arith, low, ltb-false k j more) in subst (λ n. Holds later n i) e here
-]
-
 pub prefixes_more : (buckets later : List Bucket) (mask : ℕ) (pattern : List ℕ) (i end : ℕ) → Grows buckets later → HoldsPrefixes buckets mask pattern i end → Holds later (bucket_of mask (hash_of (take end (base pattern)))) i → HoldsPrefixes later mask pattern i (end + 1)
 prefixes_more buckets later mask pattern i end grows all here = λ n enough low. elim (cases_Bool (ltb n end)) [
   | inl less ↦ grows.1 (bucket_of mask (hash_of (take n (base pattern)))) i (all n enough (ltb-true n end less))

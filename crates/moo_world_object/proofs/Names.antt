@@ -1,8 +1,9 @@
 -- The test of two names is equality.
-use Rattle.std.proofs.Common.{inl, inr, ◌≡◌, ℕ, ◌<◌, ◌≤◌, List, Bool, true, false, sym, ◌∙◌, ap, rules, arith, IsTrue, length, get_or}
+use Rattle.std.proofs.Common.{inl, inr, ◌≡◌, ℕ, ◌+◌, ◌-◌, ◌<◌, ◌≤◌, List, ◌++◌, Bool, true, false, sym, ◌∙◌, ap, rules, arith, IsTrue, length, get_or, take, drop}
+use Rattle.std.specs.Str.{bytes_eq}
 use Rattle.std.specs.Char.{to_ascii_lowercase}
 use Rattle.std.proofs.lemmas.Bool.{cases_Bool, false≢true}
-use Rattle.std.proofs.lemmas.List.{length-map, get_or-map, ext_get_or}
+use Rattle.std.proofs.lemmas.List.{length-map, get_or-map, ext_get_or, take_all, take-append-drop, drop-drop}
 use Rattle.std.proofs.lemmas.Slice.Eq.{bytes_eq-Decides}
 use Rattle.moo_value.specs.Compare.{folded}
 use Rattle.moo_world_object.specs.Names.{same_name}
@@ -41,3 +42,17 @@ letters_same a b i long all same =
     ext_get_or 0 (folded a) (folded b) (length-map a to_ascii_lowercase ∙ long ∙ sym (length-map b to_ascii_lowercase))
     (λ k low. let within : k < length a = omega (arith, low, length-map a to_ascii_lowercase) in
     get_or-map to_ascii_lowercase a k 0 0 within ∙ same k (omega (arith, within, all)) ∙ sym (get_or-map to_ascii_lowercase b k 0 0 (omega (arith, within, long))))
+
+-- two names whose ends are the same, if these meet or overlap
+rest_same : (a b : List ℕ) (m n : ℕ) → n ≤ m → drop n a ≡ drop n b → drop m a ≡ drop m b
+rest_same a b m n meet back =
+    let sum : n + (m - n) ≡ m = omega (arith, meet) in
+    ap (λ k. drop k a) (sym sum) ∙ sym (drop-drop (m - n) n a) ∙ ap (drop (m - n)) back ∙ drop-drop (m - n) n b ∙ ap (λ k. drop k b) sum
+
+pub ends_same : (a b : List ℕ) (m n : ℕ) → n ≤ m → take m a ≡ take m b → drop n a ≡ drop n b → a ≡ b
+ends_same a b m n meet front back =
+    sym (take-append-drop m a) ∙ ap (λ l. l ++ drop m a) front ∙ ap (λ l. take m b ++ l) (rest_same a b m n meet back) ∙ take-append-drop m b
+
+-- a name that begins with one of its length
+pub prefix_same : (a b : List ℕ) → length a ≡ length b → bytes_eq b (take (length b) a) ≡ true → a ≡ b
+prefix_same a b long begins = sym (take_all (length b) a (omega (arith, long))) ∙ sym ((bytes_eq-Decides b (take (length b) a)).0 begins)

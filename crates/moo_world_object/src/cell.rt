@@ -3,6 +3,7 @@ ghost use Rattle.std.specs.Prelude.{◌≡◌, ◌≤◌, IfOk, IfSome, IfNone, 
 ghost use Rattle.std.specs.Option.{option_copied, option_map};
 ghost use Rattle.moo_value.specs.Compare.{folded};
 ghost use Rattle.moo_value.specs.View.{tree};
+ghost use Rattle.moo_syntax_ast.specs.NameNumber.{name_number};
 ghost use Rattle.moo_world_object.specs.BuiltIn.{built_in_of};
 ghost use Rattle.moo_world_object.specs.Cells.{is_key, is_named, key_of, cleared, own_cell, emptied, with_info, renamed};
 
@@ -164,19 +165,28 @@ impl PropCell {
         same_name(self.name.as_bytes(), name)
     }
 
-    /// Is true if the cell has the literal's name, in any case. It compares bytes only if the numbers of both are one
-    /// hash.
+    /// Is true if the cell has the literal's name, in any case.
     #[inline(always)]
     pub fn is_named_as(&self, name: &Text) -> bool
         ensures { result ≡ is_named (folded name.now) self.now }
     {
-        if self.number != name.number() {
+        self.is_numbered(name.number(), name.string().as_bytes())
+    }
+
+    /// Is true if the cell has the name with this number, in any case. It compares bytes only if the numbers of both are
+    /// one hash.
+    #[inline(always)]
+    pub(crate) fn is_numbered(&self, number: u64, name: &[u8]) -> bool
+        requires { number ≡ name_number (folded name.now) }
+        ensures { result ≡ is_named (folded name.now) self.now }
+    {
+        if self.number != number {
             return false;
         }
         if is_code(self.number) {
             return true;
         }
-        same_hashed_name(self.name.as_bytes(), name.string().as_bytes())
+        same_hashed_name(self.name.as_bytes(), name)
     }
 
     /// Is true if this and the other are cells of the same definition.

@@ -1,5 +1,5 @@
 //! Names, which are compared without regard to case.
-ghost use Rattle.std.specs.Prelude.{◌≡◌, ◌↔◌, ◌<◌, IfOk, IsTrue, filter, length, not, position, slice_set};
+ghost use Rattle.std.specs.Prelude.{◌≡◌, ◌↔◌, ◌<◌, ◌≤◌, ◌+◌, IfOk, IsTrue, filter, length, not, position, slice_set};
 ghost use Rattle.std.specs.Char.{to_ascii_lowercase};
 ghost use Rattle.std.specs.List.{list_any};
 ghost use Rattle.moo_value.specs.Compare.{folded};
@@ -22,7 +22,7 @@ pub fn same_name(one: &[u8], other: &[u8]) -> bool
 }
 
 /// Is true if two names of one hash are the same, in any case. Most are, also in case, so it compares the bytes first.
-#[inline]
+#[inline(always)]
 pub(crate) fn same_hashed_name(one: &[u8], other: &[u8]) -> bool
     ensures { result ≡ same_name (folded one.now) (folded other.now) }
 {
@@ -32,10 +32,49 @@ pub(crate) fn same_hashed_name(one: &[u8], other: &[u8]) -> bool
     same_name(one, other)
 }
 
+// Is true if two names have the same bytes. Most names with a hash have from 13 to 32 bytes, of which it compares the
+// first and the last 8 or 16: these meet or overlap, and their number is a constant, so no loop is needed.
+#[inline(always)]
 fn has_same_bytes(one: &[u8], other: &[u8]) -> bool
-    ensures { IsTrue result ↔ (one.now ≡ other.now) }
+    ensures { IsTrue result → one.now ≡ other.now }
 {
-    one == other
+    let many = one.len();
+    if many != other.len() {
+        return false;
+    }
+    if many < 8 || many > 32 {
+        return one == other;
+    }
+    if many <= 16 {
+        return has_same_ends(one, other, 8);
+    }
+    has_same_ends(one, other, 16)
+}
+
+// Is true if the first and the last `count` bytes of two names of the same length are the same, which are all bytes.
+#[inline(always)]
+fn has_same_ends(one: &[u8], other: &[u8], count: usize) -> bool
+    requires same { length one.now ≡ length other.now }
+    requires low { count ≤ length one.now }
+    requires high { length one.now ≤ count + count }
+    ensures { IsTrue result → one.now ≡ other.now }
+{
+    let rest = one.len() - count;
+    if is_same_part(&one[..count], &other[..count]) {
+        return is_same_part(&one[rest..], &other[rest..]);
+    }
+    false
+}
+
+// Is true if two parts have the same bytes.
+#[inline(always)]
+fn is_same_part(one: &[u8], other: &[u8]) -> bool
+    ensures { IsTrue result → one.now ≡ other.now }
+{
+    if one.len() != other.len() {
+        return false;
+    }
+    one.starts_with(other)
 }
 
 // Is true if two names of the same length are the same, in any case.

@@ -4,15 +4,20 @@ ghost use Rattle.std.specs.Option.{ForSome, option_copied, option_and_then};
 ghost use Rattle.std.specs.List.{list_any};
 ghost use Rattle.moo_value.specs.Compare.{folded};
 ghost use Rattle.moo_value.specs.View.{tree};
+ghost use Rattle.moo_syntax_ast.specs.NameNumber.{name_number};
 ghost use Rattle.moo_world_object.specs.Cells.{AreDistinct, with_value, is_key, is_named, key_of, cell_at, cell_named, at_key, emptied, valued, with_info};
 ghost use Rattle.moo_world_object.specs.Verbs.{changed_at};
 ghost use Rattle.moo_world_object.specs.Rows.{put_before, taken_before, with_new_name};
 
 use crate::cell::{PropCell, PropPerms};
-use moo_syntax_ast::Text;
+use moo_syntax_ast::{Text, name_number};
 use moo_value::{MooStr, Value};
 use std::alloc::{AllocError, Global};
 use std::marker::Model;
+
+/// The number of cells from which on a search for a name compares numbers. In a shorter row the number of the name costs
+/// more than comparing letters.
+const LONG_ROW: usize = 16;
 
 /// The cells of an object, in the order of definitions: its own, then its parent's, and so on.
 #[derive(Drop)]
@@ -189,7 +194,19 @@ fn has_definer(cells: &[PropCell], definer: usize) -> bool
 pub fn cell_named<'a>(cells: &'a [PropCell], name: &[u8]) -> Option<&'a PropCell>
     ensures { option_copied result ≡ cell_named cells.now (folded name.now) }
 {
+    if cells.len() >= LONG_ROW {
+        return cell_numbered(cells, name_number(name), name);
+    }
     cells.iter().find(|cell| cell.is_named(name))
+}
+
+// Returns the first cell of the name with this number.
+#[inline(never)]
+fn cell_numbered<'a>(cells: &'a [PropCell], number: u64, name: &[u8]) -> Option<&'a PropCell>
+    requires { number ≡ name_number (folded name.now) }
+    ensures { option_copied result ≡ cell_named cells.now (folded name.now) }
+{
+    cells.iter().find(|cell| cell.is_numbered(number, name))
 }
 
 /// Returns the place of a cell with the literal's name if the literal's hint leads to it: the hint is the distance from
@@ -218,7 +235,19 @@ pub fn note_place(cells: &[PropCell], name: &Text, place: usize) {
 pub fn place_named(cells: &[PropCell], name: &[u8]) -> Option<usize>
     ensures { result ≡ position (is_named (folded name.now)) cells.now }
 {
+    if cells.len() >= LONG_ROW {
+        return place_numbered(cells, name_number(name), name);
+    }
     cells.iter().position(|cell| cell.is_named(name))
+}
+
+// Returns the place of the first cell of the name with this number.
+#[inline(never)]
+fn place_numbered(cells: &[PropCell], number: u64, name: &[u8]) -> Option<usize>
+    requires { number ≡ name_number (folded name.now) }
+    ensures { result ≡ position (is_named (folded name.now)) cells.now }
+{
+    cells.iter().position(|cell| cell.is_numbered(number, name))
 }
 
 /// Returns the place of the first cell with the literal's name, in any case.

@@ -1,9 +1,9 @@
 //! An index of the verbs of an object by the hash of a name.
-ghost use Rattle.std.specs.Prelude.{◌≡◌, ◌<◌, ◌≤◌, ◌%◌, ◌++◌, ◌∷◌, ℕ, List, [], false, length, IsTrue, OnOk, IfOk, min, max};
+ghost use Rattle.std.specs.Prelude.{◌≡◌, ◌<◌, ◌≤◌, ◌++◌, ◌∷◌, ℕ, List, [], false, length, IsTrue, OnOk, IfOk, min, max};
 ghost use Rattle.moo_world_object.specs.Patterns.{base, ends_in_star};
 ghost use Rattle.moo_world_object.specs.declared.verb.Verb.{Verb};
 ghost use Rattle.moo_world_object.specs.Letters.{first_letter};
-ghost use Rattle.moo_world_object.specs.Index.{letter_at, letters_hash, class_of, hash_of, bucket_of, Holds, Grows, CoversPattern, Covers, AreIndexed};
+ghost use Rattle.moo_world_object.specs.Index.{letter_at, letters_hash, class_of, hash_of, bucket_of, Holds, IsListed, Grows, CoversPattern, Covers, AreIndexed};
 
 use crate::pattern::{ends_in_star, is_blank, is_star, least_length};
 use crate::verb::Verb;
@@ -12,7 +12,8 @@ use std::alloc::{AllocError, Global};
 /// The number of verbs above which an object has no index, so that a change of a verb takes a bounded time.
 const MOST_INDEXED: usize = 1024;
 
-/// The number of bytes of a verb's names above which the verb is in all buckets.
+/// The number of bytes of a verb's names above which the verb is listed for all names, so that a change of a verb takes
+/// a bounded time.
 const LONGEST_INDEXED: usize = 128;
 
 /// A range of places of verbs, from the first to the last. It is empty if the last is less than the first.
@@ -22,13 +23,14 @@ pub(crate) struct Bucket {
     last: u16,
 }
 
-/// An index by the hash of a name. A name matches no verb outside the bucket of its hash, so that a search goes through
-/// one bucket alone. Half of the buckets are for names of class 0, as those of commands that begin with `@`, and half for
-/// the others: so a pattern that ends in a star is in one half alone. If there is no such bucket, any verb may match.
+/// An index by the hash of a name. Two buckets hold the verbs with long names or with an open pattern, which is one that
+/// ends in a star: the first is for names of class 0, as those of commands that begin with `@`, and the second for all
+/// others. Each bucket after them is for the names with some hashes. A name matches no verb outside its two buckets. If
+/// there are no buckets, it may match any verb.
 #[derive(Drop)]
 pub(crate) struct VerbIndex {
     buckets: Vec<Bucket>,
-    mask: usize,
+    mask: u16,
 }
 
 impl VerbIndex {
@@ -80,9 +82,19 @@ impl VerbIndex {
     /// Returns the first and the last place at which a name with this hash may match one of `many` verbs.
     #[inline]
     pub(crate) fn range(&self, hash: usize, many: usize) -> (usize, usize)
-        ensures { (i : ℕ) → i < many → Holds self.now.buckets.items (bucket_of self.now.mask hash) i → (result.0 ≤ i) × (i ≤ result.1) }
+        ensures { (i : ℕ) → i < many → IsListed self.now.buckets.items self.now.mask hash i → (result.0 ≤ i) × (i ≤ result.1) }
     {
-        match self.buckets.get(bucket_of(self.mask, hash)) {
+        let own = self.range_at(bucket_of(self.mask, hash), many);
+        let open = self.range_at(hash % 2, many);
+        (own.0.min(open.0), own.1.max(open.1))
+    }
+
+    // Returns the range of a bucket, or that of `many` verbs if there is no such bucket.
+    #[inline]
+    fn range_at(&self, j: usize, many: usize) -> (usize, usize)
+        ensures { (i : ℕ) → i < many → Holds self.now.buckets.items j i → (result.0 ≤ i) × (i ≤ result.1) }
+    {
+        match self.buckets.get(j) {
             Some(bucket) => (usize::from(bucket.first), usize::from(bucket.last)),
             None => (0, many),
         }
@@ -143,12 +155,12 @@ fn class_of(first: u8) -> usize
     if first < b'A' { 0 } else { 1 }
 }
 
-// Returns the number of the bucket of names with this hash. It is even if their class is 0 and odd if it is 1.
+// Returns the number of the bucket of names with this hash. It comes after the two buckets of open patterns.
 #[inline]
-fn bucket_of(mask: usize, hash: usize) -> usize
+fn bucket_of(mask: u16, hash: usize) -> usize
     ensures { result ≡ bucket_of mask hash }
 {
-    (hash / 2 & mask) * 2 + hash % 2
+    (hash / 2 & usize::from(mask)) * 2 + hash % 2 + 2
 }
 
 // Returns the index of verbs. It has no buckets if there are no verbs or too many.
@@ -163,7 +175,7 @@ fn indexed(alloc: Global, verbs: &[Verb]) -> Result<VerbIndex, AllocError>
         first: u16::MAX,
         last: 0,
     };
-    let mut buckets = vec![in alloc; empty; (mask + 1) * 2]?;
+    let mut buckets = vec![in alloc; empty; usize::from(mask) * 2 + 4]?;
     for i in 0..verbs.len() {
         let names = verbs[i].names.as_bytes();
         add_names(&mut buckets, alloc, mask, names, i as u16)?;
@@ -172,7 +184,7 @@ fn indexed(alloc: Global, verbs: &[Verb]) -> Result<VerbIndex, AllocError>
 }
 
 // Returns the mask for a number of verbs. Each class has at least four buckets for each verb.
-fn mask_for(many: usize) -> usize
+fn mask_for(many: usize) -> u16
     ensures { result < 4096 }
 {
     match many {
@@ -189,7 +201,7 @@ fn mask_for(many: usize) -> usize
 fn add_names(
     buckets: &mut [Bucket],
     alloc: Global,
-    mask: usize,
+    mask: u16,
     names: &[u8],
     place: u16,
 ) -> Result<(), AllocError>
@@ -197,7 +209,7 @@ fn add_names(
     ensures covers { OnOk result (Covers buckets.new mask names.now place) }
 {
     if names.len() > LONGEST_INDEXED {
-        add_everywhere(buckets, place);
+        add_to_both(buckets, place);
         return Ok(());
     }
     for pattern in names.split(|byte| is_blank(*byte)) {
@@ -210,7 +222,7 @@ fn add_names(
 fn add_pattern(
     buckets: &mut [Bucket],
     alloc: Global,
-    mask: usize,
+    mask: u16,
     pattern: &[u8],
     place: u16,
 ) -> Result<(), AllocError>
@@ -225,17 +237,27 @@ fn add_pattern(
     Ok(())
 }
 
-// Adds a place to the buckets of all names that may begin as the pattern does.
+// Adds a place to the bucket of open patterns for names of the class of this pattern's first letter, or to both if it
+// begins with a star.
 fn add_open(buckets: &mut [Bucket], pattern: &[u8], place: u16)
     ensures grows { Grows buckets.old buckets.new }
     ensures covers { (mask : ℕ) → CoversPattern buckets.new mask pattern.now place }
 {
     let first = first_letter(pattern);
     if is_star(first) {
-        add_everywhere(buckets, place);
+        add_to_both(buckets, place);
         return;
     }
-    add_class(buckets, class_of(first), place);
+    add(buckets, class_of(first), place);
+}
+
+// Adds a place to both buckets of open patterns, so that it is listed for all names.
+fn add_to_both(buckets: &mut [Bucket], place: u16)
+    ensures grows { Grows buckets.old buckets.new }
+    ensures all { (mask : ℕ) (hash : ℕ) → IsListed buckets.new mask hash place }
+{
+    add(buckets, 0, place);
+    add(buckets, 1, place);
 }
 
 // Adds a place to the buckets of the names that match a pattern that doesn't end in a star. Such a name is a prefix of
@@ -243,7 +265,7 @@ fn add_open(buckets: &mut [Bucket], pattern: &[u8], place: u16)
 fn add_prefixes(
     buckets: &mut [Bucket],
     alloc: Global,
-    mask: usize,
+    mask: u16,
     pattern: &[u8],
     place: u16,
 ) -> Result<(), AllocError>
@@ -268,35 +290,6 @@ fn base_of(alloc: Global, pattern: &[u8]) -> Result<Vec<u8>, AllocError>
         }
     }
     Ok(letters)
-}
-
-fn add_everywhere(buckets: &mut [Bucket], place: u16)
-    ensures grows { Grows buckets.old buckets.new }
-    ensures holds { (j : ℕ) → Holds buckets.new j place }
-{
-    for j in 0..buckets.len() {
-        add(buckets, j, place);
-    }
-}
-
-// Adds a place to the buckets of a class.
-fn add_class(buckets: &mut [Bucket], class: usize, place: u16)
-    ensures grows { Grows buckets.old buckets.new }
-    ensures holds { (j : ℕ) → j % 2 ≡ class → Holds buckets.new j place }
-{
-    for j in 0..buckets.len() {
-        add_if_class(buckets, class, j, place);
-    }
-}
-
-// Adds a place to the bucket at `j` if it is of this class.
-fn add_if_class(buckets: &mut [Bucket], class: usize, j: usize, place: u16)
-    ensures grows { Grows buckets.old buckets.new }
-    ensures holds { j % 2 ≡ class → Holds buckets.new j place }
-{
-    if j % 2 == class {
-        add(buckets, j, place);
-    }
 }
 
 // Adds a place to a bucket, if there is one at `j`.

@@ -88,11 +88,12 @@ impl VerbList {
         ensures { result ≡ position (fits_verb need name.now) self.now }
     {
         let (start, last) = self.index.range(hash, self.verbs.len());
-        let first = first_letter(name);
         for i in start..self.verbs.len() {
             if i > last {
                 return None;
             }
+            // Most objects have no verb in the range, so the letter is read here.
+            let first = first_letter(name);
             if may_begin(self.letter(i), first) && self.verbs[i].fits(need, name) {
                 return Some(i);
             }

@@ -2,7 +2,7 @@ use Rattle.std.proofs.Common.{◌≡◌, ◌<◌, ◌∙◌, sym, ap, arith, len
 use Rattle.std.specs.List.{position}
 use Rattle.std.proofs.lemmas.Bool.{cases_Bool, ltb-true, ltb-false}
 use Rattle.moo_world_object.specs.Verbs.{fits_verb}
-use Rattle.moo_world_object.specs.Index.{hash_of, bucket_of, Holds}
+use Rattle.moo_world_object.specs.Index.{hash_of, IsListed}
 use Rattle.moo_world_object.proofs.Letters.{first_at, none_at}
 use Rattle.moo_world_object.proofs.Index.{outside}
 use Rattle.moo_world_object.proofs.verb_list.VerbList.position_hashed.Goals as goal
@@ -11,7 +11,7 @@ pub loop-i-init : goal.loop-i-init
 loop-i-init c = λ k d below low.
     outside c.self.inside.index.buckets.items c.self.inside.index.mask c.self.inside.verbs.items c.args.need c.args.name.now k d c.self.invariant.1 low
     (λ holds.
-    let range = c.range-start.ensures k (omega (arith, low, c.len.ensures, c.self.inside.verbs.ok.0)) (subst (λ h. Holds c.self.inside.index.buckets.items (bucket_of c.self.inside.index.mask h) k) (sym c.requires) holds) in
+    let range = c.range-start.ensures k (omega (arith, low, c.len.ensures, c.self.inside.verbs.ok.0)) (subst (λ h. IsListed c.self.inside.index.buckets.items c.self.inside.index.mask h k) (sym c.requires) holds) in
     omega (arith, range.0, below))
 
 pub returns-then-i-last : goal.returns-then-i-last
@@ -23,7 +23,7 @@ returns-then-i-last c =
       | inr more ↦
           outside c.self.inside.index.buckets.items c.self.inside.index.mask c.self.inside.verbs.items c.args.need c.args.name.now k d c.self.invariant.1 low
           (λ holds.
-          let range = c.range-start.ensures k (omega (arith, low, c.len.ensures, c.self.inside.verbs.ok.0)) (subst (λ h. Holds c.self.inside.index.buckets.items (bucket_of c.self.inside.index.mask h) k) (sym c.requires) holds) in
+          let range = c.range-start.ensures k (omega (arith, low, c.len.ensures, c.self.inside.verbs.ok.0)) (subst (λ h. IsListed c.self.inside.index.buckets.items c.self.inside.index.mask h k) (sym c.requires) holds) in
           omega (arith, range.1, ltb-false k c.loop-i.i more, c.if-i-last.true))
     ]) ∙ ap (position t) c.self.view_is
 

@@ -1,9 +1,0 @@
-use Rattle.std.proofs.Common.{◌≡◌, ◌<◌, ℕ, length}
-use Rattle.moo_world_object.specs.Index.{Holds, Grows}
-use Rattle.moo_world_object.proofs.verb_index.add_everywhere.Given as goal
-
-abbrev pub invariant-loop-j : goal.invariant-loop-j
-invariant-loop-j l = record {
-  grows : Grows l.initial.buckets l.buckets;
-  holds : (k : ℕ) → k < l.j → Holds l.buckets k l.place;
-}

@@ -3,7 +3,7 @@ use Rattle.std.proofs.Common.{inl, inr, ◌≡◌, ℕ, ◌+◌, ◌-◌, ◌<�
 use Rattle.std.specs.Str.{bytes_eq}
 use Rattle.std.specs.Char.{to_ascii_lowercase}
 use Rattle.std.proofs.lemmas.Bool.{cases_Bool, false≢true}
-use Rattle.std.proofs.lemmas.List.{length-map, get_or-map, ext_get_or, take_all, take-append-drop, drop-drop}
+use Rattle.std.proofs.lemmas.List.{length-map, get_or-map, ext_get_or, take_all, take-append-drop, drop-drop, length-drop}
 use Rattle.std.proofs.lemmas.Slice.Eq.{bytes_eq-Decides}
 use Rattle.moo_value.specs.Compare.{folded}
 use Rattle.moo_world_object.specs.Names.{same_name}
@@ -48,6 +48,13 @@ rest_same : (a b : List ℕ) (m n : ℕ) → n ≤ m → drop n a ≡ drop n b �
 rest_same a b m n meet back =
     let sum : n + (m - n) ≡ m = omega (arith, meet) in
     ap (λ k. drop k a) (sym sum) ∙ sym (drop-drop (m - n) n a) ∙ ap (drop (m - n)) back ∙ drop-drop (m - n) n b ∙ ap (λ k. drop k b) sum
+
+-- the bytes from a place on, as a range of a slice has them
+rest_is : (a : List ℕ) (n : ℕ) → take (length a - n) (drop n a) ≡ drop n a
+rest_is a n = take_all (length a - n) (drop n a) (omega (arith, length-drop n a))
+
+pub rests_same : (a b : List ℕ) (n : ℕ) → take (length a - n) (drop n a) ≡ take (length b - n) (drop n b) → drop n a ≡ drop n b
+rests_same a b n same = sym (rest_is a n) ∙ same ∙ rest_is b n
 
 pub ends_same : (a b : List ℕ) (m n : ℕ) → n ≤ m → take m a ≡ take m b → drop n a ≡ drop n b → a ≡ b
 ends_same a b m n meet front back =

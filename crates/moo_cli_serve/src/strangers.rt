@@ -107,7 +107,7 @@ impl Strangers {
 fn is_stranger<S: StartApplication>(server: &ServerCore<S>, c: u16) -> bool
     ensures { result ≡ is_stranger S.layer server.now c }
 {
-    !server.is_leaving(c) && !server.has_player(c)
+    !server.is_leaving(c) && server.player_on(c).is_none()
 }
 
 // Returns the strangers that are past so many seconds. 0 seconds are no limit.

@@ -1,5 +1,5 @@
 -- The world with its connections, as the layer of sessions that a server is over.
-use Rattle.std.specs.Prelude.{◌≡◌, ℕ, [], Bool, false, ◌&&◌, is_some, not}
+use Rattle.std.specs.Prelude.{◌≡◌, ℕ, ℤ, [], Bool, false, Option, None, ◌&&◌, not}
 use Rattle.std.specs.Option.{option_map_or}
 use Rattle.moo_dbtext_read.specs.Saved.{Saved, SpellsSavedWithin}
 use Rattle.moo_dbtext.specs.Canonical.{canonical}
@@ -18,9 +18,9 @@ use Rattle.moo_server_core.specs.Application.{Input, Opens, Receives, Starts, Fi
 use Rattle.moo_server_core.specs.Application.{HangsUp as HangsUpOn}
 use Rattle.moo_server.specs.declared.moo_application.MooApplication.{MooApplication}
 
--- a player is connected on the connection of this number
-abbrev pub has_player : Connections → ℕ → Bool
-has_player connections n = option_map_or (λ client. is_some (player_on client)) (client_here n connections) false
+-- the player who is connected on the connection of this number, if any
+abbrev pub player_here : Connections → ℕ → Option ℤ
+player_here connections n = option_map_or player_on (client_here n connections) None
 
 -- with nothing sent, logged or asked for
 abbrev pub settled_session : Session → Session
@@ -67,7 +67,7 @@ live_meaning T = record {
   starts = LiveStarts T;
   is_open = λ s c. is_open c s.session.connections;
   is_leaving = λ s c. is_leaving c s.session.connections;
-  has_player = λ s c. has_player s.session.connections c;
+  player_on = λ s c. player_here s.session.connections c;
   interval = λ s. interval s.world;
   saved_of = λ s. record { world = s.world; connected = players_of s.session.connections };
   text_of = canonical;

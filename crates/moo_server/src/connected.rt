@@ -1,15 +1,15 @@
-//! The connections on which a player is connected.
+//! The players who are connected.
 ghost use Rattle.std.specs.Prelude.{◌≡◌};
-ghost use Rattle.moo_server.specs.Live.{has_player};
+ghost use Rattle.moo_server.specs.Live.{player_here};
 
 use moo_session_connection::Connections;
 
-/// Returns whether a player is connected on the connection of this number.
-pub(crate) fn has_player(connections: &Connections, number: u16) -> bool
-    ensures { result ≡ has_player connections.now number }
+/// Returns the player who is connected on the connection of this number, if any.
+pub(crate) fn player_here(connections: &Connections, number: u16) -> Option<i32>
+    ensures { result ≡ player_here connections.now number }
 {
     match connections.client_here(number) {
-        Some(client) => client.player().is_some(),
-        None => false,
+        Some(client) => client.player(),
+        None => None,
     }
 }

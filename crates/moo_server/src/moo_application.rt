@@ -1,7 +1,7 @@
 //! The world with its connections and what waits to be taken: the layer of sessions that a server is over.
 ghost use Rattle.std.specs.Prelude.{◌≡◌};
 
-use crate::connected::has_player;
+use crate::connected::player_here;
 use crate::happening::{apply, discard_leftovers, is_dropped, move_out};
 use moo_dbtext::write_world_and_connected;
 use moo_dbtext_read::Saved;
@@ -57,8 +57,8 @@ impl Application for MooApplication {
         self.live.session.connections().is_leaving(c)
     }
 
-    fn has_player(&self, c: u16) -> bool {
-        has_player(self.live.session.connections(), c)
+    fn player_on(&self, c: u16) -> Option<i32> {
+        player_here(self.live.session.connections(), c)
     }
 
     fn interval(&self) -> u32 {

@@ -1,5 +1,5 @@
 -- The meaning of a layer of sessions: the world with its connections.
-use Rattle.std.specs.Prelude.{◌≡◌, ◌≢◌, ℕ, List, [], ◌++◌, Bool, false}
+use Rattle.std.specs.Prelude.{◌≡◌, ◌≢◌, ℕ, ℤ, List, [], ◌++◌, Bool, false, Option}
 use Rattle.moo_server_core.specs.declared.application.Requests.{Requests}
 use Rattle.moo_server_core.specs.declared.application.Input as given
 use Rattle.moo_server_core.specs.declared.application.Input.TheVariants as the
@@ -52,8 +52,8 @@ pub record Meaning (Application Saved : Type 0) : Type 1 where
   pub is_open : Application → ℕ → Bool
   -- it is open, and leaving
   pub is_leaving : Application → ℕ → Bool
-  -- it is open, and a player is connected on it
-  pub has_player : Application → ℕ → Bool
+  -- the player who is connected on it, if it is open and one is
+  pub player_on : Application → ℕ → Option ℤ
   -- seconds from a checkpoint's beginning to the next one's, as the world has them
   pub interval : Application → ℕ
   -- the world and the connected players in order of their connections

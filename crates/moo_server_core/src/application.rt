@@ -66,9 +66,9 @@ pub trait Application: Drop {
     fn is_leaving(&self, c: u16) -> bool
         ensures { result ≡ layer.meaning.is_leaving (layer.state self.now) c };
 
-    /// Returns whether a connection is open, and a player is connected on it.
-    fn has_player(&self, c: u16) -> bool
-        ensures { result ≡ layer.meaning.has_player (layer.state self.now) c };
+    /// Returns the player who is connected on a connection, if it is open and one is.
+    fn player_on(&self, c: u16) -> Option<i32>
+        ensures { result ≡ layer.meaning.player_on (layer.state self.now) c };
 
     /// Returns the seconds from the start of a checkpoint to that of the next.
     fn interval(&self) -> u32

@@ -94,14 +94,14 @@ impl<S: Application> ServerCore<S> {
         self.sessions.is_leaving(c)
     }
 
-    /// Returns whether a connection is open and a player is connected on it. A halted server has no connections.
-    pub fn has_player(&self, c: u16) -> bool
-        ensures { result ≡ (if self.now.halted then false else S.layer.meaning.has_player (state_of S.layer self.now).sessions c) }
+    /// Returns the player who is connected on a connection, if it is open and one is. A halted server has no connections.
+    pub fn player_on(&self, c: u16) -> Option<i32>
+        ensures { result ≡ (if self.now.halted then None else S.layer.meaning.player_on (state_of S.layer self.now).sessions c) }
     {
         if self.halted {
-            return false;
+            return None;
         }
-        self.sessions.has_player(c)
+        self.sessions.player_on(c)
     }
 
     /// Returns the numbers of the connections for which bytes wait or that are leaving, and no others. Fails only if

@@ -5,7 +5,7 @@ use Rattle.std.proofs.Math.Seq.{take-add}
 use Rattle.std.proofs.lemmas.List.{length-drop, length-take, take-append-drop, take_all}
 use Rattle.moo_dbtext_record.specs.declared.fault.DbFault.{DbFault}
 use Rattle.moo_dbtext_record.specs.declared.fault.DbFaultKind.TheVariants as fault_kind
-use Rattle.moo_disk.specs.Disk.{DiskKind, DiskView, HasRisen, NoText, KeepsMain, KeepsSpare, ReadMain, Reads, one_more}
+use Rattle.moo_disk.specs.Disk.{DiskKind, DiskView, HasRisen, NoText, KeepsMain, KeepsSpare, ReadMain, Reads}
 use Rattle.moo_disk.proofs.GainsLemmas.{gains_join, gains_less, gains_none}
 use Rattle.moo_dbtext_read.specs.Saved.{Saved, saved_of, SpellsSaved, SpellsSavedWithin}
 use Rattle.moo_dbtext_read.specs.declared.saved.Saved as stored
@@ -15,7 +15,7 @@ use Rattle.moo_dbtext_read.specs.Loading.{IsRefusedSo, IsRefusedFrom}
 use Rattle.moo_dbtext_read.specs.Refusals.{Refuses}
 use Rattle.moo_dbtext_read.proofs.Whole.{is_found, is_found_within, is_loaded_within}
 use Rattle.moo_dbtext_read.proofs.Pieces.{refusal_says}
-use Rattle.moo_checkpoint.specs.Recovering.{CountsFault, IsToldAs, Keeps, ReadsAtMost, Recovers, Tells, front_to, reads_in}
+use Rattle.moo_checkpoint.specs.Recovering.{CountsFault, IsToldAs, Keeps, Recovers, Tells, front_to}
 use Rattle.moo_checkpoint.specs.declared.open_fault.OpenFault.{OpenFault}
 use Rattle.moo_checkpoint.specs.declared.open_fault.OpenFault.TheVariants.{Device, Db, Memory}
 
@@ -47,12 +47,11 @@ keeps_then kind old mid new h k = record {
   honest = (λ is. k.honest.0 (h.honest.0 is), λ is. h.honest.1 (k.honest.1 is));
 }
 
--- one read more
-pub reads_more : {D : Type 0} (kind : DiskKind D) (count most : ℕ) (old mid new : D) → count + 1 ≤ most → ReadsAtMost kind count old mid → kind.made ReadMain mid new → ReadsAtMost kind most old new
-reads_more kind count most old mid new fits reads made = (one_more old mid new reads.0 made, within)
-  where
-    within : reads_in reads.0 + 1 ≤ most
-    within = omega (arith, fits, reads.1)
+-- a read into a buffer that was lent whole asks for as many bytes as it has
+pub reads_whole : {D : Type 0} (kind : DiskKind D) (at : ℕ) (old new : D) (lent buffer : List ℕ) → lent ≡ buffer → length buffer ≡ 65536
+    → kind.made (ReadMain at (length lent)) old new → kind.made (ReadMain at 65536) old new
+reads_whole kind at old new lent buffer is size made =
+    subst (λ (n : ℕ). kind.made (ReadMain at n) old new) (ap (λ (b : List ℕ). length b) is ∙ size) made
 
 -- ---- pieces of a text
 

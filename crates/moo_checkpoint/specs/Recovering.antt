@@ -1,8 +1,8 @@
 -- The reads of recovery from a disk, and its answers.
-use Rattle.std.specs.Prelude.{◌≡◌, ◌≢◌, ◌↔◌, ◌⊎◌, ℕ, ◌+◌, ◌≤◌, List, take, Option, Some, None, Result, Ok, Err, MatchResult}
+use Rattle.std.specs.Prelude.{◌≡◌, ◌≢◌, ◌↔◌, ◌⊎◌, ℕ, List, take, Option, Some, None, Result, Ok, Err, MatchResult}
 use Rattle.moo_dbtext_record.specs.declared.fault.DbFault.{DbFault}
 use Rattle.moo_dbtext_record.specs.declared.fault.DbFaultKind.TheVariants as fault_kind
-use Rattle.moo_disk.specs.Disk.{DiskKind, HasRisen, KeepsMain, KeepsSpare, OnlyReads, no_call, one_more}
+use Rattle.moo_disk.specs.Disk.{DiskKind, HasRisen, KeepsMain, KeepsSpare}
 use Rattle.moo_dbtext_read.specs.Saved.{Saved, saved_of}
 use Rattle.moo_dbtext_read.specs.declared.saved.Saved as stored
 use Rattle.moo_dbtext_read.specs.Loading.{IsLoaded, IsRefusedSo}
@@ -15,15 +15,6 @@ pub record Keeps {D : Type 0} (kind : DiskKind D) (old new : D) : Type 0 where
   pub spare : kind.honest old → KeepsSpare (kind.view old) (kind.view new)
   pub stands : kind.stands old → kind.stands new
   pub honest : kind.honest old ↔ kind.honest new
-
--- how many calls those were
-abbrev pub reads_in : {D : Type 0} {kind : DiskKind D} {old new : D} → OnlyReads kind old new → ℕ
-reads_in (no_call disk) = 0
-reads_in (one_more old mid new before made) = reads_in before + 1
-
--- The disk was read by at most so many calls, and no other call was made.
-abbrev pub ReadsAtMost : {D : Type 0} → DiskKind D → ℕ → D → D → Type 0
-ReadsAtMost kind most old new = (reads : OnlyReads kind old new) × (reads_in reads ≤ most)
 
 -- If the device of an honest disk is reported, the count of failures has risen. If anything else is reported, it
 -- hasn't.

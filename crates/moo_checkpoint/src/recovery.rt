@@ -2,12 +2,12 @@
 ghost use Rattle.std.specs.Prelude.{◌≡◌, ◌≢◌, ◌⊎◌, ◌↔◌, ◌+◌, ◌<◌, ◌≤◌, ◌^◌, [], length, take, IfOk, IfErr, IfSome, OnOk, MatchResult};
 ghost use Rattle.moo_dbtext_record.specs.declared.fault.DbFault.{DbFault};
 ghost use Rattle.moo_dbtext_record.specs.declared.fault.DbFaultKind.TheVariants as kind;
-ghost use Rattle.moo_disk.specs.Disk.{KeepsMain, KeepsSpare, OnlyReads, ReadMain, Reads};
+ghost use Rattle.moo_disk.specs.Disk.{KeepsMain, KeepsSpare, OnlyReads, ReadMain, Reads, ReadsBelow};
 ghost use Rattle.moo_dbtext_read.specs.Saved as saving;
 ghost use Rattle.moo_dbtext_read.specs.Saved.{saved_of, SpellsSaved, SpellsSavedWithin};
 ghost use Rattle.moo_dbtext_read.specs.Feeding.{HasFed};
 ghost use Rattle.moo_dbtext_read.specs.Refusals.{Refuses};
-ghost use Rattle.moo_checkpoint.specs.Recovering.{CountsDevice, Keeps, ReadsAtMost, Recovers, Tells, front_to};
+ghost use Rattle.moo_checkpoint.specs.Recovering.{CountsDevice, Keeps, Recovers, Tells, front_to};
 
 use crate::open_fault::OpenFault;
 use moo_dbtext_read::{DbReader, Saved};
@@ -27,7 +27,7 @@ fn read_at<D: Disk>(disk: &mut D, at: u64, buffer: &mut [u8]) -> Result<usize, O
     ensures read { D.kind.honest disk.old → IfOk result (Reads (D.kind.view disk.old).main_text at buffer.new) }
     ensures told { IfErr result (λ e. e ≡ OpenFault.Device) }
     ensures device { CountsDevice (D.kind.honest disk.old) (D.kind.failures disk.old) (D.kind.failures disk.new) result }
-    ensures made { D.kind.made ReadMain disk.old disk.new }
+    ensures made { D.kind.made (ReadMain at (length buffer.old)) disk.old disk.new }
     ensures keeps { Keeps D.kind disk.old disk.new }
 {
     let count = disk.read_main(at, buffer)?;
@@ -65,7 +65,7 @@ fn feed_at<D: Disk>(
     ensures told { D.kind.honest disk.old → HasFed reader.old (take at (D.kind.view disk.old).main_text)
         → IfErr result (Tells (D.kind.view disk.old).main_text) }
     ensures device { CountsDevice (D.kind.honest disk.old) (D.kind.failures disk.old) (D.kind.failures disk.new) result }
-    ensures made { D.kind.made ReadMain disk.old disk.new }
+    ensures made { D.kind.made (ReadMain at (length buffer.old)) disk.old disk.new }
     ensures keeps { Keeps D.kind disk.old disk.new }
 {
     let count = read_at(disk, at, buffer)?;
@@ -82,8 +82,8 @@ fn feed_main<D: Disk>(alloc: Global, disk: &mut D, reader: &mut DbReader) -> Res
     ensures fed { D.kind.honest disk.old → HasFed reader.old [] → OnOk result (HasFed reader.new (D.kind.view disk.old).main_text) }
     ensures told { D.kind.honest disk.old → HasFed reader.old [] → IfErr result (Tells (D.kind.view disk.old).main_text) }
     ensures device { CountsDevice (D.kind.honest disk.old) (D.kind.failures disk.old) (D.kind.failures disk.new) result }
-    ensures reads { OnlyReads D.kind disk.old disk.new }
-    ensures few { D.kind.honest disk.old → ReadsAtMost D.kind (length (D.kind.view disk.old).main_text + 1) disk.old disk.new }
+    ensures reads { OnlyReads D.kind 65536 disk.old disk.new }
+    ensures few { D.kind.honest disk.old → ReadsBelow D.kind 65536 (length (D.kind.view disk.old).main_text + 1) disk.old disk.new }
     ensures keeps { Keeps D.kind disk.old disk.new }
 {
     let mut buffer = vec![in alloc; 0u8; BUFFER]?;
@@ -97,8 +97,8 @@ fn feed_main<D: Disk>(alloc: Global, disk: &mut D, reader: &mut DbReader) -> Res
 fn recover_all<D: Disk>(alloc: Global, disk: &mut D) -> Result<Saved, OpenFault>
     ensures answer { D.kind.honest disk.old → Recovers (D.kind.view disk.old).main_text result }
     ensures device { CountsDevice (D.kind.honest disk.old) (D.kind.failures disk.old) (D.kind.failures disk.new) result }
-    ensures reads { OnlyReads D.kind disk.old disk.new }
-    ensures few { D.kind.honest disk.old → ReadsAtMost D.kind (length (D.kind.view disk.old).main_text + 1) disk.old disk.new }
+    ensures reads { OnlyReads D.kind 65536 disk.old disk.new }
+    ensures few { D.kind.honest disk.old → ReadsBelow D.kind 65536 (length (D.kind.view disk.old).main_text + 1) disk.old disk.new }
     ensures keeps { Keeps D.kind disk.old disk.new }
 {
     let mut reader = DbReader::new(alloc);
@@ -123,10 +123,10 @@ pub fn recover<D: Disk>(alloc: Global, disk: &mut D) -> Result<Saved, OpenFault>
     // If `Device` is returned for an honest disk, its device failed in this call. If anything else is, the device did
     // not fail.
     ensures device { CountsDevice (D.kind.honest disk.old) (D.kind.failures disk.old) (D.kind.failures disk.new) result }
-    // Nothing is written, and no call is made but `read_main`.
-    ensures reads { OnlyReads D.kind disk.old disk.new }
-    // Each read but the last brings a byte of an honest disk, so there is one more than bytes at most.
-    ensures few { D.kind.honest disk.old → ReadsAtMost D.kind (length (D.kind.view disk.old).main_text + 1) disk.old disk.new }
+    // Nothing is written, and no call is made but `read_main`, for 65,536 bytes each time, at places that rise.
+    ensures reads { OnlyReads D.kind 65536 disk.old disk.new }
+    // On an honest disk each place is one of main's bytes or its end, so there is at most one read more than bytes.
+    ensures few { D.kind.honest disk.old → ReadsBelow D.kind 65536 (length (D.kind.view disk.old).main_text + 1) disk.old disk.new }
     ensures main { D.kind.honest disk.old → KeepsMain (D.kind.view disk.old) (D.kind.view disk.new) }
     ensures spare { D.kind.honest disk.old → KeepsSpare (D.kind.view disk.old) (D.kind.view disk.new) }
     ensures stands { D.kind.stands disk.old → D.kind.stands disk.new }

@@ -55,7 +55,7 @@ pub record NotOpened (disk : ScriptDisk) (fault : OpenFault) : Type 0 where
   pub text : (f : DbFault) → fault ≡ opening_fault.Db f → RefusesText (disk_view disk).main_text f × (f.kind ≢ kind.Memory)
   pub none : (f : DbFault) → fault ≡ opening_fault.Db f → (saved : Saved) → ¬ SpellsSavedWithin (disk_view disk).main_text saved
   pub left : ScriptDisk
-  pub reads : OnlyReads script_kind disk left
+  pub reads : OnlyReads script_kind 65536 disk left
   pub device : CountsFault (Unit {0}) (script_kind.failures disk) (script_kind.failures left) fault
 
 -- ---- events

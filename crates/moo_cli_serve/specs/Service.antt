@@ -99,7 +99,7 @@ module _ {D : Type 0} (kind : DiskKind D) where
     pub device : CountsFault (kind.honest disk) (kind.failures disk) (kind.failures left) fault
     pub main : kind.honest disk → KeepsMain (kind.view disk) (kind.view left)
     pub spare : kind.honest disk → KeepsSpare (kind.view disk) (kind.view left)
-    pub reads : OnlyReads kind disk left
+    pub reads : OnlyReads kind 65536 disk left
 
   abbrev pub LeavesUnbegun : D → D → ServeFault → Type 0
   LeavesUnbegun disk left (the.Open fault) = NotBegun disk left fault

@@ -36,7 +36,9 @@ fn first_line(bytes: &[u8]) -> Option<usize>
     Some(at + 1)
 }
 
-/// Takes a text as whole lines and parts of lines. `feed_lines` cuts pieces of the text into these.
+/// Takes a text as whole lines and parts of lines. `feed_lines` cuts pieces of the text into these. A caller uses
+/// `feed_lines`, or the `feed` of a reader: `take_line` and `take_part` look at no fault that was kept, so they may be
+/// called after one.
 pub trait LineSink {
     /// The reason why a line or a part is refused.
     type Fault;
@@ -44,12 +46,12 @@ pub trait LineSink {
     /// What bytes do: the sink before them, the bytes, the result, and the sink after them.
     ghost takes: { Self → List ℕ → Result ⊤ Self.Fault → Self → Type 0 };
 
-    /// Takes a line with its end.
+    /// Takes a line with its end. For `feed_lines` alone: a caller uses that, or `feed`.
     fn take_line(&mut self, alloc: Global, line: &[u8]) -> Result<(), Self::Fault>
         requires { IsWholeLine line.now }
         ensures { takes self.old line.now result self.new };
 
-    /// Takes a part of a line, without its end.
+    /// Takes a part of a line, without its end. For `feed_lines` alone: a caller uses that, or `feed`.
     fn take_part(&mut self, alloc: Global, part: &[u8]) -> Result<(), Self::Fault>
         requires { HasNoEnd part.now }
         ensures { takes self.old part.now result self.new };

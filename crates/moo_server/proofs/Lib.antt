@@ -1,2 +1,1 @@
-pub mod Pending
 pub mod Worlds

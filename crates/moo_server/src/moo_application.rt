@@ -7,7 +7,7 @@ use moo_dbtext::write_world_and_connected;
 use moo_dbtext_read::Saved;
 use moo_server_core::{Application, Input, Requests, StartApplication};
 use moo_session::WorldState;
-use moo_session_connection::Outbox;
+use moo_session_connection::{Outbox, pending_numbers};
 use moo_value::MooStr;
 use std::alloc::{AllocError, Global};
 
@@ -66,8 +66,7 @@ impl Application for MooApplication {
     }
 
     fn pending(&self) -> Result<Vec<u16>, AllocError> {
-        let mut numbers = self.outbox.numbers()?;
-        numbers.extend_from_slice(self.live.session.connections().leaving())?;
+        let numbers = pending_numbers(&self.outbox, self.live.session.connections())?;
         Ok(numbers)
     }
 

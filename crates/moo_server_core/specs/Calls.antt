@@ -1,8 +1,8 @@
 -- Calls of a server, one after another, and a stop at any moment.
 use Rattle.std.specs.Prelude.{◌≡◌, ◌≢◌, ◌⊎◌, ℕ, ◌+◌, ◌≤◌, List, [], ◌∷◌, ◌++◌, length, Some, None}
-use Rattle.moo_disk.specs.Disk.{DiskCall, DiskKind, DiskView, KeepsMain, OnlyReads}
+use Rattle.moo_disk.specs.Disk.{DiskCall, DiskKind, DiskView, KeepsMain, OnlyReads, ReadsBelow}
 use Rattle.moo_dbtext_read.specs.Saved.{Saved, SpellsSavedWithin}
-use Rattle.moo_checkpoint.specs.Recovering.{IsRecovered, ReadsAtMost}
+use Rattle.moo_checkpoint.specs.Recovering.{IsRecovered}
 use Rattle.moo_server_core.specs.Crash.{IsDoneNext, IsOneOf, texts_of_marks, since_done, NoneDone}
 use Rattle.moo_server_core.specs.Application.{Layer, Output, silence, then_out}
 use Rattle.moo_server_core.specs.Meaning.{State, Entry, Begins, Run}
@@ -73,9 +73,9 @@ module _ {S Application : Type 0} (l : Layer S Application Saved) where
     -- main spells no other world within the limits than the one that it began from
     pub only : kind.honest old → (s : Saved) → l.meaning.Spells (kind.view old).main_text s → s ≡ saved
     pub main : kind.honest old → KeepsMain (kind.view old) (kind.view new)
-    pub reads : OnlyReads kind old new
-    -- at most one call more than main has bytes, since each but the last brings some
-    pub few : kind.honest old → ReadsAtMost kind (length (kind.view old).main_text + 1) old new
+    pub reads : OnlyReads kind 65536 old new
+    -- each read is at one of main's bytes or its end, so there is at most one more than bytes
+    pub few : kind.honest old → ReadsBelow kind 65536 (length (kind.view old).main_text + 1) old new
     pub honest_still : kind.honest old → kind.honest new
 
   -- the call was a run over such a disk

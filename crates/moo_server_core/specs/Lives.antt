@@ -1,7 +1,7 @@
 -- Lives of a server over one disk. Each ends by a crash, or by an end of the server alone.
 use Rattle.std.specs.Prelude.{◌≡◌, ◌≢◌, ◌⊎◌, ◌+◌, ◌<◌, ◌≤◌, ℕ, List, [], ◌∷◌, length, take, slice_get, All, Some, Result, Ok, Err}
-use Rattle.moo_disk.specs.Disk.{DiskKind, IsLeftBy, KeepsMain, KeepsSpare, OnlyReads}
-use Rattle.moo_checkpoint.specs.Recovering.{CountsFault, ReadsAtMost}
+use Rattle.moo_disk.specs.Disk.{DiskKind, IsLeftBy, KeepsMain, KeepsSpare, OnlyReads, ReadsBelow}
+use Rattle.moo_checkpoint.specs.Recovering.{CountsFault}
 use Rattle.moo_checkpoint.specs.declared.open_fault.OpenFault.{OpenFault}
 use Rattle.moo_checkpoint.specs.declared.open_fault.OpenFault.TheVariants.{Db, Device, Memory as no_memory}
 use Rattle.moo_dbtext_record.specs.declared.fault.DbFault.{DbFault}
@@ -123,8 +123,8 @@ module _ {S Application : Type 0} (l : Layer S Application Saved) where
       pub device : CountsFault (kind.honest old) (kind.failures old) (kind.failures new) fault
       pub main : kind.honest old → KeepsMain (kind.view old) (kind.view new)
       pub spare : kind.honest old → KeepsSpare (kind.view old) (kind.view new)
-      pub reads : OnlyReads kind old new
-      pub few : kind.honest old → ReadsAtMost kind (length (kind.view old).main_text + 1) old new
+      pub reads : OnlyReads kind 65536 old new
+      pub few : kind.honest old → ReadsBelow kind 65536 (length (kind.view old).main_text + 1) old new
 
     abbrev pub IsMet : D → D → LivesCause → Type 0
     IsMet old new (not_open fault) = NotBegun old new fault

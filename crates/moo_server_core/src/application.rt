@@ -1,5 +1,6 @@
 //! The interface of an application: the world, its connections, and the output that waits to be sent.
-ghost use Rattle.std.specs.Prelude.{◌≡◌, ◌≢◌, ◌⊎◌, ℕ, [], false, true, Contains, IfOk, Ok};
+ghost use Rattle.std.specs.Prelude.{◌≡◌, ◌≢◌, ◌⊎◌, ◌<◌, ℕ, [], false, true, Contains, IfOk, Ok};
+ghost use Rattle.std.specs.List.{AllPairs};
 ghost use Rattle.moo_dbtext_read.specs.Saved.{Saved};
 ghost use Rattle.moo_server_core.specs.Application.{HandsOut, HandsOutLog, Happens, IsApt, Layer, is_dropped, seen_happening, silence, then_out};
 
@@ -74,13 +75,14 @@ pub trait Application: Drop {
     fn interval(&self) -> u32
         ensures { result ≡ layer.meaning.interval (layer.state self.now) };
 
-    /// Returns the numbers of the connections for which bytes wait or that are leaving, and no others. Fails only if
-    /// memory runs out.
+    /// Returns the numbers of the connections for which bytes wait or that are leaving, and no others, each once, by
+    /// rising number. Fails only if memory runs out.
     fn pending(&self) -> Result<Vec<u16>, AllocError>
         ensures all { IfOk result (λ numbers. (c : ℕ) → (Contains numbers.items c → ⊥)
             → ((layer.waiting self.now).sent c ≡ []) × (layer.meaning.is_leaving (layer.state self.now) c ≡ false)) }
         ensures only { IfOk result (λ numbers. (c : ℕ) → Contains numbers.items c
-            → ((layer.waiting self.now).sent c ≢ []) ⊎ (layer.meaning.is_leaving (layer.state self.now) c ≡ true)) };
+            → ((layer.waiting self.now).sent c ≢ []) ⊎ (layer.meaning.is_leaving (layer.state self.now) c ≡ true)) }
+        ensures rising { IfOk result (λ numbers. AllPairs (λ a b. a < b) numbers.items) };
 
     /// Removes and returns the bytes that wait for a connection.
     fn take_output(&mut self, c: u16) -> Vec<u8>

@@ -2,10 +2,10 @@
 ghost use Rattle.std.specs.Prelude.{◌≡◌, ◌≢◌, ◌↔◌, ◌+◌, length, IfOk, IfErr};
 ghost use Rattle.moo_dbtext_record.specs.declared.fault.DbFault.{DbFault};
 ghost use Rattle.moo_dbtext_record.specs.declared.fault.DbFaultKind.TheVariants as kind;
-ghost use Rattle.moo_disk.specs.Disk.{KeepsMain, KeepsSpare, OnlyReads};
+ghost use Rattle.moo_disk.specs.Disk.{KeepsMain, KeepsSpare, OnlyReads, ReadsBelow};
 ghost use Rattle.moo_dbtext_read.specs.Refusals.{Refuses as RefusesText};
 ghost use Rattle.moo_dbtext_read.specs.Saved.{Saved};
-ghost use Rattle.moo_checkpoint.specs.Recovering.{CountsDevice, ReadsAtMost};
+ghost use Rattle.moo_checkpoint.specs.Recovering.{CountsDevice};
 ghost use Rattle.moo_server_core.specs.Lives.{IsOpen, IsSound};
 
 use crate::{ServerCore, StartApplication};
@@ -27,8 +27,8 @@ pub(crate) fn open<S: StartApplication, D: Disk>(
     ensures device { CountsDevice (D.kind.honest disk.old) (D.kind.failures disk.old) (D.kind.failures disk.new) result }
     ensures main { D.kind.honest disk.old → KeepsMain (D.kind.view disk.old) (D.kind.view disk.new) }
     ensures spare { D.kind.honest disk.old → KeepsSpare (D.kind.view disk.old) (D.kind.view disk.new) }
-    ensures reads { OnlyReads D.kind disk.old disk.new }
-    ensures few { D.kind.honest disk.old → ReadsAtMost D.kind (length (D.kind.view disk.old).main_text + 1) disk.old disk.new }
+    ensures reads { OnlyReads D.kind 65536 disk.old disk.new }
+    ensures few { D.kind.honest disk.old → ReadsBelow D.kind 65536 (length (D.kind.view disk.old).main_text + 1) disk.old disk.new }
     ensures honest { D.kind.honest disk.old ↔ D.kind.honest disk.new }
 {
     let saved = recover(alloc, disk)?;

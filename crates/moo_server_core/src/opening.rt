@@ -2,13 +2,13 @@
 ghost use Rattle.std.specs.Prelude.{◌≡◌, ◌≢◌, ◌↔◌, ◌+◌, length, IfOk, IfErr, None};
 ghost use Rattle.moo_dbtext_record.specs.declared.fault.DbFault.{DbFault};
 ghost use Rattle.moo_dbtext_record.specs.declared.fault.DbFaultKind.TheVariants as kind;
-ghost use Rattle.moo_disk.specs.Disk.{KeepsMain, KeepsSpare, OnlyReads};
+ghost use Rattle.moo_disk.specs.Disk.{KeepsMain, KeepsSpare, OnlyReads, ReadsBelow};
 ghost use Rattle.moo_dbtext_read.specs.Saved as saving;
 ghost use Rattle.moo_dbtext_read.specs.Saved.{saved_of, SpellsSavedWithin};
 ghost use Rattle.moo_server_core.specs.Application.{silence};
 ghost use Rattle.moo_server_core.specs.Meaning.{Begins};
 ghost use Rattle.moo_dbtext_read.specs.Refusals.{Refuses as RefusesText};
-ghost use Rattle.moo_checkpoint.specs.Recovering.{CountsDevice, ReadsAtMost};
+ghost use Rattle.moo_checkpoint.specs.Recovering.{CountsDevice};
 ghost use Rattle.moo_server_core.specs.Calls.{Opened};
 
 use crate::{ServerCore, StartApplication};
@@ -38,10 +38,10 @@ impl<S: StartApplication> ServerCore<S> {
             → IfErr result (λ e. (f : DbFault) → e ≢ OpenFault.Db f) }
         // The fault is the device's exactly if the device failed in this call.
         ensures device { CountsDevice (D.kind.honest disk.old) (D.kind.failures disk.old) (D.kind.failures disk.new) result }
-        // Nothing is written, and no call is made but `read_main`.
-        ensures reads { OnlyReads D.kind disk.old disk.new }
-        // Each read but the last brings a byte of an honest disk, so there is one more than bytes at most.
-        ensures few { D.kind.honest disk.old → ReadsAtMost D.kind (length (D.kind.view disk.old).main_text + 1) disk.old disk.new }
+        // Nothing is written, and no call is made but `read_main`, for 65,536 bytes each time, at places that rise.
+        ensures reads { OnlyReads D.kind 65536 disk.old disk.new }
+        // On an honest disk each place is one of main's bytes or its end, so there is at most one read more than bytes.
+        ensures few { D.kind.honest disk.old → ReadsBelow D.kind 65536 (length (D.kind.view disk.old).main_text + 1) disk.old disk.new }
         ensures main { D.kind.honest disk.old → KeepsMain (D.kind.view disk.old) (D.kind.view disk.new) }
         ensures spare { D.kind.honest disk.old → KeepsSpare (D.kind.view disk.old) (D.kind.view disk.new) }
         ensures stands { D.kind.stands disk.old → D.kind.stands disk.new }

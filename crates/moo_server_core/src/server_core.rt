@@ -1,5 +1,6 @@
 //! The server: its application, and the checkpoint that is open.
-ghost use Rattle.std.specs.Prelude.{All, Contains, ℕ, [], Err, ◌≡◌, ◌≢◌, ◌⊎◌, ◌↔◌, ◌||◌, None, false, true, length, IfOk, if◌then◌else◌};
+ghost use Rattle.std.specs.Prelude.{All, Contains, ℕ, [], Err, ◌≡◌, ◌≢◌, ◌⊎◌, ◌↔◌, ◌<◌, ◌||◌, None, false, true, length, IfOk, if◌then◌else◌};
+ghost use Rattle.std.specs.List.{AllPairs};
 ghost use Rattle.moo_dbtext_read.specs.Saved.{Saved};
 ghost use Rattle.moo_server_core.specs.Application.{silence, then_out};
 ghost use Rattle.moo_server_core.specs.Courses.{phase_of};
@@ -104,14 +105,15 @@ impl<S: Application> ServerCore<S> {
         self.sessions.player_on(c)
     }
 
-    /// Returns the numbers of the connections for which bytes wait or that are leaving, and no others. Fails only if
-    /// memory runs out.
+    /// Returns the numbers of the connections for which bytes wait or that are leaving, and no others, each once, by
+    /// rising number. Fails only if memory runs out.
     pub fn pending(&self) -> Result<Vec<u16>, AllocError>
         ensures all { IfOk result (λ numbers. (c : ℕ) → (Contains numbers.items c → ⊥) → ((waiting_of S.layer self.now).sent c ≡ [])
             × ((if self.now.halted then false else S.layer.meaning.is_leaving (state_of S.layer self.now).sessions c) ≡ false)) }
         // A connection that left a server before it was halted is listed still.
         ensures only { IfOk result (λ numbers. (c : ℕ) → Contains numbers.items c
             → ((waiting_of S.layer self.now).sent c ≢ []) ⊎ (S.layer.meaning.is_leaving (state_of S.layer self.now).sessions c ≡ true)) }
+        ensures rising { IfOk result (λ numbers. AllPairs (λ a b. a < b) numbers.items) }
     {
         self.sessions.pending()
     }

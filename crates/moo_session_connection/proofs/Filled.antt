@@ -1,11 +1,14 @@
 -- Numbers with and without bytes.
 use Rattle.std.proofs.Common.{◌≡◌, ◌≢◌, ℕ, ◌<◌, ◌≤◌, suc, zero, Bool, true, false, cond, List, [], ◌∷◌, length, Contains, refl, sym, ◌∙◌, ap, subst, arith}
 use Rattle.std.specs.Prelude.{filter, nat_lt, slice_index_or}
-use Rattle.std.specs.BTreeSet.{BTreeSet, contains}
+use Rattle.std.specs.BTreeSet.{BTreeSet, IsOrdered, contains}
+use Rattle.std.specs.List.{AllPairs}
 use Rattle.std.specs.Ordering.{nat_cmp}
 use Rattle.std.proofs.lemmas.Bool.{ltb-false, true≢false}
 use Rattle.std.proofs.lemmas.Cmp.{nat_cmp_total}
 use Rattle.std.proofs.lemmas.List.Elements.{All-contains, filter_passes}
+use Rattle.std.proofs.lemmas.List.Kept.{AllPairs-filter, AllPairs-from_increasing}
+use Rattle.std.proofs.lemmas.Map.Keys.{IsStrictlyIncreasing-from_sorted}
 use Rattle.std.proofs.lemmas.Map.Lookups.{exact_unsigned}
 use Rattle.std.proofs.lemmas.Map.Views.{btree_set_contains_iff}
 use Rattle.moo_session_connection.specs.Outbox.{Bytes}
@@ -54,3 +57,10 @@ kept_waits rows numbers kept c is there none =
     All-contains (λ (n : ℕ). has_waiting rows n ≡ true) (filter (has_waiting rows) numbers) c (filter_passes (has_waiting rows) numbers)
     (subst (λ (ns : List ℕ). Contains ns c) is there) in
     true≢false (sym waits ∙ ap (λ (bytes : List ℕ). nat_lt 0 (length bytes)) none)
+
+-- the numbers that are kept rise
+pub kept_rise : (rows : List Bytes) (filled : BTreeSet ℕ) (numbers kept : List ℕ) → IsOrdered nat_cmp filled → numbers ≡ filled.keys → kept ≡ filter (has_waiting rows) numbers → AllPairs (λ a b. a < b) kept
+kept_rise rows filled numbers kept order all is =
+    let rise : AllPairs (λ a b. a < b) numbers =
+    subst (λ (ns : List ℕ). AllPairs (λ a b. a < b) ns) (sym all) (AllPairs-from_increasing filled.keys (IsStrictlyIncreasing-from_sorted filled.keys order)) in
+    subst (λ (ns : List ℕ). AllPairs (λ a b. a < b) ns) (sym is) (AllPairs-filter (λ a b. a < b) (has_waiting rows) numbers rise)

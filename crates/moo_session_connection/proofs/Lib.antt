@@ -6,3 +6,4 @@ pub mod Search
 pub mod Numbers
 pub mod OutboxRows
 pub mod Filled
+pub mod Listed

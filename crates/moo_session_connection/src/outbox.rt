@@ -1,5 +1,8 @@
 //! The output that waits to be taken.
-ghost use Rattle.std.specs.Prelude.{◌≡◌, ◌≢◌, ◌≤◌, ◌++◌, ℕ, [], length, take, Contains, IfOk, OnOk};
+ghost use Rattle.std.specs.Prelude.{◌≡◌, ◌≢◌, ◌<◌, ◌≤◌, ◌++◌, ℕ, [], length, take, Contains, IfOk, OnOk};
+ghost use Rattle.std.specs.BTreeSet.{IsOrdered};
+ghost use Rattle.std.specs.List.{AllPairs};
+ghost use Rattle.std.specs.Ordering.{nat_cmp};
 ghost use Rattle.moo_session_connection.specs.Streams.{stream};
 ghost use Rattle.moo_session_connection.specs.Outbox.{empty, bytes_of, sent_waiting, sent_under_way, log_waiting, log_under_way};
 ghost use Rattle.moo_session_connection.specs.Rows.{sent_for};
@@ -121,11 +124,12 @@ impl Outbox {
         self.log.truncate(self.settled);
     }
 
-    /// Returns the numbers for which bytes wait, and no others. The time depends only on how many numbers have bytes. Fails
-    /// only if memory runs out.
+    /// Returns the numbers for which bytes wait, and no others, each once, by rising number. The time depends only on how
+    /// many numbers have bytes. Fails only if memory runs out.
     pub fn numbers(&self) -> Result<Vec<u16>, AllocError>
         ensures all { IfOk result (λ numbers. (c : ℕ) → (Contains numbers.items c → ⊥) → sent_waiting self.now c ≡ []) }
         ensures only { IfOk result (λ numbers. (c : ℕ) → Contains numbers.items c → sent_waiting self.now c ≢ []) }
+        ensures rising { IfOk result (λ numbers. AllPairs (λ a b. a < b) numbers.items) }
     {
         let mut numbers = elements_of(self.alloc, &self.filled)?;
         keep_waiting(&mut numbers, &self.rows);
@@ -164,7 +168,8 @@ impl Outbox {
 
 // Returns the elements of a set, by rising number.
 fn elements_of(alloc: Global, set: &BTreeSet<u16>) -> Result<Vec<u16>, AllocError>
-    ensures { IfOk result (λ elements. elements.items ≡ set.now.keys) }
+    ensures all { IfOk result (λ elements. elements.items ≡ set.now.keys) }
+    ensures ordered { IsOrdered nat_cmp set.now }
 {
     let mut elements = Vec::new(alloc);
     for element in set {

@@ -2,7 +2,7 @@ use Rattle.std.proofs.Common.{◌+◌, ◌<◌, ◌≤◌, ◌^◌, ℕ, List, l
 use Rattle.std.proofs.lemmas.Result.{err_from_is_err_and}
 use Rattle.std.specs.List.{length_refill}
 use Rattle.moo_disk.specs.Disk.{no_call, one_more}
-use Rattle.moo_checkpoint.proofs.Answered.{counts_on, fed_on, fed_to, keeps_still, keeps_then, reads_more, tells_on}
+use Rattle.moo_checkpoint.proofs.Answered.{counts_on, fed_on, fed_to, keeps_still, keeps_then, reads_whole, tells_on}
 use Rattle.moo_checkpoint.proofs.recovery.feed_main.Goals as goal
 
 pub loop-buffer-init : goal.loop-buffer-init
@@ -12,8 +12,7 @@ loop-buffer-init g c = record {
   fed = λ honest h. h;
   count = refl;
   keeps = keeps_still g.D.Disk.kind c.args.disk.now;
-  reads = no_call c.args.disk.now;
-  few = λ honest. let none : 0 ≤ 0 = omega arith in (no_call c.args.disk.now, none);
+  reads = no_call 0 c.args.disk.now;
   within = λ honest. omega arith;
 }
 
@@ -36,10 +35,12 @@ pub returns-in_err-after-clause-keeps : goal.returns-in_err-after-clause-keeps
 returns-in_err-after-clause-keeps g c = keeps_then g.D.Disk.kind c.args.disk.now c.loop-buffer.disk c.feed_at.new.disk c.loop-buffer.invariant.keeps c.in_err-after.ensures.keeps
 
 pub returns-in_err-buffer-clause-reads : goal.returns-in_err-buffer-clause-reads
-returns-in_err-buffer-clause-reads g c = no_call c.args.disk.now
+returns-in_err-buffer-clause-reads g c = (0, no_call 0 c.args.disk.now)
 
 pub returns-in_err-after-clause-reads : goal.returns-in_err-after-clause-reads
-returns-in_err-after-clause-reads g c = one_more c.args.disk.now c.loop-buffer.disk c.feed_at.new.disk c.loop-buffer.invariant.reads c.feed_at.ensures.made
+returns-in_err-after-clause-reads g c =
+    let i = c.loop-buffer.invariant in
+    (c.loop-buffer.at + 1, one_more c.loop-buffer.at (c.loop-buffer.at + 1) c.args.disk.now c.loop-buffer.disk c.feed_at.new.disk (omega arith) i.reads (reads_whole g.D.Disk.kind c.loop-buffer.at c.loop-buffer.disk c.feed_at.new.disk c.deref_mut.result.now c.loop-buffer.buffer.items c.deref_mut.ensures.value i.buffer c.feed_at.ensures.made))
 
 pub loop-buffer-preserved : goal.loop-buffer-preserved
 loop-buffer-preserved g c =
@@ -54,11 +55,9 @@ loop-buffer-preserved g c =
           fed_to c.feed_at.new.reader old mid c.in_ok-after.field-0 (Some c.in-Some.after) same c.in-Some.is (c.in_ok-after.ensures.fed (i.keeps.honest.0 honest) (fed_on c.loop-buffer.reader old mid c.loop-buffer.at same (i.fed honest fed)));
       count = c.in_ok-after.ensures.device ∙ i.count;
       keeps = keeps_then g.D.Disk.kind c.args.disk.now c.loop-buffer.disk c.feed_at.new.disk i.keeps c.in_ok-after.ensures.keeps;
-      reads = one_more c.args.disk.now c.loop-buffer.disk c.feed_at.new.disk i.reads c.feed_at.ensures.made;
-      few = λ honest.
+      reads =
           let h = subst (λ (o : Option ℕ). IfSome o (λ (after : ℕ). (c.loop-buffer.at < after) × (after < 2 ^ 63))) c.in-Some.is c.in_ok-after.ensures.place in
-          let before = i.few honest in
-          reads_more g.D.Disk.kind c.loop-buffer.at c.in-Some.after c.args.disk.now c.loop-buffer.disk c.feed_at.new.disk (omega (arith, h.0)) before c.feed_at.ensures.made;
+          one_more c.loop-buffer.at c.in-Some.after c.args.disk.now c.loop-buffer.disk c.feed_at.new.disk h.0 i.reads (reads_whole g.D.Disk.kind c.loop-buffer.at c.loop-buffer.disk c.feed_at.new.disk c.deref_mut.result.now c.loop-buffer.buffer.items c.deref_mut.ensures.value i.buffer c.feed_at.ensures.made);
       within = λ honest.
           let same = (i.keeps.main honest).text in
           let h = subst (λ (o : Option ℕ). IfSome o (λ (after : ℕ). after ≤ length mid)) c.in-Some.is (c.in_ok-after.ensures.within (i.keeps.honest.0 honest)) in
@@ -77,19 +76,21 @@ pub returns-clause-keeps : goal.returns-clause-keeps
 returns-clause-keeps g c = keeps_then g.D.Disk.kind c.args.disk.now c.loop-buffer.disk c.feed_at.new.disk c.loop-buffer.invariant.keeps c.in_ok-after.ensures.keeps
 
 pub returns-clause-reads : goal.returns-clause-reads
-returns-clause-reads g c = one_more c.args.disk.now c.loop-buffer.disk c.feed_at.new.disk c.loop-buffer.invariant.reads c.feed_at.ensures.made
+returns-clause-reads g c =
+    let i = c.loop-buffer.invariant in
+    (c.loop-buffer.at + 1, one_more c.loop-buffer.at (c.loop-buffer.at + 1) c.args.disk.now c.loop-buffer.disk c.feed_at.new.disk (omega arith) i.reads (reads_whole g.D.Disk.kind c.loop-buffer.at c.loop-buffer.disk c.feed_at.new.disk c.deref_mut.result.now c.loop-buffer.buffer.items c.deref_mut.ensures.value i.buffer c.feed_at.ensures.made))
 
 pub returns-in_err-buffer-clause-few : goal.returns-in_err-buffer-clause-few
-returns-in_err-buffer-clause-few g c honest = let none : 0 ≤ length (g.D.Disk.kind.view c.args.disk.now).main_text + 1 = omega arith in (no_call c.args.disk.now, none)
+returns-in_err-buffer-clause-few g c honest = no_call (length (g.D.Disk.kind.view c.args.disk.now).main_text + 1) c.args.disk.now
 
 pub returns-in_err-after-clause-few : goal.returns-in_err-after-clause-few
 returns-in_err-after-clause-few g c honest =
     let i = c.loop-buffer.invariant in
-    reads_more g.D.Disk.kind c.loop-buffer.at (length (g.D.Disk.kind.view c.args.disk.now).main_text + 1) c.args.disk.now c.loop-buffer.disk c.feed_at.new.disk
-    (omega (arith, i.within honest)) (i.few honest) c.feed_at.ensures.made
+    one_more c.loop-buffer.at (length (g.D.Disk.kind.view c.args.disk.now).main_text + 1) c.args.disk.now c.loop-buffer.disk c.feed_at.new.disk
+    (omega (arith, i.within honest)) i.reads (reads_whole g.D.Disk.kind c.loop-buffer.at c.loop-buffer.disk c.feed_at.new.disk c.deref_mut.result.now c.loop-buffer.buffer.items c.deref_mut.ensures.value i.buffer c.feed_at.ensures.made)
 
 pub returns-clause-few : goal.returns-clause-few
 returns-clause-few g c honest =
     let i = c.loop-buffer.invariant in
-    reads_more g.D.Disk.kind c.loop-buffer.at (length (g.D.Disk.kind.view c.args.disk.now).main_text + 1) c.args.disk.now c.loop-buffer.disk c.feed_at.new.disk
-    (omega (arith, i.within honest)) (i.few honest) c.feed_at.ensures.made
+    one_more c.loop-buffer.at (length (g.D.Disk.kind.view c.args.disk.now).main_text + 1) c.args.disk.now c.loop-buffer.disk c.feed_at.new.disk
+    (omega (arith, i.within honest)) i.reads (reads_whole g.D.Disk.kind c.loop-buffer.at c.loop-buffer.disk c.feed_at.new.disk c.deref_mut.result.now c.loop-buffer.buffer.items c.deref_mut.ensures.value i.buffer c.feed_at.ensures.made)

@@ -1,9 +1,14 @@
 -- Connections for which something is pending, and those for which nothing is.
-use Rattle.std.proofs.Common.{◌≡◌, ℕ, ◌<◌, suc, zero, Bool, true, false, List, [], ◌∷◌, ◌++◌, length, Contains, refl, sym, ◌∙◌, ap, subst, arith}
-use Rattle.std.specs.Prelude.{◌==◌, ◌||◌, slice_index_or}
-use Rattle.std.specs.List.{list_any}
+use Rattle.std.proofs.Common.{◌≡◌, ℕ, ◌<◌, suc, zero, Bool, true, false, List, [], ◌∷◌, ◌++◌, length, Contains, refl, sym, ap, subst, arith}
+use Rattle.std.specs.Prelude.{◌==◌, ◌||◌, eqb, slice_index_or}
+use Rattle.std.specs.List.{AllPairs, dedup, list_any}
+use Rattle.std.specs.List.Sorted.{IsPermutation, IsSorted}
+use Rattle.std.specs.Ordering.{nat_cmp}
 use Rattle.std.proofs.lemmas.Bool.{eq-eqb, eqb-true, true≢false}
 use Rattle.std.proofs.lemmas.List.Elements.{Contains-append_left, Contains-append_right}
+use Rattle.std.proofs.lemmas.List.Kept.{AllPairs-from_increasing, Contains-dedup_nat, Contains-from_dedup}
+use Rattle.std.proofs.lemmas.List.Sorted.{Contains-permutation, IsPermutation-sym}
+use Rattle.std.proofs.lemmas.Map.Keys.{IsStrictlyIncreasing-dedup}
 use Rattle.moo_session_connection.specs.Clients.{is_number}
 
 -- a number that is found is in the list
@@ -39,3 +44,18 @@ listed (x ∷ xs) c (suc k) lt is = or_right (x == c) (list_any (is_number c) xs
 -- a number that is in the second part is leaving
 pub leaves : (leaving : List ℕ) (c : ℕ) → Contains leaving c → list_any (is_number c) leaving ≡ true
 leaves leaving c there = listed leaving c there.0 there.1 there.2
+
+-- ---- numbers that are sorted, and then each kept once
+
+-- each is below all later ones
+pub sorted_rises : (sorted new : List ℕ) → IsSorted nat_cmp sorted → new ≡ dedup eqb sorted → AllPairs (λ a b. a < b) new
+sorted_rises sorted new order is = subst (λ (ns : List ℕ). AllPairs (λ a b. a < b) ns) (sym is) (AllPairs-from_increasing (dedup eqb sorted) (IsStrictlyIncreasing-dedup sorted order))
+
+-- each number is still there
+pub sorted_keeps : (old sorted new : List ℕ) → IsPermutation old sorted → new ≡ dedup eqb sorted → (c : ℕ) → Contains old c → Contains new c
+sorted_keeps old sorted new moved is c there = subst (λ (ns : List ℕ). Contains ns c) (sym is) (Contains-dedup_nat sorted c (Contains-permutation old sorted c moved there))
+
+-- and no other
+pub sorted_adds_none : (old sorted new : List ℕ) → IsPermutation old sorted → new ≡ dedup eqb sorted → (c : ℕ) → Contains new c → Contains old c
+sorted_adds_none old sorted new moved is c there =
+    Contains-permutation sorted old c (IsPermutation-sym old sorted moved) (Contains-from_dedup eqb sorted c (subst (λ (ns : List ℕ). Contains ns c) is there))

@@ -3,7 +3,7 @@ use Rattle.std.proofs.Common.{◌≡◌, ℕ, ◌+◌, ◌≤◌, Bool, eqb, Lis
 use Rattle.std.specs.Bool.{⊤}
 use Rattle.std.proofs.lemmas.Bool.{cases_Bool, cond-true, cond-false}
 use Rattle.moo_value.specs.Tree.{string, elements_of}
-use Rattle.moo_value.specs.Size.{total_weight, list_weight}
+use Rattle.moo_value.specs.Size.{total_weight, list_weight, weight_limit, IsString}
 use Rattle.moo_command.specs.Words.{blank, Word, ends, blank_ends, quotes, escapes, escapes_nothing, plain, BeginsWord, begins, Words, no_more, after_blank, one_more}
 use Rattle.moo_command.specs.FirstWord.{IsTyped, unindented}
 
@@ -58,3 +58,7 @@ unindented_fits (b ∷ bs) =
 
 pub typed_is_light : (line verb rest : List ℕ) (args : List (List ℕ)) → IsTyped line verb rest args → list_weight (map (λ w. string w) args) ≤ length line + 2
 typed_is_light line verb rest args t = omega (arith, words_are_light t.behind args t.others, word_fits t.first, unindented_fits line)
+
+-- the words of a string are light enough to be joined
+pub light_enough : (line : List ℕ) (args : List (List ℕ)) → IsString line → list_weight (map (λ w. string w) args) ≤ length line + 2 → list_weight (map (λ w. string w) args) ≤ weight_limit + 1
+light_enough line args s light = omega (arith, s.fits, light)

@@ -1,6 +1,6 @@
 -- The split of a line with a leading sign that is short for a verb, and of a line without one.
 use Rattle.std.proofs.Common.{◌≡◌, ◌≢◌, ℕ, ◌≤◌, ◌<◌, ◌+◌, Bool, true, false, cond, eqb, List, [], ◌∷◌, ◌++◌, length, map, drop, get_or, codes, Option, Some, None, is_some, refl, sym, ap, ◌∙◌, arith, inl, inr, subst}
-use Rattle.std.specs.Prelude.{IfNone, IfSome}
+use Rattle.std.specs.Prelude.{IfSome, IfOk, Result, Ok, Err}
 use Rattle.std.specs.Option.{option_map_or}
 use Rattle.std.proofs.lemmas.List.{drop_more}
 use Rattle.std.proofs.lemmas.Bool.{cases_Bool, cond-true, cond-false, eqb-true, eqb-false, ne_eqb, false≢true}
@@ -131,9 +131,13 @@ unsigned_typed line at verb rest args passed none t =
       others = t.others;
     }
 
-pub unsigned_nothing : (line : List ℕ) (at : ℕ) → drop at line ≡ unindented line → verb_leading (drop at line) ≡ None → Words line [] → Words (expanded line) []
-unsigned_nothing line at passed none h =
-    subst (λ (ts : List ℕ). Words ts []) (sym (unsigned (unindented line) (sym (ap verb_leading passed) ∙ none))) (words_led h)
+-- a line without words is blanks alone
+blanks_alone : {ts : List ℕ} → Words ts [] → unindented ts ≡ []
+blanks_alone no_more = refl
+blanks_alone (after_blank {b = b} {ts = ts} e h) = cond-true (eqb b 32) (unindented ts) (b ∷ ts) (ap (λ n. eqb n 32) e) ∙ blanks_alone h
+
+pub nothing_expanded : (line : List ℕ) → Words line [] → Words (expanded line) []
+nothing_expanded line h = subst (λ (ts : List ℕ). Words (with_verb ts) []) (sym (blanks_alone h)) no_more
 
 no_word_begins : {ts : List ℕ} → BeginsWord ts → Words ts [] → ⊥
 no_word_begins (begins n) (after_blank e h) = n e
@@ -141,11 +145,11 @@ no_word_begins (begins n) (after_blank e h) = n e
 pub typed_is_some : (line verb rest : List ℕ) (args : List (List ℕ)) → IsTyped line verb rest args → Words line [] → ⊥
 typed_is_some line verb rest args t h = no_word_begins t.begins (words_led h)
 
--- what follows from what a clause says where there is no value
-pub none_then : {X : Type 0} (r : Option X) {P Q : Type 0} → IfNone r P → (P → Q) → IfNone r Q
-none_then None h f = f h
-none_then (Some x) h f = h
-
 -- what a clause says of the value that there is
 pub some_then : {X : Type 0} (r : Option X) (x : X) (P : X → Type 0) → r ≡ Some x → IfSome r P → P x
 some_then r x P is h = subst (λ o. IfSome o P) is h
+
+-- what follows from what three clauses say of the value
+pub all_then : {X Y : Type 0} (r : Result X Y) (P Q R S : X → Type 0) → ((x : X) → P x → Q x → R x → S x) → IfOk r P → IfOk r Q → IfOk r R → IfOk r S
+all_then (Ok x) P Q R S f p q o = f x p q o
+all_then (Err e) P Q R S f p q o = tt

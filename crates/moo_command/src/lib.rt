@@ -18,6 +18,6 @@ mod word_laws;
 pub use choice::{Chosen, choose_verb};
 pub use command::Command;
 pub use matching::{match_object, room_of};
-pub use parsing::parse_command;
+pub use parsing::{parse_command, parse_typed};
 pub use reading::{skip_blanks, words};
 pub use typed::{Typed, read_typed, typed_behind};

@@ -1,9 +1,8 @@
 //! The parser of typed lines.
-ghost use Rattle.std.specs.Prelude.{◌≡◌, ◌≤◌, ◌<◌, ◌+◌, [], length, map, drop, IfOk, IfSome, IfNone};
+ghost use Rattle.std.specs.Prelude.{◌≡◌, ◌≤◌, ◌<◌, ◌+◌, [], length, map, IfOk, IfSome};
 ghost use Rattle.std.specs.Option.{option_map};
 ghost use Rattle.moo_value.specs.Tree.{string};
 ghost use Rattle.moo_value.specs.Size.{list_weight, weight_limit, IsString};
-ghost use Rattle.moo_command.specs.Words.{Words};
 ghost use Rattle.moo_command.specs.FirstWord.{IsTyped};
 ghost use Rattle.moo_command.specs.Typed.{expanded, verb_of_sign};
 ghost use Rattle.moo_command.specs.Prepositions.{number_or_none};
@@ -31,27 +30,41 @@ pub fn parse_command(
 ) -> Result<Command, AllocError>
     ensures { IfOk result (λ command. Commands world.now player line.now (command_of command)) }
 {
-    match typed_in(alloc, line)? {
-        Some(typed) => command(alloc, world, player, typed),
-        None => command(alloc, world, player, nothing_typed(alloc)?),
+    match read_typed(alloc, line)? {
+        Some(typed) => parse_typed(alloc, world, player, typed),
+        None => command(alloc, world, player, nothing_typed(alloc, line)?),
     }
 }
 
-/// Splits a line, with its leading sign written out. Returns `None` if it has no word.
-fn typed_in(alloc: Global, line: &MooStr) -> Result<Option<Typed>, AllocError>
-    ensures some { IfOk result (λ typed. IfSome typed (λ t. IsTyped (expanded line.now) t.verb t.rest t.args.items)) }
-    ensures none { IfOk result (λ typed. IfNone typed (Words (expanded line.now) [])) }
-    ensures light { IfOk result (λ typed. IfSome typed (λ t. list_weight (map (λ w. string w) t.args.items) ≤ weight_limit + 1)) }
+/// Parses a player's line that is split into its words. Splits it again only if a sign leads it, since other words then
+/// come after the sign. Fails only if memory runs out.
+pub fn parse_typed(
+    alloc: Global,
+    world: &World,
+    player: i32,
+    typed: Typed,
+) -> Result<Command, AllocError>
+    requires { IsTyped typed.line typed.verb typed.rest typed.args.items }
+    ensures { IfOk result (λ command. Commands world.now player typed.line (command_of command)) }
+{
+    let typed = expanded(alloc, typed)?;
+    command(alloc, world, player, typed)
+}
+
+/// Returns the split of a line with its leading sign written out.
+fn expanded(alloc: Global, typed: Typed) -> Result<Typed, AllocError>
+    requires { IsTyped typed.line typed.verb typed.rest typed.args.items }
+    ensures split { IfOk result (λ t. IsTyped (expanded typed.line) t.verb t.rest t.args.items) }
+    ensures light { IfOk result (λ t. list_weight (map (λ w. string w) t.args.items) ≤ weight_limit + 1) }
 {
     words_are_light();
-    let bytes = line.as_bytes();
+    let bytes = typed.line.as_bytes();
     let at = skip_blanks(bytes, 0);
     let Some(verb) = verb_leading(&bytes[at..]) else {
-        return read_typed(alloc, line);
+        return Ok(typed);
     };
     let verb = MooStr::from_slice(alloc, verb)?;
-    let typed = typed_behind(alloc, verb, line, at + 1)?;
-    Ok(Some(typed))
+    typed_behind(alloc, verb, &typed.line, at + 1)
 }
 
 /// Returns the verb that a leading sign is short for.
@@ -76,15 +89,21 @@ fn verb_of_sign(sign: u8) -> Option<&'static [u8]>
 }
 
 /// Returns the split of a line without words.
-fn nothing_typed(alloc: Global) -> Result<Typed, AllocError>
+fn nothing_typed(alloc: Global, line: &MooStr) -> Result<Typed, AllocError>
     ensures verb { IfOk result (λ t. t.verb ≡ []) }
     ensures rest { IfOk result (λ t. t.rest ≡ []) }
     ensures args { IfOk result (λ t. t.args.items ≡ []) }
 {
+    let line = line.try_clone()?;
     let verb = MooStr::empty(alloc)?;
     let rest = verb.try_clone()?;
     let args = Vec::new(alloc);
-    Ok(Typed { verb, rest, args })
+    Ok(Typed {
+        line,
+        verb,
+        rest,
+        args,
+    })
 }
 
 /// Returns the command of a split line.
@@ -92,7 +111,12 @@ fn command(alloc: Global, world: &World, player: i32, typed: Typed) -> Result<Co
     requires { list_weight (map (λ w. string w) typed.args.items) ≤ weight_limit + 1 }
     ensures { IfOk result (λ c. IsCommandOf world.now player typed.verb typed.rest typed.args.items (command_of c)) }
 {
-    let Typed { verb, rest, args } = typed;
+    let Typed {
+        verb,
+        rest,
+        args,
+        ..
+    } = typed;
     let Division {
         preposition,
         at,

@@ -7,9 +7,10 @@ use crate::reading::{read_word, read_words, skip_blanks};
 use moo_value::MooStr;
 use std::alloc::{AllocError, Global};
 
-/// The first word of a line, the rest as it was typed, and the words of the rest.
+/// A line with its first word, the rest as it was typed, and the words of the rest.
 #[derive(Drop)]
 pub struct Typed {
+    pub line: MooStr,
     pub verb: MooStr,
     pub rest: MooStr,
     pub args: Vec<MooStr>,
@@ -18,6 +19,7 @@ pub struct Typed {
 /// Splits a line of any length into its first word and the rest. Returns `None` if it has no word. Fails only if
 /// memory runs out.
 pub fn read_typed(alloc: Global, line: &MooStr) -> Result<Option<Typed>, AllocError>
+    ensures line { IfOk result (λ typed. IfSome typed (λ t. t.line ≡ line.now)) }
     ensures some { IfOk result (λ typed. IfSome typed (λ t. IsTyped line.now t.verb t.rest t.args.items)) }
     ensures none { IfOk result (λ typed. IfNone typed (Words line.now [])) }
 {
@@ -39,6 +41,7 @@ pub fn typed_behind(
     behind: usize,
 ) -> Result<Typed, AllocError>
     requires { behind ≤ length line.now }
+    ensures line { IfOk result (λ t. t.line ≡ line.now) }
     ensures verb { IfOk result (λ t. t.verb ≡ verb) }
     ensures rest { IfOk result (λ t. t.rest ≡ unindented (drop behind line.now)) }
     ensures args { IfOk result (λ t. Words (drop behind line.now) t.args.items) }
@@ -47,5 +50,11 @@ pub fn typed_behind(
     let at = skip_blanks(bytes, behind);
     let rest = line.part(alloc, at, bytes.len())?;
     let args = read_words(alloc, bytes, behind)?;
-    Ok(Typed { verb, rest, args })
+    let line = line.try_clone()?;
+    Ok(Typed {
+        line,
+        verb,
+        rest,
+        args,
+    })
 }

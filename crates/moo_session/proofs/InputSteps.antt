@@ -126,13 +126,6 @@ pub command_typed : (o : Option Client) (moment n : ℕ) (player who : ℤ) (lin
 command_typed (Some client) moment n player who line word text args s u x k p h = command x k (subst (λ (z : ℤ). Commanded Faults moment n client z (word ∷ args) line s u) p h)
 command_typed None moment n player who line word text args s u x k p h = h
 
--- the command of all words
-pub command_run : (r : Result (Unit {0}) AllocError) (o : Option Client) (moment n : ℕ) (player who : ℤ) (words all : List (List ℕ)) (line : List ℕ) (s u : WorldState) → who ≡ player → words ≡ all →
-    OnOk r (IsSomeAnd o (λ c. Commanded Faults moment n c who words line s u)) → OnOk r (IsSomeAnd o (λ c. Commanded Faults moment n c player all line s u))
-command_run r o moment n player who words all line s u p e h =
-    let P : ℤ → List (List ℕ) → Type 0 = λ x ws. OnOk r (IsSomeAnd o (λ c. Commanded Faults moment n c x ws line s u)) in
-    subst (λ (ws : List (List ℕ)). P player ws) e (subst (λ (x : ℤ). P x words) p h)
-
 -- who isn't gone is here
 pub someone : (o : Option Client) → is_none o ≡ false → is_some o ≡ true
 someone (Some c) e = refl

@@ -18,7 +18,6 @@ mod typed_line;
 mod verb_choice;
 
 pub use checkpoints::{checkpoint_ends, checkpoint_starts, start};
-pub use dispatch::command;
 pub use dot_program::begin_programming;
 pub use events::{hang_up, open, receive};
 pub use input::meet_lines;

@@ -1,15 +1,13 @@
 //! A player's line.
-ghost use Rattle.std.specs.Prelude.{◌≡◌, ◌∷◌, ◌++◌, [], OnOk, IfOk, IsSomeAnd, IsSome};
+ghost use Rattle.std.specs.Prelude.{◌≡◌, OnOk, IsSomeAnd, IsSome};
 ghost use Rattle.moo_builtin.specs.Telling.{Faults};
 ghost use Rattle.moo_session_connection.specs.Connections.{client_here};
 ghost use Rattle.moo_session_line.specs.Rest.{IsLine};
-ghost use Rattle.moo_command.specs.FirstWord.{IsTyped};
-ghost use Rattle.moo_session.specs.Dispatch.{Commanded};
 ghost use Rattle.moo_session.specs.Input.{PlayerTypes, kind_of, sets_prefix, sets_suffix};
 
-use crate::{begin_programming, command};
-use moo_command::laws::words_are_light;
-use moo_command::{Typed, read_typed};
+use crate::begin_programming;
+use crate::dispatch::command;
+use moo_command::read_typed;
 use moo_session_task::WorldState;
 use moo_value::MooStr;
 use std::alloc::{AllocError, Global};
@@ -54,7 +52,7 @@ pub(crate) fn player_types(
             player,
             &typed.args,
         )?,
-        LineKind::Command => run_command(alloc, live, moment, number, player, typed, line)?,
+        LineKind::Command => command(alloc, live, moment, number, player, typed)?,
     }
     Ok(())
 }
@@ -83,36 +81,4 @@ fn sets_suffix(word: &[u8]) -> bool
     ensures { result ≡ sets_suffix word.now }
 {
     word == b"SUFFIX".as_slice() || word == b"OUTPUTSUFFIX".as_slice()
-}
-
-// Returns the command that is typed in a line.
-fn run_command(
-    alloc: Global,
-    live: &mut WorldState,
-    moment: u32,
-    number: u16,
-    player: i32,
-    typed: Typed,
-    line: &MooStr,
-) -> Result<(), AllocError>
-    requires typed { IsTyped line.now typed.verb typed.rest typed.args.items }
-    requires line { IsLine line.now }
-    requires here { IsSome (client_here number live.old.session.connections) }
-    ensures { OnOk result (IsSomeAnd (client_here number live.old.session.connections) (λ client. Commanded Faults moment number client player (typed.verb ∷ typed.args.items) line.now live.old live.new)) }
-{
-    words_are_light();
-    let words = all_words(alloc, typed)?;
-    command(alloc, live, moment, number, player, words, line)
-}
-
-// Returns the first word and the others.
-fn all_words(alloc: Global, typed: Typed) -> Result<Vec<MooStr>, AllocError>
-    ensures { IfOk result (λ words. words.items ≡ typed.verb ∷ typed.args.items) }
-{
-    let mut words = Vec::new(alloc);
-    words.push(typed.verb)?;
-    for word in typed.args {
-        words.push(word)?;
-    }
-    Ok(words)
 }

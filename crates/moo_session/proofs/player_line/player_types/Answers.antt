@@ -1,5 +1,10 @@
-use Rattle.std.proofs.Common.{◌≡◌, ℕ, ℤ, List, sym, ◌∙◌, ap, to_z, of_z, to_z-of_z, w32, SFits, rules}
+use Rattle.std.proofs.Common.{◌≡◌, ◌∷◌, ℕ, ℤ, List, sym, subst, ◌∙◌, ap, to_z, of_z, to_z-of_z, w32, SFits, rules}
+use Rattle.std.specs.Prelude.{IsSomeAnd}
+use Rattle.moo_builtin.specs.Telling.{Faults}
+use Rattle.moo_command.specs.FirstWord.{IsTyped}
+use Rattle.moo_session_line.specs.Rest.{IsLine}
 use Rattle.moo_session_connection.specs.Connections.{client_here}
+use Rattle.moo_session.specs.Dispatch.{Commanded}
 use Rattle.moo_session.specs.DotProgram.{programming_begun}
 use Rattle.moo_session.specs.declared.player_line.LineKind.TheVariants as kind
 use Rattle.moo_session.specs.Input.{kind_of}
@@ -30,9 +35,24 @@ returns-in_ok-begin_programming-in-Program c =
     program_typed (client_here c.args.number c.args.live.now.session.connections) c.args.moment c.args.number c.args.player (to_z w32 (of_z w32 c.args.player)) c.args.line.now t.verb t.rest t.args.items c.args.live.now c.begin_programming.new.session c.requires.here (rw c.in-Some.is at c.in_ok-typed.ensures.some) k who
     (c.in_ok-begin_programming-in-Program.ensures ∙ ap (λ (a : List (List ℕ)). programming_begun c.args.live.now.world c.args.number (to_z w32 (of_z w32 c.args.player)) a c.args.live.now.session) c.deref.ensures.value)
 
-pub returns-in_ok-run_command-in-Command : goal.returns-in_ok-run_command-in-Command
-returns-in_ok-run_command-in-Command c =
+pub command-requires-clause-typed : goal.command-requires-clause-typed
+command-requires-clause-typed c =
     let t = c.in-Some.typed in
+    let same : t.line ≡ c.args.line.now = rw c.in-Some.is at c.in_ok-typed.ensures.line in
+    subst (λ (line : List ℕ). IsTyped line t.verb t.rest t.args.items) (sym same) (rw c.in-Some.is at c.in_ok-typed.ensures.some)
+
+pub command-requires-clause-line : goal.command-requires-clause-line
+command-requires-clause-line c =
+    let same : c.in-Some.typed.line ≡ c.args.line.now = rw c.in-Some.is at c.in_ok-typed.ensures.line in
+    subst IsLine (sym same) c.requires.line
+
+pub returns-in_ok-command-in-Command : goal.returns-in_ok-command-in-Command
+returns-in_ok-command-in-Command c =
+    let t = c.in-Some.typed in
+    let o = client_here c.args.number c.args.live.now.session.connections in
+    let same : t.line ≡ c.args.line.now = rw c.in-Some.is at c.in_ok-typed.ensures.line in
     let k : kind_of t.verb ≡ kind.Command = ap kind_of (sym c.as_bytes.ensures.value) ∙ sym c.kind_of.ensures ∙ c.in-Command.is in
-    let who : to_z w32 (of_z w32 c.args.player) ≡ c.args.player = (let fits : SFits w32 c.args.player = search rules in to_z-of_z fits) in
-    command_typed (client_here c.args.number c.args.live.now.session.connections) c.args.moment c.args.number c.args.player (to_z w32 (of_z w32 c.args.player)) c.args.line.now t.verb t.rest t.args.items c.args.live.now c.run_command.new.live (rw c.in-Some.is at c.in_ok-typed.ensures.some) k who c.in_ok-run_command-in-Command.ensures
+    let z : ℤ = to_z w32 (of_z w32 c.args.player) in
+    let who : z ≡ c.args.player = (let fits : SFits w32 c.args.player = search rules in to_z-of_z fits) in
+    command_typed o c.args.moment c.args.number c.args.player z c.args.line.now t.verb t.rest t.args.items c.args.live.now c.command.new.live (rw c.in-Some.is at c.in_ok-typed.ensures.some) k who
+    (subst (λ (line : List ℕ). IsSomeAnd o (λ client. Commanded Faults c.args.moment c.args.number client z (t.verb ∷ t.args.items) line c.args.live.now c.command.new.live)) same c.in_ok-command-in-Command.ensures)

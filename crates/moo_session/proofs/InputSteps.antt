@@ -1,5 +1,5 @@
 -- The steps of the program are those of the meaning.
-use Rattle.std.proofs.Common.{◌≡◌, ℕ, ◌+◌, ◌≤◌, ℤ, Bool, true, false, cond, ◌==◌, List, [], ◌∷◌, length, map, Option, Some, None, refl, sym, ◌∙◌, ap, subst, arith}
+use Rattle.std.proofs.Common.{◌≡◌, ℕ, ◌+◌, ◌≤◌, ℤ, Bool, true, false, cond, ◌==◌, List, [], ◌∷◌, length, Option, Some, None, refl, sym, ◌∙◌, ap, subst, arith}
 use Rattle.std.specs.Prelude.{Result, Ok, Err, OnOk, IsSomeAnd, is_some, is_none}
 use Rattle.std.specs.Option.{option_and_then}
 use Rattle.std.specs.declared.alloc.AllocError.{AllocError}
@@ -25,7 +25,7 @@ use Rattle.moo_session_task.specs.Session.{Session, in_connections}
 use Rattle.moo_session_task.specs.State.{state}
 use Rattle.moo_session.specs.Inner.{LogsInBy, TypesAs, as_gathered, as_played, MeetsNext, drops, meets}
 use Rattle.moo_session.specs.declared.player_line.LineKind.TheVariants as kind
-use Rattle.moo_session.specs.Input.{kind_of, PlayerTypes, no_word, prefix, suffix, program, command, Types, logs_in, gathers, plays, MeetsLine, MeetsLines, no_line_more, dropped, one_line_more}
+use Rattle.moo_session.specs.Input.{kind_of, PlayerTypes, no_word, prefix, suffix, program, command, Types, logs_in, gathers, plays, MeetsLines, no_line_more, dropped, one_line_more}
 
 strip_step : (b : ℕ) (bs : List ℕ) (ws : List (List ℕ)) (t : Bool) → (b == blank) ≡ t → (Words (unindented bs) ws → Words bs ws) → Words (cond t (unindented bs) (b ∷ bs)) ws → Words (b ∷ bs) ws
 strip_step b bs ws true e ih h = after_blank (eqb-true b blank e) (ih h)

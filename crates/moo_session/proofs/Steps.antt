@@ -1,13 +1,12 @@
 -- The steps of the program are those of the meaning.
-use Rattle.std.proofs.Common.{◌≡◌, ℕ, ℤ, Bool, true, false, ◌||◌, List, [], ◌∷◌, Option, Some, None, refl, sym, ◌∙◌, ap, subst, arith}
-use Rattle.std.specs.Prelude.{Result, Ok, Err, OnOk, IfOk, codes, is_some}
+use Rattle.std.proofs.Common.{◌≡◌, ℕ, ℤ, List, [], Option, None, sym, ◌∙◌, ap, subst, arith}
+use Rattle.std.specs.Prelude.{Result, Ok, Err, OnOk, codes}
 use Rattle.std.specs.declared.alloc.AllocError.{AllocError}
 use Rattle.moo_value.specs.Tree.{Tree}
 use Rattle.moo_world_table.specs.World.{World}
 use Rattle.moo_builtin.specs.Telling.{Faults}
 use Rattle.moo_session_task.specs.WordList.{FitsAList}
 use Rattle.moo_session_task.proofs.Depths.{light_words_fit}
-use Rattle.moo_session_connection.specs.declared.client.Client.{Client}
 use Rattle.moo_session_connection.specs.Connections.{Connections, client_here}
 use Rattle.moo_session_connection.specs.Changes.{joined, HasHeard}
 use Rattle.moo_session_task.specs.declared.world_state.WorldState.{WorldState}
@@ -32,16 +31,27 @@ opened (Ok v) moment n s p words line greeted u e f g d h =
     record { greeted = greeted; logs_in = subst (λ (x : Session). LogsIn Faults moment n [] [] (state s.world x) greeted) e empty; hooks = h }
 opened (Err short) moment n s p words line greeted u e f g d h = tt
 
+-- the connections that were lent are changed
+pub changed_so : (s : Session) (held after : Connections) (f : Connections → Connections) → held ≡ s.connections → after ≡ f held → in_connections (λ _. after) s ≡ in_connections f s
+changed_so s held after f e h = ap (λ (x : Connections). in_connections (λ _. x) s) (h ∙ ap f e)
+
 -- a piece was heard, and its lines were met
-pub lines_met : (r : Result (Unit {0}) AllocError) (moment n : ℕ) (piece : List ℕ) (s : WorldState) (p : Session) (lines : List (List ℕ)) (u : WorldState) →
-    HasHeard n moment piece s.session.connections lines p.connections → p ≡ record s.session { connections = p.connections } →
-    OnOk r (MeetsLines Faults moment n lines (state s.world p) u) → OnOk r (Hears Faults moment n piece s u)
-lines_met (Ok v) moment n piece s p lines u h e d = heard h (subst (λ (x : Session). MeetsLines Faults moment n lines (state s.world x) u) e d)
-lines_met (Err short) moment n piece s p lines u h e d = tt
+pub lines_met : (r : Result (Unit {0}) AllocError) (moment n : ℕ) (piece : List ℕ) (s : WorldState) (held after : Connections) (lines : List (List ℕ)) (u : WorldState) →
+    held ≡ s.session.connections → HasHeard n moment piece held lines after →
+    OnOk r (MeetsLines Faults moment n lines (state s.world (in_connections (λ _. after) s.session)) u) → OnOk r (Hears Faults moment n piece s u)
+lines_met (Ok v) moment n piece s held after lines u e h d = heard (subst (λ (x : Connections). HasHeard n moment piece x lines after) e h) d
+lines_met (Err short) moment n piece s held after lines u e h d = tt
+
+-- nobody is among the connections that were lent
+pub nobody_held : (n : ℕ) (s : Session) (held : Connections) → held ≡ s.connections → client_here n s.connections ≡ None → client_here n held ≡ None
+nobody_held n s held e f = ap (λ (x : Connections). client_here n x) e ∙ f
 
 -- nobody was there to hear
-pub nobody_heard : (moment n : ℕ) (piece : List ℕ) (s : WorldState) (p : Session) → client_here n s.session.connections ≡ None → p ≡ s.session → Hears Faults moment n piece s (state s.world p)
-nobody_heard moment n piece s p e f = subst (λ (x : Session). Hears Faults moment n piece s (state s.world x)) (sym f) (dropped e)
+pub nobody_heard : (moment n : ℕ) (piece : List ℕ) (s : WorldState) (held after : Connections) → held ≡ s.session.connections → client_here n held ≡ None → after ≡ held →
+    Hears Faults moment n piece s (state s.world (in_connections (λ _. after) s.session))
+nobody_heard moment n piece s held after e f g =
+    let here : client_here n s.session.connections ≡ None = ap (λ (x : Connections). client_here n x) (sym e) ∙ f in
+    subst (λ (x : Connections). Hears Faults moment n piece s (state s.world (in_connections (λ _. x) s.session))) (sym (g ∙ e)) (dropped here)
 
 -- who was heard is here
 pub somebody_heard : (moment n : ℕ) (piece : List ℕ) (s after : Connections) (lines : List (List ℕ)) → HasHeard n moment piece s lines after → client_here n s ≡ None → ⊥

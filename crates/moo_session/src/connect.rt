@@ -27,7 +27,7 @@ fn redirect(session: &mut Session, number: u16, player: i32, moment: u32) -> Res
 {
     session.send(number, b"*** Redirecting old connection to this port ***")?;
     session.notify(player, b"*** Redirecting connection to new port ***")?;
-    session.play(number, player, moment)?;
+    session.connections_mut().play(number, player, moment)?;
     session.cause(Hook::Reconnected(player))
 }
 
@@ -41,7 +41,7 @@ fn welcome(
     ensures { OnOk result (session.new ≡ welcomed number player moment is_new session.old) }
 {
     session.send(number, greeting(is_new))?;
-    session.play(number, player, moment)?;
+    session.connections_mut().play(number, player, moment)?;
     session.cause(welcoming_hook(player, is_new))
 }
 

@@ -92,7 +92,8 @@ fn gather_for(
 {
     let line = ready_line(alloc, o, verb.as_bytes())?;
     session.send(number, &line)?;
-    session.gather(number, Some(Gathering::new(alloc, o, verb)));
+    let gathering = Gathering::new(alloc, o, verb);
+    session.connections_mut().gather(number, Some(gathering));
     Ok(())
 }
 

@@ -19,7 +19,7 @@ pub fn open(
     requires { is_open number live.old.session.connections ≡ false }
     ensures { OnOk result (OpensConnection Faults moment number live.old live.new) }
 {
-    live.session.join(number, moment)?;
+    live.session.connections_mut().join(number, moment)?;
     let line = MooStr::empty(alloc)?;
     log_in(alloc, live, moment, number, Vec::new(alloc), line)?;
     run_hooks(alloc, live, moment)
@@ -37,7 +37,8 @@ pub fn receive(
     ensures heard { OnOk result (Hears Faults moment number piece.now live.old live.new) }
     ensures left { client_here number live.old.session.connections ≡ None → IsOk result × (live.new ≡ live.old) }
 {
-    let Some(lines) = live.session.receive(number, moment, piece)? else {
+    let connections = live.session.connections_mut();
+    let Some(lines) = connections.receive(number, moment, piece)? else {
         return Ok(());
     };
     meet_lines(alloc, live, moment, number, &lines)
@@ -60,7 +61,7 @@ fn free(session: &mut Session, number: u16) -> Result<(), AllocError>
     ensures { OnOk result (session.new ≡ hung_up number session.old) }
 {
     let player = player_at(session, number);
-    session.free(number);
+    session.connections_mut().free(number);
     match player {
         Some(player) => session.cause(Hook::ClientDisconnected(player)),
         None => Ok(()),

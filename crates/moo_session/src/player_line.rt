@@ -42,8 +42,14 @@ pub(crate) fn player_types(
         return Ok(());
     };
     match kind_of(typed.verb.as_bytes()) {
-        LineKind::Prefix => live.session.set_prefix(number, typed.rest),
-        LineKind::Suffix => live.session.set_suffix(number, typed.rest),
+        LineKind::Prefix => {
+            let connections = live.session.connections_mut();
+            connections.set_prefix(number, typed.rest);
+        }
+        LineKind::Suffix => {
+            let connections = live.session.connections_mut();
+            connections.set_suffix(number, typed.rest);
+        }
         LineKind::Program => begin_programming(
             alloc,
             &live.world,

@@ -20,12 +20,14 @@ pub fn gather(
     requires { IsSome (gathering_of number live.old.session) }
     ensures { OnOk result (IsSomeAnd (gathering_of number live.old.session) (λ g. Gathers Faults number player g line live.old live.new)) }
 {
-    let mut gathering = live.session.take_gathering(number).unwrap();
+    let connections = live.session.connections_mut();
+    let mut gathering = connections.take_gathering(number).unwrap();
     if is_dot(&line) {
         return end_programming(alloc, live, number, player, &gathering);
     }
     gathering.push(line)?;
-    live.session.gather(number, Some(gathering));
+    let connections = live.session.connections_mut();
+    connections.gather(number, Some(gathering));
     Ok(())
 }
 

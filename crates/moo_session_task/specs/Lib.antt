@@ -1,4 +1,5 @@
 pub mod Session
+pub mod Lending
 pub mod State
 pub mod Sending
 pub mod Leaving

@@ -21,7 +21,7 @@ impl Session {
         let number = client.connection.number;
         let player = client.player();
         self.push_sent(number, line)?;
-        self.leave(who)?;
+        self.connections.leave(who)?;
         self.part(player)
     }
 

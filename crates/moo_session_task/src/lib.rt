@@ -1,7 +1,6 @@
 //! An internal crate of `moo_session`.
 #![tactic(auto)]
 
-mod changing;
 mod hook;
 mod hooks;
 pub mod laws;

@@ -1,5 +1,7 @@
 //! The sessions of a server.
 ghost use Rattle.std.specs.Prelude.{◌≡◌, ◌∷◌, List, [], OnOk, IfSome, IfNone, true, false};
+ghost use Rattle.std.specs.Borrow.{sem};
+ghost use Rattle.moo_session_task.specs.Lending.{LendsConnections};
 ghost use Rattle.moo_session_task.specs.Session.{no_session, caused, with_hooks};
 ghost use Rattle.moo_session_task.specs.Notices.{asked_for, logged};
 ghost use Rattle.moo_session_task.specs.declared.hook.Hook.{Hook as hook};
@@ -61,6 +63,14 @@ impl Session {
         ensures { result.now ≡ self.now.connections }
     {
         &self.connections
+    }
+
+    /// Returns the open connections, to change them.
+    pub fn connections_mut(&mut self) -> &mut Connections
+        ensures* writes_back { sem 𝓛 (LendsConnections self.entry result) }
+        ensures value { result.now ≡ self.old.connections }
+    {
+        &mut self.connections
     }
 
     /// Enqueues a hook after those that wait. Fails only if memory runs out.

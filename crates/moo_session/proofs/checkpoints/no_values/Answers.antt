@@ -1,4 +1,3 @@
-use Rattle.std.proofs.Common.{◌∙◌, ap, List, ℕ}
 use Rattle.moo_session.proofs.Steps.{no_words_fit}
 use Rattle.moo_session.proofs.checkpoints.no_values.Goals as goal
 

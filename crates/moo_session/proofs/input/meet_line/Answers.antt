@@ -1,4 +1,4 @@
-use Rattle.std.proofs.Common.{◌≡◌, sym, ◌∙◌}
+use Rattle.std.proofs.Common.{sym, ◌∙◌}
 use Rattle.moo_session_connection.specs.Connections.{client_here}
 use Rattle.moo_session.proofs.InputSteps.{met, gone, someone}
 use Rattle.moo_session.proofs.input.meet_line.Goals as goal

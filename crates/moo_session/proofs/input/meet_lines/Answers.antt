@@ -1,4 +1,4 @@
-use Rattle.std.proofs.Common.{◌≡◌, ◌+◌, drop}
+use Rattle.std.proofs.Common.{◌+◌, drop}
 use Rattle.std.proofs.Math.ListN.{drop_of_length-le}
 use Rattle.moo_eval_frame.proofs.Rest.{drop_next}
 use Rattle.moo_session.specs.Input.{no_line_more}

@@ -1,5 +1,4 @@
-use Rattle.std.proofs.Common.{◌≡◌, ℤ, sym, ◌∙◌, to_z, of_z, w32, SFits, rules, to_z-of_z}
-use Rattle.moo_session_task.specs.declared.world_state.WorldState.{WorldState}
+use Rattle.std.proofs.Common.{◌≡◌, ◌∙◌, to_z, of_z, w32, SFits, rules, to_z-of_z}
 use Rattle.moo_eval_frame.specs.Surroundings.{own_number}
 use Rattle.moo_session_task.specs.Seen.{seen_answer}
 use Rattle.moo_session.proofs.LoginSteps.{logged_in}

@@ -4,10 +4,13 @@ use Rattle.moo_builtin.specs.Telling.{Faults}
 use Rattle.moo_command.specs.FirstWord.{IsTyped}
 use Rattle.moo_session_line.specs.Rest.{IsLine}
 use Rattle.moo_session_connection.specs.Connections.{client_here}
+use Rattle.moo_session_connection.specs.Changes.{with_changed, with_prefix, with_suffix}
+use Rattle.moo_session_task.specs.Session.{Session, in_connections}
 use Rattle.moo_session.specs.Dispatch.{Commanded}
 use Rattle.moo_session.specs.DotProgram.{programming_begun}
 use Rattle.moo_session.specs.declared.player_line.LineKind.TheVariants as kind
 use Rattle.moo_session.specs.Input.{kind_of}
+use Rattle.moo_session.proofs.Steps.{changed_so}
 use Rattle.moo_session.proofs.InputSteps.{nothing_typed, prefix_typed, suffix_typed, program_typed, command_typed}
 use Rattle.moo_session.proofs.player_line.player_types.Goals as goal
 
@@ -18,14 +21,20 @@ returns-in_default c =
 pub returns-in-Prefix : goal.returns-in-Prefix
 returns-in-Prefix c =
     let t = c.in-Some.typed in
+    let s : Session = c.args.live.now.session in
+    let lent = c.connections_mut-connections in
     let k : kind_of t.verb ≡ kind.Prefix = ap kind_of (sym c.as_bytes.ensures.value) ∙ sym c.kind_of.ensures ∙ c.in-Prefix.is in
-    prefix_typed (client_here c.args.number c.args.live.now.session.connections) c.args.moment c.args.number c.args.player c.args.line.now t.verb t.rest t.args.items c.args.live.now c.set_prefix.new.self c.requires.here (rw c.in-Some.is at c.in_ok-typed.ensures.some) k c.set_prefix.ensures
+    prefix_typed (client_here c.args.number c.args.live.now.session.connections) c.args.moment c.args.number c.args.player c.args.line.now t.verb t.rest t.args.items c.args.live.now (in_connections (λ _. c.set_prefix.new.self) s) c.requires.here (rw c.in-Some.is at c.in_ok-typed.ensures.some) k
+    (changed_so s lent.result.now c.set_prefix.new.self (with_changed c.args.number (with_prefix t.rest)) lent.ensures.value c.set_prefix.ensures)
 
 pub returns-in-Suffix : goal.returns-in-Suffix
 returns-in-Suffix c =
     let t = c.in-Some.typed in
+    let s : Session = c.args.live.now.session in
+    let lent = c.connections_mut-connections-in-Suffix in
     let k : kind_of t.verb ≡ kind.Suffix = ap kind_of (sym c.as_bytes.ensures.value) ∙ sym c.kind_of.ensures ∙ c.in-Suffix.is in
-    suffix_typed (client_here c.args.number c.args.live.now.session.connections) c.args.moment c.args.number c.args.player c.args.line.now t.verb t.rest t.args.items c.args.live.now c.set_suffix.new.self c.requires.here (rw c.in-Some.is at c.in_ok-typed.ensures.some) k c.set_suffix.ensures
+    suffix_typed (client_here c.args.number c.args.live.now.session.connections) c.args.moment c.args.number c.args.player c.args.line.now t.verb t.rest t.args.items c.args.live.now (in_connections (λ _. c.set_suffix.new.self) s) c.requires.here (rw c.in-Some.is at c.in_ok-typed.ensures.some) k
+    (changed_so s lent.result.now c.set_suffix.new.self (with_changed c.args.number (with_suffix t.rest)) lent.ensures.value c.set_suffix.ensures)
 
 pub returns-in_ok-begin_programming-in-Program : goal.returns-in_ok-begin_programming-in-Program
 returns-in_ok-begin_programming-in-Program c =

@@ -1,4 +1,3 @@
-use Rattle.std.proofs.Common.{◌≡◌}
 use Rattle.moo_session.proofs.InputSteps.{words_fit, logged_by}
 use Rattle.moo_session.proofs.typed_line.log_in_by_line.Goals as goal
 

@@ -1,4 +1,4 @@
-use Rattle.std.proofs.Common.{◌≡◌, ℤ, sym, ◌∙◌, to_z, of_z, to_z-of_z, w32, SFits, rules}
+use Rattle.std.proofs.Common.{◌≡◌, sym, ◌∙◌, to_z, of_z, to_z-of_z, w32, SFits, rules}
 use Rattle.moo_session_connection.specs.Connections.{client_here}
 use Rattle.moo_session.proofs.InputSteps.{line_gathered, line_played}
 use Rattle.moo_session.proofs.typed_line.type_as.Goals as goal

@@ -1,4 +1,4 @@
-use Rattle.std.proofs.Common.{◌≡◌, ℤ, Option, Some, None, sym, ◌∙◌, ap, to_z, of_z, to_z-of_z, w32, SFits, rules}
+use Rattle.std.proofs.Common.{◌≡◌, Some, sym, ◌∙◌, ap, to_z, of_z, to_z-of_z, w32, SFits, rules}
 use Rattle.std.specs.Option.{option_copied}
 use Rattle.std.specs.Prelude.{is_some}
 use Rattle.moo_session_connection.specs.declared.client.Client.{Client}

@@ -58,14 +58,16 @@ impl Socket {
         }
     }
 
-    /// Sends a ping if nothing has come on a WebSocket for long, and ends its channel if nothing has come for longer.
-    pub fn tend(&mut self, now: u64)
+    /// Sends a ping if nothing has come on a WebSocket for long, and ends its channel if nothing has come for longer. Fails
+    /// only if memory runs out.
+    pub fn tend(&mut self, now: u64) -> Result<(), AllocError>
         ensures { waits_of self.new ≡ waits_of self.old }
     {
         if let Some(channel) = &mut self.channel {
-            channel.tend(now);
+            channel.tend(now)?;
         }
         self.notice_end();
+        Ok(())
     }
 
     /// Sends the close of a WebSocket, as far as the system takes it at once. The socket is closed next.

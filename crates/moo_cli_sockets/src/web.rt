@@ -73,7 +73,7 @@ impl Sockets {
         ensures { (k : ℕ) → held self.new.sockets k ≡ held self.old.sockets k }
     {
         if let Some(socket) = self.sockets.get_mut(usize::from(c)) {
-            socket.tend(now);
+            socket.tend(now)?;
         }
         self.keep_writable(c)?;
         self.keep_readable(c)

@@ -1,5 +1,6 @@
 //! The addresses on which a server listens.
-ghost use Rattle.std.specs.Prelude.{◌≡◌, ℕ, IfOk, None};
+ghost use Rattle.std.specs.Prelude.{◌≡◌, ℕ, map, IfOk, MatchOption, None};
+ghost use Rattle.moo_cli_sockets.specs.Browsers.{ServesWeb};
 ghost use Rattle.moo_cli_sockets.specs.Coming.{held};
 
 use log::{Log, info};
@@ -27,12 +28,15 @@ pub fn listen<R: Net + Log>(
     telnet: Option<Telnet>,
     web: Option<Web<'_>>,
 ) -> Result<Sockets, SocketsFault>
-    ensures { IfOk result (λ sockets. (c : ℕ) → held sockets.sockets c ≡ None) }
+    ensures none { IfOk result (λ sockets. (c : ℕ) → held sockets.sockets c ≡ None) }
+    ensures filter { IfOk result (λ sockets. sockets.telnet ≡ telnet) }
+    ensures browsers { IfOk result (λ sockets. MatchOption web.entry (sockets.web ≡ None) (λ web. ServesWeb (map (λ origin. origin.now) web.origins.now) sockets)) }
 {
     let mut sockets = Sockets::open(rt, alloc, host, port, telnet)?;
-    if let Some(web) = web {
-        let address = sockets.open_web(rt, host, web.port, web.origins)?;
-        info!(rt; target: "moo::serve", "the page for browsers is http://{address}/");
-    }
+    let Some(web) = web else {
+        return Ok(sockets);
+    };
+    let address = sockets.open_web(rt, host, web.port, web.origins)?;
+    info!(rt; target: "moo::serve", "the page for browsers is http://{address}/");
     Ok(sockets)
 }

@@ -1,8 +1,9 @@
 -- The frames in which a WebSocket's input comes and its output goes out.
-use Rattle.std.specs.Prelude.{◌≡◌, ◌⊎◌, ℕ, ◌<◌, List, [], ◌++◌, Some}
-use Rattle.websocket.specs.Stream.{read_all}
+use Rattle.std.specs.Prelude.{◌≡◌, ◌⊎◌, ℕ, ◌<◌, List, [], ◌++◌, Some, Ok, true, IsTrue}
+use Rattle.websocket.specs.Stream.{Trace, read_all}
 use Rattle.moo_cli_web_frames.specs.Channels.{Loads, pending}
 use Rattle.moo_cli_web_frames.specs.Frames.{payload_in}
+use Rattle.moo_cli_web_frames.specs.Tending.{Tends}
 use Rattle.moo_cli_web_frames.specs.declared.channel.Channel.{Channel}
 use Rattle.moo_cli_sockets.specs.Waiting.{front_of}
 use Rattle.moo_cli_sockets.specs.declared.socket.Socket.{Socket}
@@ -17,8 +18,19 @@ Carries old new =
 abbrev pub AreWhole : ℕ → Socket → Type 0
 AreWhole count new = 0 < count → (channel : Channel) → new.channel ≡ Some channel → pending channel ≡ []
 
--- If all earlier payload was taken, the input of a socket is the payload of the messages that these bytes complete.
+-- This run of frames came on a channel. Its payload follows what the channel held, all of that is the input, and the other side was heard.
+pub record IsHeard (trace : Trace) (was is : Channel) (input : List ℕ) : Type 0 where
+  pub all : input ≡ was.payload.items ++ payload_in trace.effects
+  pub taken : is.payload.items ≡ []
+  pub ends : (trace.end ≡ Ok (is.endpoint.context, is.endpoint.input.items)) ⊎ IsTrue is.is_over
+  pub heard : is.silence.has_heard ≡ true
+
+-- If it is a WebSocket, its silence was looked at in this second.
+abbrev pub LooksAt : ℕ → Socket → Socket → Type 0
+LooksAt now old new = (was : Channel) → old.channel ≡ Some was → (is : Channel) × (new.channel ≡ Some is) × Tends now was is
+
+-- These bytes came on a WebSocket, after those that were no whole frame.
 abbrev pub Hears : List ℕ → Socket → Socket → Type 0
 Hears bytes old new =
-    (was : Channel) → old.channel ≡ Some was → was.payload.items ≡ []
-    → new.input.items ≡ payload_in (read_all was.endpoint.context (was.endpoint.input.items ++ bytes)).effects
+    (was : Channel) → old.channel ≡ Some was
+    → (is : Channel) × (new.channel ≡ Some is) × IsHeard (read_all was.endpoint.context (was.endpoint.input.items ++ bytes)) was is new.input.items

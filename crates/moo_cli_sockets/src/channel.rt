@@ -1,10 +1,13 @@
 //! The calls of a socket that is a WebSocket.
-ghost use Rattle.std.specs.Prelude.{◌≡◌, ◌≤◌, length, drop, true, IfOk, OnErr, OnOk};
-ghost use Rattle.moo_cli_sockets.specs.Framing.{AreWhole, Carries, Hears};
+ghost use Rattle.std.specs.Prelude.{◌≡◌, ◌≤◌, ◌++◌, length, drop, true, IfOk, OnErr, OnOk};
+ghost use Rattle.websocket.specs.Stream.{read_all};
+ghost use Rattle.moo_cli_sockets.specs.Framing.{AreWhole, Carries, Hears, IsHeard, LooksAt};
+ghost use Rattle.moo_cli_sockets.specs.Reading.{IsSame};
 ghost use Rattle.moo_cli_sockets.specs.Waiting.{waits_of};
 
 use crate::socket::Socket;
 use crate::transfer::write_once;
+use moo_cli_web_frames::Channel;
 use std::alloc::{AllocError, Global};
 use std::io;
 use std::io::ErrorKind;
@@ -36,14 +39,16 @@ impl Socket {
 
     // Receives bytes that came, and keeps the payload of the messages that they complete as input. Fails only if memory
     // runs out.
+    #[tactic(auto, using(crate::proofs::Keeping::hears_on))]
     pub(crate) fn keep_payload(&mut self, alloc: Global, bytes: &[u8]) -> Result<(), AllocError>
         ensures waits { waits_of self.new ≡ waits_of self.old }
         ensures hears { OnOk result (Hears bytes.now self.old self.new) }
+        ensures filter { self.new.telnet ≡ self.old.telnet }
     {
-        if let Some(channel) = &mut self.channel {
-            channel.receive(bytes)?;
-            self.input = channel.take_payload(alloc);
-        }
+        let Some(channel) = &mut self.channel else {
+            return Ok(());
+        };
+        self.input = receive_payload(alloc, channel, bytes)?;
         self.notice_end();
         Ok(())
     }
@@ -51,26 +56,33 @@ impl Socket {
     // Lets the end be read, if the channel is over.
     fn notice_end(&mut self)
         ensures waits { waits_of self.new ≡ waits_of self.old }
-        ensures input { self.new.input ≡ self.old.input }
+        ensures same { IsSame self.old self.new }
     {
         if self.is_over() {
             self.may_read = true;
         }
     }
 
-    /// Sends a ping if nothing has come on a WebSocket for long, and ends its channel if nothing has come for longer.
-    pub fn tend(&mut self, now: u64)
-        ensures { waits_of self.new ≡ waits_of self.old }
+    /// Sends a ping if nothing has come on a WebSocket for long, and ends its channel if nothing has come for longer. Fails
+    /// only if memory runs out.
+    #[tactic(auto, using(crate::proofs::Keeping::tends_on))]
+    pub fn tend(&mut self, now: u64) -> Result<(), AllocError>
+        ensures waits { waits_of self.new ≡ waits_of self.old }
+        ensures same { (self.new.input ≡ self.old.input) × (self.new.telnet ≡ self.old.telnet) }
+        ensures tends { OnOk result (LooksAt now self.old self.new) }
     {
-        if let Some(channel) = &mut self.channel {
-            channel.tend(now);
-        }
+        let Some(channel) = &mut self.channel else {
+            return Ok(());
+        };
+        channel.tend(now)?;
         self.notice_end();
+        Ok(())
     }
 
     /// Sends the close of a WebSocket, as far as the system takes it at once. The socket is closed next.
     pub fn send_close(&mut self)
-        ensures { waits_of self.new ≡ waits_of self.old }
+        ensures waits { waits_of self.new ≡ waits_of self.old }
+        ensures same { (self.new.input ≡ self.old.input) × (self.new.telnet ≡ self.old.telnet) }
     {
         if let Some(channel) = &mut self.channel {
             channel.close();
@@ -84,6 +96,7 @@ impl Socket {
         ensures out { IfOk result (λ count. (count ≤ length (waits_of self.old)) × (waits_of self.new ≡ drop count (waits_of self.old))) }
         ensures failed { OnErr result (waits_of self.new ≡ waits_of self.old) }
         ensures whole { IfOk result (λ count. AreWhole count self.new) }
+        ensures same { (self.new.input ≡ self.old.input) × (self.new.telnet ≡ self.old.telnet) }
     {
         self.load()?;
         let was_held_up = self.is_held_up();
@@ -104,6 +117,7 @@ impl Socket {
     fn write_pending(&mut self) -> io::Result<bool>
         ensures waits { waits_of self.new ≡ waits_of self.old }
         ensures carried { self.new.carried ≡ self.old.carried }
+        ensures same { (self.new.input ≡ self.old.input) × (self.new.telnet ≡ self.old.telnet) }
         ensures whole { IfOk result (λ is_out. is_out ≡ true → AreWhole 1 self.new) }
     {
         let Some(channel) = &mut self.channel else {
@@ -117,6 +131,7 @@ impl Socket {
     fn load(&mut self) -> io::Result<()>
         ensures waits { waits_of self.new ≡ waits_of self.old }
         ensures carries { OnOk result (Carries self.old self.new) }
+        ensures same { (self.new.input ≡ self.old.input) × (self.new.telnet ≡ self.old.telnet) }
     {
         let Some(channel) = &mut self.channel else {
             return Ok(());
@@ -133,4 +148,17 @@ impl Socket {
             Err(_) => Err(io::Error::from(ErrorKind::OutOfMemory)),
         }
     }
+}
+
+// Receives bytes that came on a channel, and returns the payload of the messages that they complete. Fails only if memory
+// runs out.
+fn receive_payload(
+    alloc: Global,
+    channel: &mut Channel,
+    bytes: &[u8],
+) -> Result<Vec<u8>, AllocError>
+    ensures { IfOk result (λ payload. IsHeard (read_all channel.old.endpoint.context (channel.old.endpoint.input.items ++ bytes.now)) channel.old channel.new payload.items) }
+{
+    channel.receive(bytes)?;
+    Ok(channel.take_payload(alloc))
 }

@@ -1,8 +1,9 @@
 //! The input of sockets: new connections, bytes and ends.
-ghost use Rattle.std.specs.Prelude.{◌≡◌, ◌≢◌, ℕ, List, ◌++◌, Contains, IfOk, OnOk};
+ghost use Rattle.std.specs.Prelude.{◌≡◌, ◌≢◌, ◌≤◌, ℕ, List, ◌++◌, Contains, IfOk, OnOk};
 ghost use Rattle.slab.specs.Slab.{get};
 ghost use Rattle.moo_server_core.specs.declared.event.Event as given;
 ghost use Rattle.moo_cli_sockets.specs.Coming.{Comes, Each, Follow, IsListed, IsOpening, IsRead, held, only};
+ghost use Rattle.moo_cli_sockets.specs.Reading.{Arrives, Brings, HasFilter, IsKept};
 
 use crate::age::{Age, seconds};
 use crate::descriptors::is_at;
@@ -26,7 +27,9 @@ impl Sockets {
     /// bytes, by rising number. No other socket costs time. Closes at once a connection for which no number is left,
     /// and any socket that ended or failed. Fails only if memory runs out.
     pub fn take<L: Clock + Log>(&mut self, rt: &L) -> Result<Vec<Event>, AllocError>
-        ensures { IfOk result (λ events. Comes self.old.sockets self.new.sockets events.items) }
+        ensures comes { IfOk result (λ events. Comes self.old.sockets self.new.sockets events.items) }
+        ensures arrives { IfOk result (λ events. Arrives self.old.sockets self.new.sockets events.items) }
+        ensures filter { self.new.telnet ≡ self.old.telnet }
     {
         let mut events = Vec::new(self.alloc);
         let opened = self.open_one(rt)?;
@@ -36,9 +39,11 @@ impl Sockets {
     }
 
     // Opens at most one connection: one that waits at the listener, or a WebSocket of a browser.
-    #[tactic(auto, using(crate::proofs::Sent::opens_after))]
+    #[tactic(auto, using(crate::proofs::Sent::opens_after, crate::proofs::Keeping::kept_on))]
     fn open_one<L: Clock + Log>(&mut self, rt: &L) -> Result<Option<Event>, AllocError>
-        ensures { IfOk result (λ event. IsOpening self.old.sockets event × Follow (only event) self.old.sockets self.new.sockets) }
+        ensures opens { IfOk result (λ event. IsOpening self.old.sockets event × Follow (only event) self.old.sockets self.new.sockets) }
+        ensures kept { OnOk result ((c : ℕ) → IsKept (get self.old.sockets c) (get self.new.sockets c)) }
+        ensures filter { self.new.telnet ≡ self.old.telnet }
     {
         self.serve_web(rt)?;
         match self.accept(rt)? {
@@ -49,8 +54,12 @@ impl Sockets {
 
     // Accepts one new connection, if one waits. After a fault it is tried again later, and the other connections go
     // on.
+    #[tactic(auto, using(crate::proofs::Keeping::kept_same))]
     fn accept<L: Clock + Log>(&mut self, rt: &L) -> Result<Option<Event>, AllocError>
-        ensures { IfOk result (λ event. IsOpening self.old.sockets event × Follow (only event) self.old.sockets self.new.sockets) }
+        ensures opens { IfOk result (λ event. IsOpening self.old.sockets event × Follow (only event) self.old.sockets self.new.sockets) }
+        ensures kept { OnOk result ((c : ℕ) → IsKept (get self.old.sockets c) (get self.new.sockets c)) }
+        ensures filter { IfOk result (λ event. HasFilter self.old.telnet self.new.sockets event) }
+        ensures same { self.new.telnet ≡ self.old.telnet }
     {
         if !self.may_accept {
             return Ok(None);
@@ -80,7 +89,7 @@ impl Sockets {
 
     // Logs that no connection can be accepted, once until one is.
     fn tell_refused<L: Log>(&mut self, rt: &L, error: &io::Error)
-        ensures { self.new.sockets ≡ self.old.sockets }
+        ensures { (self.new.sockets ≡ self.old.sockets) × (self.new.telnet ≡ self.old.telnet) }
     {
         if self.may_accept && !self.is_told {
             self.is_told = true;
@@ -91,7 +100,7 @@ impl Sockets {
     // Logs that connections have taken all descriptors that are theirs, and that others may wait. Says it again after a
     // minute.
     fn tell_full<L: Clock + Log>(&mut self, rt: &L)
-        ensures { self.new.sockets ≡ self.old.sockets }
+        ensures { (self.new.sockets ≡ self.old.sockets) × (self.new.telnet ≡ self.old.telnet) }
     {
         let now = seconds(rt);
         if now >= self.full_told {
@@ -102,6 +111,7 @@ impl Sockets {
     }
 
     // Keeps a new connection's socket under its number. Closes it if the system can't watch it.
+    #[tactic(auto, using(crate::proofs::Keeping::kept_inserted, crate::proofs::Keeping::kept_same, crate::proofs::Keeping::has_filter))]
     fn keep<L: Clock + Log>(
         &mut self,
         rt: &L,
@@ -110,7 +120,10 @@ impl Sockets {
     ) -> Result<Option<Event>, AllocError>
         requires vacant { c ≡ self.old.sockets.vacant_key }
         requires given { c ≢ CONSOLE }
-        ensures { IfOk result (λ event. IsOpening self.old.sockets event × Follow (only event) self.old.sockets self.new.sockets) }
+        ensures opens { IfOk result (λ event. IsOpening self.old.sockets event × Follow (only event) self.old.sockets self.new.sockets) }
+        ensures kept { OnOk result ((c : ℕ) → IsKept (get self.old.sockets c) (get self.new.sockets c)) }
+        ensures filter { IfOk result (λ event. HasFilter self.old.telnet self.new.sockets event) }
+        ensures same { self.new.telnet ≡ self.old.telnet }
     {
         let both = Interest::READABLE | Interest::WRITABLE;
         let token = Token(usize::from(c));
@@ -130,7 +143,9 @@ impl Sockets {
     // Reads once from each socket that may have bytes. Those that may have more are read from in the next round.
     fn read_all(&mut self, events: &mut Vec<Event>) -> Result<(), AllocError>
         ensures read { OnOk result ((n : ℕ) × (reads : List given.Event) × Each (λ c event. IsRead (held self.old.sockets c) c event) n reads × Follow reads self.old.sockets self.new.sockets
-            × (events.new.items ≡ events.old.items ++ reads)) }
+            × (events.new.items ≡ events.old.items ++ reads) × Each (λ c event. Brings (get self.old.sockets c) event (get self.new.sockets c)) n reads
+            × ((c : ℕ) → n ≤ c → get self.new.sockets c ≡ get self.old.sockets c)) }
+        ensures filter { self.new.telnet ≡ self.old.telnet }
         ensures listed { OnOk result ((c : ℕ) → Contains self.old.readable.items c → IsListed self.new.readable.items self.new.sockets c) }
     {
         let mut numbers = mem::replace(&mut self.readable, Vec::new(self.alloc));
@@ -145,10 +160,13 @@ impl Sockets {
 
     // Reads once from a socket. Its end or a fault is a hang-up. Lists it as one to which more may be written, if frames
     // answer what came.
+    #[tactic(auto, using(crate::proofs::Keeping::brings_piece, crate::proofs::Keeping::brings_nothing, crate::proofs::Keeping::brings_same))]
     fn read(&mut self, c: u16) -> Result<Option<Event>, AllocError>
         ensures read { IfOk result (λ event. IsRead (held self.old.sockets c) c event × Follow (only event) self.old.sockets self.new.sockets) }
         ensures others { (k : ℕ) → k ≢ c → get self.new.sockets k ≡ get self.old.sockets k }
         ensures listed { self.new.readable ≡ self.old.readable }
+        ensures brings { IfOk result (λ event. Brings (get self.old.sockets c) event (get self.new.sockets c)) }
+        ensures filter { self.new.telnet ≡ self.old.telnet }
     {
         let Some(socket) = self.sockets.get_mut(usize::from(c)) else {
             return Ok(None);
@@ -175,6 +193,7 @@ impl Sockets {
         ensures listed { OnOk result (IsListed self.new.readable.items self.new.sockets c) }
         ensures others { OnOk result ((k : ℕ) → Contains self.old.readable.items k → Contains self.new.readable.items k) }
         ensures same { self.new.sockets ≡ self.old.sockets }
+        ensures filter { self.new.telnet ≡ self.old.telnet }
     {
         if let Some(socket) = self.sockets.get(usize::from(c)) {
             if socket.is_readable() {

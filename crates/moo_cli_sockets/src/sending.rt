@@ -1,7 +1,9 @@
 //! The output of sockets.
-ghost use Rattle.std.specs.Prelude.{◌≡◌, ◌≢◌, ℕ, IfOk, IfSome};
+ghost use Rattle.std.specs.Prelude.{◌≡◌, ◌≢◌, ℕ, None, IfOk, IfSome};
 ghost use Rattle.moo_cli_sockets.specs.Coming.{held};
-ghost use Rattle.moo_cli_sockets.specs.Sending.{Sends};
+ghost use Rattle.moo_cli_sockets.specs.Reading.{IsKept};
+ghost use Rattle.moo_cli_sockets.specs.Sending.{MayFail, Sends};
+ghost use Rattle.slab.specs.Slab.{get};
 
 use crate::sockets::Sockets;
 use std::alloc::AllocError;
@@ -13,6 +15,8 @@ impl Sockets {
     pub fn write(&mut self, c: u16, output: Vec<u8>) -> Result<Option<usize>, AllocError>
         ensures sent { IfOk result (λ answer. IfSome answer (λ waiting. Sends output.items (held self.old.sockets c) (held self.new.sockets c) waiting)) }
         ensures others { (k : ℕ) → k ≢ c → held self.new.sockets k ≡ held self.old.sockets k }
+        ensures kept { (k : ℕ) → IsKept (get self.old.sockets k) (get self.new.sockets k) }
+        ensures failed { IfOk result (λ answer. answer ≡ None → IfSome (get self.old.sockets c) (MayFail output.items)) }
     {
         let waiting = self.write_once(c, output)?;
         self.keep_readable(c)?;
@@ -20,9 +24,12 @@ impl Sockets {
     }
 
     // Appends this output to what waits for a connection's socket, and writes once.
+    #[tactic(auto, using(crate::proofs::Keeping::fails_at, crate::proofs::Keeping::kept_given, crate::proofs::Keeping::kept_same, crate::proofs::Keeping::kept_sent, crate::proofs::Keeping::none_fails))]
     fn write_once(&mut self, c: u16, output: Vec<u8>) -> Result<Option<usize>, AllocError>
         ensures sent { IfOk result (λ answer. IfSome answer (λ waiting. Sends output.items (held self.old.sockets c) (held self.new.sockets c) waiting)) }
         ensures others { (k : ℕ) → k ≢ c → held self.new.sockets k ≡ held self.old.sockets k }
+        ensures kept { (k : ℕ) → IsKept (get self.old.sockets k) (get self.new.sockets k) }
+        ensures failed { IfOk result (λ answer. answer ≡ None → IfSome (get self.old.sockets c) (MayFail output.items)) }
     {
         let Some(socket) = self.sockets.get_mut(usize::from(c)) else {
             return Ok(None);
@@ -39,6 +46,14 @@ impl Sockets {
     /// Fails only if memory runs out.
     pub fn keep_writable(&mut self, c: u16) -> Result<(), AllocError>
         ensures { self.new.sockets ≡ self.old.sockets }
+    {
+        self.list_writable(c)
+    }
+
+    // Lists a socket as one to which more may be written, if output or frames wait for it and the system may take some.
+    pub(crate) fn list_writable(&mut self, c: u16) -> Result<(), AllocError>
+        ensures same { self.new.sockets ≡ self.old.sockets }
+        ensures filter { self.new.telnet ≡ self.old.telnet }
     {
         if let Some(socket) = self.sockets.get(usize::from(c)) {
             if socket.is_writable() {

@@ -74,7 +74,8 @@ impl Sockets {
         port: u16,
         telnet: Option<Telnet>,
     ) -> Result<Sockets, SocketsFault>
-        ensures { IfOk result (λ sockets. (c : ℕ) → held sockets.sockets c ≡ None) }
+        ensures none { IfOk result (λ sockets. (c : ℕ) → held sockets.sockets c ≡ None) }
+        ensures filter { IfOk result (λ sockets. (sockets.telnet ≡ telnet) × (sockets.web ≡ None)) }
     {
         let mut listener = TcpListener::bind(rt, SocketAddr::from((host, port)))?;
         let poll = Poll::new(rt)?;
@@ -140,8 +141,10 @@ impl Sockets {
     #[tactic(auto, using(crate::proofs::Sent::closes_after))]
     pub fn close(&mut self, c: u16)
         ensures closes { Closes c self.old.sockets self.new.sockets }
+        ensures gone { get self.new.sockets c ≡ None }
         ensures others { (k : ℕ) → k ≢ c → get self.new.sockets k ≡ get self.old.sockets k }
         ensures readable { self.new.readable ≡ self.old.readable }
+        ensures filter { self.new.telnet ≡ self.old.telnet }
     {
         self.send_close(c);
         self.sockets.try_remove(usize::from(c));
@@ -155,6 +158,7 @@ impl Sockets {
         ensures held { (k : ℕ) → held self.new.sockets k ≡ held self.old.sockets k }
         ensures others { (k : ℕ) → k ≢ c → get self.new.sockets k ≡ get self.old.sockets k }
         ensures readable { self.new.readable ≡ self.old.readable }
+        ensures filter { self.new.telnet ≡ self.old.telnet }
     {
         if let Some(socket) = self.sockets.get_mut(usize::from(c)) {
             socket.send_close();
@@ -167,6 +171,7 @@ impl Sockets {
         ensures held { (c : ℕ) → held self.new.sockets c ≡ held self.old.sockets c }
         ensures same { (c : ℕ) → get self.new.sockets c ≡ get self.old.sockets c }
         ensures readable { self.new.readable ≡ self.old.readable }
+        ensures filter { self.new.telnet ≡ self.old.telnet }
     {
         if self.sockets.len() < self.sockets.capacity() / 4 {
             self.sockets.shrink_to_fit();

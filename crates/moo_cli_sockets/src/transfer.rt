@@ -1,5 +1,7 @@
 //! The calls of a socket.
-ghost use Rattle.std.specs.Prelude.{◌≡◌, ◌≤◌, ◌<◌, ◌++◌, [], length, drop, IfOk, OnOk, OnErr};
+ghost use Rattle.std.specs.Prelude.{◌≡◌, ◌≤◌, ◌<◌, ◌++◌, [], length, drop, false, true, IfOk, OnOk, OnErr};
+ghost use Rattle.moo_cli_sockets.specs.Reading.{IsInput, IsSame, Reads, Receives, filter_after, text_of};
+ghost use Rattle.moo_cli_sockets.specs.Sending.{MayFail};
 ghost use Rattle.moo_cli_sockets.specs.Waiting.{IsCame, IsNext, IsPiece, is_readable, waits_of};
 
 use crate::age::Age;
@@ -24,7 +26,9 @@ impl Socket {
         telnet: Option<Telnet>,
         channel: Option<Channel>,
     ) -> Socket
-        ensures { waits_of result ≡ [] }
+        ensures waits { waits_of result ≡ [] }
+        ensures input { result.input.items ≡ [] }
+        ensures kind { (result.telnet ≡ telnet) × (result.channel ≡ channel) }
     {
         let may_read = channel.is_some();
         Socket {
@@ -48,7 +52,8 @@ impl Socket {
 
     /// Records what the system reports of the socket.
     pub fn wake(&mut self, event: &Event)
-        ensures { waits_of self.new ≡ waits_of self.old }
+        ensures waits { waits_of self.new ≡ waits_of self.old }
+        ensures same { IsSame self.old self.new }
     {
         if event.is_read_closed() || event.is_error() {
             self.is_ending = true;
@@ -84,18 +89,21 @@ impl Socket {
     pub fn give(&mut self, output: Vec<u8>) -> Result<(), AllocError>
         ensures ok { OnOk result (waits_of self.new ≡ waits_of self.old ++ output.items) }
         ensures err { OnErr result (waits_of self.new ≡ waits_of self.old) }
+        ensures same { IsSame self.old self.new × (self.new.may_write ≡ self.old.may_write) }
     {
         self.waiting.add(output)
     }
 
     /// Returns the next piece of the input. Reads once from the system if all that was read before was returned. Fails
     /// only if memory runs out.
+    #[tactic(auto, using(crate::proofs::Keeping::reads_on))]
     pub fn read(&mut self, alloc: Global) -> Result<Came, AllocError>
         ensures came { IfOk result IsCame }
         ensures next { IfOk result (λ came. 0 < length self.old.input.items → IsNext came self.old.input.items self.new.input.items) }
+        ensures reads { IfOk result (λ came. Reads came self.old self.new) }
         ensures waits { waits_of self.new ≡ waits_of self.old }
     {
-        if self.input.is_empty() && !self.receive(alloc)? {
+        if !self.fill(alloc)? {
             return Ok(Came::End);
         }
         if self.input.is_empty() {
@@ -105,11 +113,28 @@ impl Socket {
         Ok(Came::Bytes(piece))
     }
 
+    // Reads once from the system if all that was read before was returned. Returns false at the end and after a fault.
+    fn fill(&mut self, alloc: Global) -> Result<bool, AllocError>
+        ensures receives { OnOk result (Receives self.old self.new) }
+        ensures kept { 0 < length self.old.input.items → (self.new ≡ self.old) × (result ≡ Ok true) }
+        ensures end { IfOk result (λ goes. goes ≡ false → IsSame self.old self.new) }
+        ensures waits { waits_of self.new ≡ waits_of self.old }
+    {
+        if !self.input.is_empty() {
+            return Ok(true);
+        }
+        self.receive(alloc)
+    }
+
     // Reads once from the system, unless frames hold a WebSocket up. Returns false at the end and after a fault. A read
     // that doesn't fill the buffer has emptied the system's, and the system reports what comes later. But an end may have
     // been reported before the read.
+    #[tactic(auto, using(crate::proofs::Keeping::received))]
     fn receive(&mut self, alloc: Global) -> Result<bool, AllocError>
-        ensures { waits_of self.new ≡ waits_of self.old }
+        requires { length self.old.input.items ≡ 0 }
+        ensures receives { OnOk result (Receives self.old self.new) }
+        ensures end { IfOk result (λ goes. goes ≡ false → IsSame self.old self.new) }
+        ensures waits { waits_of self.new ≡ waits_of self.old }
     {
         if self.is_over() {
             return Ok(false);
@@ -120,21 +145,25 @@ impl Socket {
         }
         let mut buffer = [0u8; READ_MOST];
         match self.stream.read(&mut buffer) {
-            Ok(0) => return Ok(false),
+            Ok(0) => Ok(false),
             Ok(count) => {
                 self.may_read = self.is_ending || count == READ_MOST;
                 self.keep_input(alloc, &buffer[..count])?;
+                Ok(true)
             }
-            Err(error) if error.kind() == ErrorKind::WouldBlock => self.may_read = false,
-            Err(error) if error.kind() == ErrorKind::Interrupted => {}
-            Err(_) => return Ok(false),
+            Err(error) if error.kind() == ErrorKind::WouldBlock => {
+                self.may_read = false;
+                Ok(true)
+            }
+            Err(error) if error.kind() == ErrorKind::Interrupted => Ok(true),
+            Err(_) => Ok(false),
         }
-        Ok(true)
     }
 
     // Keeps what these bytes of the client say: the payload of the messages that they complete, or text.
     fn keep_input(&mut self, alloc: Global, bytes: &[u8]) -> Result<(), AllocError>
-        ensures { waits_of self.new ≡ waits_of self.old }
+        ensures input { OnOk result (IsInput bytes.now self.old self.new) }
+        ensures waits { waits_of self.new ≡ waits_of self.old }
     {
         if self.channel.is_some() {
             return self.keep_payload(alloc, bytes);
@@ -148,6 +177,7 @@ impl Socket {
         requires { 0 < length self.old.input.items }
         ensures piece { IfOk result IsPiece }
         ensures next { IfOk result (λ piece. self.old.input.items ≡ piece.items ++ self.new.input.items) }
+        ensures same { (self.new.telnet ≡ self.old.telnet) × (self.new.channel ≡ self.old.channel) }
         ensures waits { waits_of self.new ≡ waits_of self.old }
     {
         let count = piece_length(&self.input);
@@ -158,7 +188,9 @@ impl Socket {
 
     // Returns what these bytes of the client are without the commands of telnet, or all of them if none are dropped.
     fn text(&mut self, alloc: Global, piece: &[u8]) -> Result<Vec<u8>, AllocError>
-        ensures most { IfOk result (λ text. length text.items ≤ length piece.now) }
+        ensures text { IfOk result (λ text. text.items ≡ text_of self.old.telnet piece.now) }
+        ensures filter { OnOk result (self.new.telnet ≡ filter_after self.old.telnet piece.now) }
+        ensures same { (self.new.input ≡ self.old.input) × (self.new.channel ≡ self.old.channel) }
         ensures waits { waits_of self.new ≡ waits_of self.old }
     {
         match &mut self.telnet {
@@ -169,9 +201,12 @@ impl Socket {
 
     /// Writes once from the front of what waits, if anything does, and returns the number of bytes. A failed write
     /// removes none. The bytes that a frame of a WebSocket carries are out once all of the frame is.
+    #[tactic(auto, using(crate::proofs::Keeping::frames_fail, crate::proofs::Keeping::text_fails))]
     pub fn write(&mut self) -> io::Result<usize>
         ensures out { IfOk result (λ count. (count ≤ length (waits_of self.old)) × (waits_of self.new ≡ drop count (waits_of self.old))) }
         ensures failed { OnErr result (waits_of self.new ≡ waits_of self.old) }
+        ensures same { (self.new.input ≡ self.old.input) × (self.new.telnet ≡ self.old.telnet) }
+        ensures tried { OnErr result (MayFail [] self.old) }
     {
         if self.channel.is_some() {
             return self.write_frames();
@@ -183,6 +218,8 @@ impl Socket {
     fn write_text(&mut self) -> io::Result<usize>
         ensures out { IfOk result (λ count. (count ≤ length (waits_of self.old)) × (waits_of self.new ≡ drop count (waits_of self.old))) }
         ensures failed { OnErr result (waits_of self.new ≡ waits_of self.old) }
+        ensures same { (self.new.input ≡ self.old.input) × (self.new.telnet ≡ self.old.telnet) }
+        ensures tried { OnErr result ((self.old.may_write ≡ true) × (0 < length (waits_of self.old))) }
     {
         self.carried = 0;
         self.waiting.turn();
@@ -198,7 +235,8 @@ pub(crate) fn write_once(
     may_write: &mut bool,
     bytes: &[u8],
 ) -> io::Result<usize>
-    ensures { IfOk result (λ count. count ≤ length bytes.now) }
+    ensures out { IfOk result (λ count. count ≤ length bytes.now) }
+    ensures tried { OnErr result ((may_write.old ≡ true) × (0 < length bytes.now)) }
 {
     if !*may_write || bytes.is_empty() {
         return Ok(0);

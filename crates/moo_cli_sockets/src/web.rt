@@ -1,6 +1,9 @@
 //! Browsers: the page that they get, and their WebSockets, which are connections.
-ghost use Rattle.std.specs.Prelude.{◌≡◌, ◌≢◌, ℕ, IfOk};
+ghost use Rattle.std.specs.Prelude.{◌≡◌, ◌≢◌, ℕ, map, IfOk, OnOk};
+ghost use Rattle.moo_cli_sockets.specs.Browsers.{ServesWeb};
+ghost use Rattle.slab.specs.Slab.{get};
 ghost use Rattle.moo_cli_sockets.specs.Coming.{Follow, IsOpening, held, only};
+ghost use Rattle.moo_cli_sockets.specs.Reading.{IsKept, IsTended};
 
 use crate::Socket;
 use crate::age::{Age, seconds};
@@ -27,7 +30,9 @@ impl Sockets {
         port: u16,
         origins: &[&str],
     ) -> Result<SocketAddr, SocketsFault>
-        ensures { (c : ℕ) → held self.new.sockets c ≡ held self.old.sockets c }
+        ensures held { (c : ℕ) → held self.new.sockets c ≡ held self.old.sockets c }
+        ensures web { OnOk result (ServesWeb (map (λ origin. origin.now) origins.now) self.new) }
+        ensures filter { self.new.telnet ≡ self.old.telnet }
     {
         let registry = self.poll.registry();
         let web = WebListener::open(rt, self.alloc, registry, host, port, origins).map_err(
@@ -40,8 +45,11 @@ impl Sockets {
 
     // Reads requests of browsers and writes responses, once for each. Once in a second, looks which WebSockets are
     // silent. Fails only if memory runs out.
+    #[tactic(auto, using(crate::proofs::Keeping::kept_same))]
     pub(crate) fn serve_web<C: Clock>(&mut self, clock: &C) -> Result<(), AllocError>
-        ensures { (c : ℕ) → held self.new.sockets c ≡ held self.old.sockets c }
+        ensures held { (c : ℕ) → held self.new.sockets c ≡ held self.old.sockets c }
+        ensures kept { (c : ℕ) → IsKept (get self.old.sockets c) (get self.new.sockets c) }
+        ensures filter { self.new.telnet ≡ self.old.telnet }
     {
         let Some(web) = &mut self.web else {
             return Ok(());
@@ -57,8 +65,11 @@ impl Sockets {
     }
 
     // Looks at each WebSocket whether it is silent.
+    #[tactic(auto, using(crate::proofs::Keeping::kept_on, crate::proofs::Keeping::kept_same))]
     fn tend_all(&mut self, now: u64) -> Result<(), AllocError>
-        ensures { (c : ℕ) → held self.new.sockets c ≡ held self.old.sockets c }
+        ensures held { (c : ℕ) → held self.new.sockets c ≡ held self.old.sockets c }
+        ensures kept { (c : ℕ) → IsKept (get self.old.sockets c) (get self.new.sockets c) }
+        ensures filter { self.new.telnet ≡ self.old.telnet }
     {
         for key in 0..self.sockets.capacity() {
             let Ok(c) = u16::try_from(key) else { break };
@@ -70,19 +81,39 @@ impl Sockets {
     // Looks whether a socket is a WebSocket that is silent. Lists it as one to which more may be written if a ping is to
     // be sent, and as one that is read from if it is over.
     fn tend(&mut self, c: u16, now: u64) -> Result<(), AllocError>
-        ensures { (k : ℕ) → held self.new.sockets k ≡ held self.old.sockets k }
+        ensures held { (k : ℕ) → held self.new.sockets k ≡ held self.old.sockets k }
+        ensures kept { (k : ℕ) → IsKept (get self.old.sockets k) (get self.new.sockets k) }
+        ensures others { (k : ℕ) → k ≢ c → get self.new.sockets k ≡ get self.old.sockets k }
+        ensures tended { OnOk result (IsTended now (get self.old.sockets c) (get self.new.sockets c)) }
+        ensures filter { self.new.telnet ≡ self.old.telnet }
     {
-        if let Some(socket) = self.sockets.get_mut(usize::from(c)) {
-            socket.tend(now);
-        }
-        self.keep_writable(c)?;
+        self.tend_socket(c, now)?;
+        self.list_writable(c)?;
         self.keep_readable(c)
+    }
+
+    // Looks whether a socket is a WebSocket that is silent.
+    #[tactic(auto, using(crate::proofs::Keeping::kept_written, crate::proofs::Keeping::kept_same, crate::proofs::Keeping::tended_if, crate::proofs::Keeping::tended_none))]
+    fn tend_socket(&mut self, c: u16, now: u64) -> Result<(), AllocError>
+        ensures held { (k : ℕ) → held self.new.sockets k ≡ held self.old.sockets k }
+        ensures kept { (k : ℕ) → IsKept (get self.old.sockets k) (get self.new.sockets k) }
+        ensures others { (k : ℕ) → k ≢ c → get self.new.sockets k ≡ get self.old.sockets k }
+        ensures tended { OnOk result (IsTended now (get self.old.sockets c) (get self.new.sockets c)) }
+        ensures filter { self.new.telnet ≡ self.old.telnet }
+    {
+        match self.sockets.get_mut(usize::from(c)) {
+            Some(socket) => socket.tend(now),
+            None => Ok(()),
+        }
     }
 
     // Opens a connection for a browser that asked for a WebSocket, if one did. Closes the WebSocket if no number is left
     // for it, or if the system can't watch it.
+    #[tactic(auto, using(crate::proofs::Keeping::kept_same))]
     pub(crate) fn upgrade<L: Clock + Log>(&mut self, rt: &L) -> Result<Option<Event>, AllocError>
-        ensures { IfOk result (λ event. IsOpening self.old.sockets event × Follow (only event) self.old.sockets self.new.sockets) }
+        ensures opens { IfOk result (λ event. IsOpening self.old.sockets event × Follow (only event) self.old.sockets self.new.sockets) }
+        ensures kept { OnOk result ((c : ℕ) → IsKept (get self.old.sockets c) (get self.new.sockets c)) }
+        ensures filter { self.new.telnet ≡ self.old.telnet }
     {
         if self.is_full {
             return Ok(None);
@@ -105,6 +136,7 @@ impl Sockets {
 
     // Keeps the socket of a WebSocket under its number. Its handshake is to be written, and frames may have come with the
     // request.
+    #[tactic(auto, using(crate::proofs::Keeping::kept_inserted, crate::proofs::Keeping::kept_same))]
     fn keep_upgrade<C: Clock>(
         &mut self,
         clock: &C,
@@ -113,7 +145,9 @@ impl Sockets {
     ) -> Result<Option<Event>, AllocError>
         requires vacant { c ≡ self.old.sockets.vacant_key }
         requires given { c ≢ CONSOLE }
-        ensures { IfOk result (λ event. IsOpening self.old.sockets event × Follow (only event) self.old.sockets self.new.sockets) }
+        ensures opens { IfOk result (λ event. IsOpening self.old.sockets event × Follow (only event) self.old.sockets self.new.sockets) }
+        ensures kept { OnOk result ((c : ℕ) → IsKept (get self.old.sockets c) (get self.new.sockets c)) }
+        ensures filter { self.new.telnet ≡ self.old.telnet }
     {
         let Upgrade {
             mut stream,

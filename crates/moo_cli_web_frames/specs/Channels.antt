@@ -1,5 +1,5 @@
 -- The bytes that a channel holds, and what changes them.
-use Rattle.std.specs.Prelude.{◌≡◌, ◌⊎◌, ℕ, ◌≤◌, ◌<◌, Bool, List, [], ◌++◌, length, take, drop, nat_lt, IsOk, IsTrue, IsErr}
+use Rattle.std.specs.Prelude.{◌≡◌, ◌⊎◌, ℕ, ◌≤◌, ◌<◌, Bool, List, [], ◌++◌, length, take, drop, nat_lt, Ok, IsTrue, IsErr}
 use Rattle.websocket.specs.Connection.{write_step}
 use Rattle.websocket.specs.Content.{binary}
 use Rattle.websocket.specs.Stream.{Trace}
@@ -23,7 +23,7 @@ pub record Accepts (trace : Trace) (old new : Channel) : Type 0 where
   pub replies : Replies trace.effects old.frames.items replied
   pub frames : new.frames.items ≡ replied ++ close
   pub written : new.written ≡ old.written
-  pub ends : (IsOk trace.end × (close ≡ []) × (new.is_over ≡ old.is_over)) ⊎ (IsErr trace.end × IsTrue new.is_over)
+  pub ends : ((trace.end ≡ Ok (new.endpoint.context, new.endpoint.input.items)) × (close ≡ []) × (new.is_over ≡ old.is_over)) ⊎ (IsErr trace.end × IsTrue new.is_over)
 
 -- A frame of the first `count` of these bytes was appended, if there are any; else nothing was.
 abbrev pub Loads : List ℕ → ℕ → Channel → Channel → Type 0

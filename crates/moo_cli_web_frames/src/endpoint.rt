@@ -109,6 +109,7 @@ impl Endpoint {
     /// Appends an empty ping to `output`. Fails if a close was sent or received, or if memory runs out.
     pub fn ping(&mut self, output: &mut Vec<u8>) -> Result<(), Error>
         ensures ok { OnOk result (Leaves (write_step self.old.context (ping [])) self.new.context output.old.items output.new.items) }
+        ensures err { IfErr result (GivesError (write_step self.old.context (ping []))) }
         ensures unchanged { OnErr result ((output.new.items ≡ output.old.items) × (self.new.context ≡ self.old.context)) }
         ensures input { self.new.input.items ≡ self.old.input.items }
     {

@@ -1,7 +1,9 @@
 //! What comes on a WebSocket, and what is taken of it.
-ghost use Rattle.std.specs.Prelude.{◌≡◌, ◌++◌, [], length, OnOk};
+ghost use Rattle.std.specs.Prelude.{◌≡◌, ◌++◌, [], length, true, OnOk};
 ghost use Rattle.websocket.specs.Stream.{read_all};
 ghost use Rattle.moo_cli_web_frames.specs.Channels.{Accepts, is_full, pending};
+ghost use Rattle.moo_cli_web_frames.specs.Silence.{silence_from};
+ghost use Rattle.moo_cli_web_frames.specs.Tending.{Asks, Tends};
 
 use crate::channel::{Channel, FRAMES_MOST};
 use crate::endpoint::{Endpoint, close_code};
@@ -16,6 +18,7 @@ impl Channel {
     pub fn new(alloc: Global, response: Vec<u8>, second: u64) -> Channel
         ensures pending { pending result ≡ response.items }
         ensures payload { result.payload.items ≡ [] }
+        ensures silence { result.silence ≡ silence_from second }
     {
         Channel {
             endpoint: Endpoint::new(alloc),
@@ -31,6 +34,7 @@ impl Channel {
     /// memory runs out. Then the channel is over, and what it held is dropped.
     pub fn receive(&mut self, bytes: &[u8]) -> Result<(), AllocError>
         ensures accepts { OnOk result (Accepts (read_all self.old.endpoint.context (self.old.endpoint.input.items ++ bytes.now)) self.old self.new) }
+        ensures heard { self.new.silence ≡ record self.old.silence { has_heard = true } }
     {
         self.silence.hear();
         let received = self
@@ -69,25 +73,37 @@ impl Channel {
     pub fn take_payload(&mut self, alloc: Global) -> Vec<u8>
         ensures payload { result.items ≡ self.old.payload.items }
         ensures rest { self.new.payload.items ≡ [] }
-        ensures same { (self.new.frames ≡ self.old.frames) × (self.new.written ≡ self.old.written) × (self.new.is_over ≡ self.old.is_over) }
+        ensures same { (self.new.frames ≡ self.old.frames) × (self.new.written ≡ self.old.written) × (self.new.is_over ≡ self.old.is_over) × (self.new.endpoint ≡ self.old.endpoint) }
+        ensures silence { self.new.silence ≡ self.old.silence }
     {
         mem::replace(&mut self.payload, Vec::new(alloc))
     }
 
     /// Asks the other side with a ping whether it is there, if nothing came for 30 seconds. Ends the channel if nothing came for 90.
-    /// If memory runs out, there is no ping.
-    pub fn tend(&mut self, now: u64)
+    /// Sends no ping after a close. Fails only if memory runs out.
+    pub fn tend(&mut self, now: u64) -> Result<(), AllocError>
+        ensures tends { OnOk result (Tends now self.old self.new) }
         ensures payload { self.new.payload ≡ self.old.payload }
     {
         match self.silence.due(now) {
-            Due::Nothing => {}
-            Due::Ping => {
-                let _ = self.endpoint.ping(&mut self.frames);
-            }
+            Due::Nothing => Ok(()),
+            Due::Ping => self.ask(),
             Due::End => {
                 self.is_over = true;
                 let _ = self.endpoint.close(CloseCode::Away, &mut self.frames);
+                Ok(())
             }
+        }
+    }
+
+    // Appends a ping to the frames, unless a close was sent or received.
+    fn ask(&mut self) -> Result<(), AllocError>
+        ensures asks { OnOk result (Asks self.old self.new) }
+        ensures same { (self.new.payload ≡ self.old.payload) × (self.new.silence ≡ self.old.silence) }
+    {
+        match self.endpoint.ping(&mut self.frames) {
+            Err(Error::OutOfMemory) => Err(AllocError),
+            _ => Ok(()),
         }
     }
 }

@@ -19,6 +19,7 @@ impl Channel {
     pub fn load(&mut self, bytes: &[u8]) -> Result<usize, Error>
         ensures loads { IfOk result (λ count. Loads bytes.now count self.old self.new) }
         ensures payload { self.new.payload ≡ self.old.payload }
+        ensures silence { self.new.silence ≡ self.old.silence }
         ensures err { OnErr result (pending self.new ≡ pending self.old) }
     {
         if self.is_over || bytes.is_empty() {
@@ -35,6 +36,7 @@ impl Channel {
         ensures rest { pending self.new ≡ drop count (pending self.old) }
         ensures all { IsTrue result ↔ (length (pending self.new) ≡ 0) }
         ensures payload { self.new.payload ≡ self.old.payload }
+        ensures silence { self.new.silence ≡ self.old.silence }
     {
         self.written += count;
         if self.written < self.frames.len() {
@@ -47,7 +49,8 @@ impl Channel {
 
     /// Appends a close to the frames, unless one was sent before or memory runs out.
     pub fn close(&mut self)
-        ensures { self.new.payload ≡ self.old.payload }
+        ensures payload { self.new.payload ≡ self.old.payload }
+        ensures silence { self.new.silence ≡ self.old.silence }
     {
         let _ = self.endpoint.close(CloseCode::Normal, &mut self.frames);
     }

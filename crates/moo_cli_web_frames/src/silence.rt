@@ -1,5 +1,6 @@
 //! The silence of the other side.
 ghost use Rattle.std.specs.Prelude.{◌≡◌, ◌≤◌, ◌+◌, ◌<◌, true, false};
+ghost use Rattle.moo_cli_web_frames.specs.Silence.{silence_from};
 
 /// The seconds of silence after which the other side is asked whether it is there, and asked again.
 pub const PING_SECONDS: u64 = 30;
@@ -31,7 +32,7 @@ pub struct Silence {
 impl Silence {
     /// Returns the silence that begins at this second.
     pub fn new(second: u64) -> Silence
-        ensures { result ≡ record { since = second; asked = second; has_heard = false } }
+        ensures { result ≡ silence_from second }
     {
         Silence {
             since: second,
@@ -50,10 +51,10 @@ impl Silence {
     /// Returns what is to be done at this second, and takes a ping as sent. Does nothing if something came since the last look.
     pub fn due(&mut self, now: u64) -> Due
         ensures end { result ≡ Due.End → (self.old.has_heard ≡ false) × (self.old.since + 90 ≤ now) }
-        ensures ping { result ≡ Due.Ping → (self.old.has_heard ≡ false) × (self.old.asked + 30 ≤ now) × (now < self.old.since + 90) × (self.new.asked ≡ now) }
-        ensures nothing { result ≡ Due.Nothing → self.old.has_heard ≡ false → (now < self.old.since + 90) × (now < self.old.asked + 30) }
+        ensures ping { result ≡ Due.Ping → (self.old.has_heard ≡ false) × (self.old.asked + 30 ≤ now) × (now < self.old.since + 90) × (self.new ≡ record self.old { asked = now }) }
+        ensures nothing { result ≡ Due.Nothing → self.old.has_heard ≡ false → (now < self.old.since + 90) × (now < self.old.asked + 30) × (self.new ≡ self.old) }
         ensures since { self.old.has_heard ≡ false → self.new.since ≡ self.old.since }
-        ensures heard { self.old.has_heard ≡ true → (result ≡ Due.Nothing) × (self.new ≡ record { since = now; asked = now; has_heard = false }) }
+        ensures heard { self.old.has_heard ≡ true → (result ≡ Due.Nothing) × (self.new ≡ silence_from now) }
     {
         if self.has_heard {
             *self = Silence::new(now);

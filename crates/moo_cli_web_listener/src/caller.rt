@@ -1,5 +1,8 @@
 //! The connection of a browser whose request isn't answered yet.
-ghost use Rattle.std.specs.Prelude.{◌≤◌, length};
+ghost use Rattle.std.specs.Prelude.{◌≡◌, ◌≤◌, List, [], ℕ, drop, length, true, IfOk, IfSome};
+ghost use Rattle.moo_cli_web_request.specs.Requests.{AsksFor};
+ghost use Rattle.moo_cli_web_request.specs.declared.allowed.Allowed.{Allowed};
+ghost use Rattle.moo_cli_web_listener.specs.Callers.{HandsOn, IsAt, IsCaller};
 
 use mio::net::TcpStream;
 use moo_cli_web_page::PAGE;
@@ -58,7 +61,11 @@ pub struct Caller {
 
 impl Caller {
     /// Returns a caller that was just accepted.
-    pub fn new(alloc: Global, stream: TcpStream, arrival: u64) -> Caller {
+    pub fn new(alloc: Global, stream: TcpStream, arrival: u64) -> Caller
+        ensures input { result.input.items ≡ [] }
+        ensures stage { result.stage ≡ Stage.Reading }
+        ensures stream { (result.stream ≡ stream) × (result.arrival ≡ arrival) }
+    {
         Caller {
             stream,
             input: Vec::new(alloc),
@@ -69,7 +76,9 @@ impl Caller {
     }
 
     /// Records that the system reports the connection as ready.
-    pub fn wake(&mut self) {
+    pub fn wake(&mut self)
+        ensures { self.new ≡ record self.old { is_ready = true } }
+    {
         self.is_ready = true;
     }
 
@@ -79,7 +88,10 @@ impl Caller {
     }
 
     /// Reads once of its request, or writes once of the response. Fails only if memory runs out.
-    pub fn step(&mut self, allowed: &Allowed) -> Result<Progress, AllocError> {
+    pub fn step(&mut self, allowed: &Allowed) -> Result<Progress, AllocError>
+        ensures keeps { IsCaller allowed.now self.old → IsCaller allowed.now self.new }
+        ensures same { (self.new.stream ≡ self.old.stream) × (self.new.arrival ≡ self.old.arrival) }
+    {
         if !self.is_ready {
             return Ok(Progress::None);
         }
@@ -91,7 +103,11 @@ impl Caller {
     }
 
     // Reads once, and looks at what the request asks for.
-    fn read(&mut self, allowed: &Allowed) -> Result<Progress, AllocError> {
+    fn read(&mut self, allowed: &Allowed) -> Result<Progress, AllocError>
+        requires { self.old.stage ≡ Stage.Reading }
+        ensures keeps { IsCaller allowed.now self.old → IsCaller allowed.now self.new }
+        ensures same { (self.new.stream ≡ self.old.stream) × (self.new.arrival ≡ self.old.arrival) }
+    {
         let mut buffer = [0u8; READ_MOST];
         let count = match self.stream.read(&mut buffer) {
             Ok(0) => return Ok(Progress::Done),
@@ -99,21 +115,20 @@ impl Caller {
             Err(error) => return Ok(self.wait(&error)),
         };
         self.input.extend_from_slice(&buffer[..count])?;
-        self.stage = match read_request(&self.input, allowed) {
-            Request::Incomplete => Stage::Reading,
-            Request::Page => Stage::Writing(PAGE),
-            Request::Refused(refusal) => Stage::Writing(refusal.response()),
-            Request::Upgrade(accept, length) => Stage::Upgrading(accept, length),
-        };
+        self.stage = begin_answer(read_request(&self.input, allowed));
         Ok(Progress::Some)
     }
 
     // Writes once of the response.
-    fn write(&mut self, rest: &'static [u8]) -> Progress {
+    fn write(&mut self, rest: &'static [u8]) -> Progress
+        requires { self.old.stage ≡ Stage.Writing rest }
+        ensures keeps { (allowed : Allowed) → IsCaller allowed self.old → IsCaller allowed self.new }
+        ensures same { (self.new.stream ≡ self.old.stream) × (self.new.arrival ≡ self.old.arrival) }
+    {
         match self.stream.write(rest) {
             Ok(count) if count == rest.len() => Progress::Done,
             Ok(count) => {
-                self.stage = Stage::Writing(&rest[count..]);
+                self.stage = Stage::Writing(skip_front(rest, count));
                 Progress::Some
             }
             Err(error) => self.wait(&error),
@@ -121,7 +136,9 @@ impl Caller {
     }
 
     // Waits until the system reports the connection as ready, if an error says no more. Another error ends it.
-    fn wait(&mut self, error: &io::Error) -> Progress {
+    fn wait(&mut self, error: &io::Error) -> Progress
+        ensures { self.new ≡ record self.old { is_ready = self.new.is_ready } }
+    {
         match error.kind() {
             ErrorKind::WouldBlock => {
                 self.is_ready = false;
@@ -133,7 +150,9 @@ impl Caller {
     }
 
     /// Makes a WebSocket of it, if it waits to become one. Fails only if memory runs out.
-    pub fn upgrade(self, alloc: Global) -> Result<Option<Upgrade>, AllocError> {
+    pub fn upgrade(self, alloc: Global) -> Result<Option<Upgrade>, AllocError>
+        ensures { IfOk result (λ upgrade. IfSome upgrade (λ upgrade. (length : ℕ) × HandsOn self length upgrade)) }
+    {
         let Caller {
             stream,
             input,
@@ -153,4 +172,24 @@ impl Caller {
             frames,
         }))
     }
+}
+
+// Returns how far the answer to a request is that was just read.
+fn begin_answer(request: Request) -> Stage
+    ensures { (allowed : Allowed) (bytes : List ℕ) → AsksFor allowed bytes request → IsAt allowed bytes result }
+{
+    match request {
+        Request::Incomplete => Stage::Reading,
+        Request::Page => Stage::Writing(PAGE),
+        Request::Refused(refusal) => Stage::Writing(refusal.response()),
+        Request::Upgrade(accept, length) => Stage::Upgrading(accept, length),
+    }
+}
+
+// Returns these bytes without the first `count`.
+fn skip_front(bytes: &'static [u8], count: usize) -> &'static [u8]
+    requires { count ≤ length bytes.now }
+    ensures { result.now ≡ drop count bytes.now }
+{
+    &bytes[count..]
 }

@@ -1,5 +1,8 @@
 //! The listener for browsers.
-ghost use Rattle.std.specs.Prelude.{◌≤◌, ◌<◌, ◌+◌};
+ghost use Rattle.std.specs.Prelude.{◌≡◌, ◌≤◌, ◌+◌, ℕ, map, None, IfOk, IfSome};
+ghost use Rattle.slab.specs.Slab.{slab_len};
+ghost use Rattle.moo_cli_web_listener.specs.Callers.{AreCallers, IsFirst, MakesRoom, Takes};
+ghost use Rattle.moo_cli_web_listener.specs.Names.{AllowsNames};
 
 use crate::caller::{Caller, Progress, Upgrade};
 use crate::names::allowed_names;
@@ -44,7 +47,10 @@ impl WebListener {
         host: IpAddr,
         port: u16,
         origins: &[&str],
-    ) -> io::Result<WebListener> {
+    ) -> io::Result<WebListener>
+        ensures callers { IfOk result (λ web. AreCallers web.allowed web.callers) }
+        ensures names { IfOk result (λ web. (port : ℕ) × AllowsNames port (map (λ origin. origin.now) origins.now) web.allowed) }
+    {
         let mut listener = TcpListener::bind(rt, SocketAddr::from((host, port)))?;
         registry.register(&mut listener, LISTENER, Interest::READABLE)?;
         let address = listener.local_addr()?;
@@ -65,7 +71,11 @@ impl WebListener {
     }
 
     /// Records that the system reports this token as ready. That of another does nothing.
-    pub fn wake(&mut self, token: usize) {
+    #[tactic(auto, using(crate::proofs::Calling::woken_callers))]
+    pub fn wake(&mut self, token: usize)
+        ensures callers { AreCallers self.old.allowed self.old.callers → AreCallers self.new.allowed self.new.callers }
+        ensures allowed { self.new.allowed ≡ self.old.allowed }
+    {
         if token == LISTENER.0 {
             self.may_accept = true;
             return;
@@ -79,11 +89,10 @@ impl WebListener {
 
     /// Accepts a browser, if one waits, unless its descriptor would be at this number or a higher one. Then makes a step of each
     /// caller. Returns whether anything was done. Fails only if memory runs out.
-    pub fn serve(
-        &mut self,
-        registry: &Registry,
-        most_descriptors: u64,
-    ) -> Result<bool, AllocError> {
+    pub fn serve(&mut self, registry: &Registry, most_descriptors: u64) -> Result<bool, AllocError>
+        ensures callers { AreCallers self.old.allowed self.old.callers → AreCallers self.new.allowed self.new.callers }
+        ensures allowed { self.new.allowed ≡ self.old.allowed }
+    {
         let mut is_busy = self.accept(registry, most_descriptors)?;
         for key in 0..self.callers.capacity() {
             let progress = self.step(key)?;
@@ -93,7 +102,10 @@ impl WebListener {
     }
 
     // Makes a step of a caller, and closes its connection once it is done.
-    fn step(&mut self, key: usize) -> Result<Progress, AllocError> {
+    fn step(&mut self, key: usize) -> Result<Progress, AllocError>
+        ensures callers { AreCallers self.old.allowed self.old.callers → AreCallers self.new.allowed self.new.callers }
+        ensures allowed { self.new.allowed ≡ self.old.allowed }
+    {
         let Some(caller) = self.callers.get_mut(key) else {
             return Ok(Progress::None);
         };
@@ -105,7 +117,10 @@ impl WebListener {
     }
 
     // Accepts a browser, if one waits, and returns whether one did.
-    fn accept(&mut self, registry: &Registry, most_descriptors: u64) -> Result<bool, AllocError> {
+    fn accept(&mut self, registry: &Registry, most_descriptors: u64) -> Result<bool, AllocError>
+        ensures callers { AreCallers self.old.allowed self.old.callers → AreCallers self.new.allowed self.new.callers }
+        ensures allowed { self.new.allowed ≡ self.old.allowed }
+    {
         if !self.may_accept {
             return Ok(false);
         }
@@ -121,7 +136,10 @@ impl WebListener {
     }
 
     // Keeps a new caller. Closes its connection if the system can't watch it.
-    fn keep(&mut self, registry: &Registry, mut stream: TcpStream) -> Result<(), AllocError> {
+    fn keep(&mut self, registry: &Registry, mut stream: TcpStream) -> Result<(), AllocError>
+        ensures callers { AreCallers self.old.allowed self.old.callers → AreCallers self.new.allowed self.new.callers }
+        ensures allowed { self.new.allowed ≡ self.old.allowed }
+    {
         self.make_room();
         self.callers.reserve(1)?;
         let key = self.callers.vacant_key();
@@ -139,23 +157,25 @@ impl WebListener {
     }
 
     // Closes the connection of the caller that came first, if there are as many callers as there may be.
-    fn make_room(&mut self) {
+    fn make_room(&mut self)
+        ensures room { AreCallers self.old.allowed self.old.callers → MakesRoom self.old.callers self.new.callers }
+        ensures callers { AreCallers self.old.allowed self.old.callers → AreCallers self.new.allowed self.new.callers }
+        ensures allowed { self.new.allowed ≡ self.old.allowed }
+    {
         if self.callers.len() < CALLERS_MOST {
             return;
         }
-        let mut first = None;
-        for key in 0..self.callers.capacity() {
-            if let Some(caller) = self.callers.get(key) {
-                first = earlier(first, (caller.arrival, key));
-            }
-        }
-        if let Some((_, key)) = first {
+        if let Some((_, key)) = first_caller(&self.callers) {
             self.callers.try_remove(key);
         }
     }
 
     /// Removes a caller that waits to become a WebSocket, and returns its connection. Fails only if memory runs out.
-    pub fn take_upgrade(&mut self) -> Result<Option<Upgrade>, AllocError> {
+    pub fn take_upgrade(&mut self) -> Result<Option<Upgrade>, AllocError>
+        ensures takes { AreCallers self.old.allowed self.old.callers → IfOk result (λ upgrade. IfSome upgrade (Takes self.old self.new)) }
+        ensures callers { AreCallers self.old.allowed self.old.callers → AreCallers self.new.allowed self.new.callers }
+        ensures allowed { self.new.allowed ≡ self.old.allowed }
+    {
         for key in 0..self.callers.capacity() {
             if self
                 .callers
@@ -172,10 +192,31 @@ impl WebListener {
     }
 }
 
-// Returns the one with the lower arrival.
-fn earlier(first: Option<(u64, usize)>, caller: (u64, usize)) -> Option<(u64, usize)> {
+// Returns the arrival and the key of the caller that came first, if there are callers.
+#[tactic(auto, using(crate::proofs::Calling::no_callers))]
+fn first_caller(callers: &Slab<Caller>) -> Option<(u64, usize)>
+    ensures first { IsFirst callers.now callers.now.capacity result }
+    ensures none { result ≡ None → slab_len callers.now ≡ 0 }
+{
+    let mut first = None;
+    for key in 0..callers.capacity() {
+        first = earlier(callers, key, first);
+    }
+    first
+}
+
+// Returns the caller that came first: this one, or the one at this key, if there is one.
+#[tactic(auto, using(crate::proofs::Calling::first_earlier, crate::proofs::Calling::first_none, crate::proofs::Calling::first_past, crate::proofs::Calling::first_stays))]
+fn earlier(callers: &Slab<Caller>, key: usize, first: Option<(u64, usize)>) -> Option<(u64, usize)>
+    ensures { IsFirst callers.now key first → IsFirst callers.now (key + 1) result }
+{
+    let Some(caller) = callers.get(key) else {
+        return first;
+    };
+    let arrival = caller.arrival;
     match first {
-        Some(first) if first.0 <= caller.0 => Some(first),
-        _ => Some(caller),
+        None => Some((arrival, key)),
+        Some(first) if first.0 <= arrival => Some(first),
+        Some(_) => Some((arrival, key)),
     }
 }

@@ -1,9 +1,9 @@
 -- What a request asks for, by the grammar of its head, and which hosts and origins may ask.
-use Rattle.std.specs.Prelude.{◌≡◌, ◌⊎◌, ℕ, Bool, true, false, not, List, codes, bytes_eq, take, map, length, Option, None, Some, Result, Ok, Err}
+use Rattle.std.specs.Prelude.{◌≡◌, ◌⊎◌, ◌≤◌, ◌<◌, ℕ, Bool, true, false, not, List, codes, bytes_eq, take, map, length, Option, None, Some, Result, Ok, Err}
 use Rattle.std.specs.List.{list_any}
 use Rattle.std.specs.Global.{Vec}
-use Rattle.httparse.specs.Grammar.{RequestHead, print_request}
-use Rattle.httparse.specs.Spans.{name_and_value}
+use Rattle.httparse.specs.Grammar.{HasNoRequest, NeverHasRequest, ReadsRequest, RequestHead, print_request}
+use Rattle.httparse.specs.Spans.{RequestExceeds, name_and_value}
 use Rattle.httparse.specs.declared.spans.HeaderSpan.{HeaderSpan}
 use Rattle.httparse.specs.declared.spans.RequestSpans.{RequestSpans}
 use Rattle.websocket.specs.Headers.{Fields, eq_ignore_case, fields_of, header_value}
@@ -12,6 +12,7 @@ use Rattle.websocket.specs.declared.handshake.failure.HandshakeError.{HandshakeE
 use Rattle.moo_cli_web_request.specs.declared.allowed.Allowed.{Allowed}
 use Rattle.moo_cli_web_request.specs.declared.request.Request.{Request}
 use Rattle.moo_cli_web_request.specs.declared.request.Request.TheVariants as the
+use Rattle.moo_cli_web_request.specs.declared.refusal.Refusal.{Refusal}
 use Rattle.moo_cli_web_request.specs.declared.refusal.Refusal.TheVariants as refused
 
 -- the text differs from one of these in the case of letters alone
@@ -58,3 +59,31 @@ RequestsBy allowed method target version fields n asked =
 -- what a head asks for
 abbrev pub Requests : Allowed → RequestHead → Request → Type 0
 Requests allowed h asked = RequestsBy allowed h.method h.target h.minor (map name_and_value h.fields) (length (print_request h)) asked
+
+-- The bytes begin with a whole head within the limits, which asks for this.
+abbrev pub HeadRequests : Allowed → List ℕ → Request → Type 0
+HeadRequests allowed bytes asked =
+    (h : RequestHead) × (rest : List ℕ) × ReadsRequest bytes h rest × (length h.fields ≤ 64) × (length (print_request h) ≤ 8192) × Requests allowed h asked
+
+-- only a whole head within the limits asks for this
+abbrev pub IsOfHead : Request → Type 0
+IsOfHead the.Incomplete = ⊥
+IsOfHead (the.Refused refused.TooLarge) = ⊥
+IsOfHead (the.Refused refused.BadRequest) = ⊥
+IsOfHead asked = Unit {0}
+
+-- what the bytes that have come ask for
+abbrev pub AsksFor : Allowed → List ℕ → Request → Type 0
+AsksFor allowed bytes the.Incomplete = HasNoRequest bytes × (length bytes < 8192)
+AsksFor allowed bytes (the.Refused refused.TooLarge) = (8192 ≤ length bytes) ⊎ RequestExceeds 64 bytes
+AsksFor allowed bytes (the.Refused refused.BadRequest) = NeverHasRequest bytes
+AsksFor allowed bytes asked = HeadRequests allowed bytes asked
+
+-- the status line of the response to a refusal
+abbrev pub status_line : Refusal → List ℕ
+status_line refused.BadRequest = codes "HTTP/1.1 400 Bad Request"
+status_line refused.Forbidden = codes "HTTP/1.1 403 Forbidden"
+status_line refused.NotFound = codes "HTTP/1.1 404 Not Found"
+status_line refused.MethodNotAllowed = codes "HTTP/1.1 405 Method Not Allowed"
+status_line refused.UpgradeRequired = codes "HTTP/1.1 426 Upgrade Required"
+status_line refused.TooLarge = codes "HTTP/1.1 431 Request Header Fields Too Large"

@@ -1,9 +1,9 @@
 //! The head of a request, read from the bytes that have come.
-ghost use Rattle.std.specs.Prelude.{◌≡◌, ◌≢◌, ◌⊎◌, ◌<◌, ◌≤◌, ℕ, List, length, take, All, option_map, IfSome};
-ghost use Rattle.httparse.specs.Grammar.{HasNoRequest, NeverHasRequest, ReadsRequest, RequestHead, print_request};
-ghost use Rattle.httparse.specs.Spans.{RequestExceeds, IsHeaderWithin, IsRequestWithin, span_bytes};
+ghost use Rattle.std.specs.Prelude.{◌≡◌, ◌≤◌, ℕ, List, length, All, option_map};
+ghost use Rattle.httparse.specs.Grammar.{ReadsRequest, RequestHead, print_request};
+ghost use Rattle.httparse.specs.Spans.{IsHeaderWithin, IsRequestWithin, span_bytes};
 ghost use Rattle.websocket.specs.Headers.{fields_of, header_value};
-ghost use Rattle.moo_cli_web_request.specs.Requests.{Requests, Upgrades, RequestsBy, fields_in, is_named};
+ghost use Rattle.moo_cli_web_request.specs.Requests.{AsksFor, IsOfHead, Requests, Upgrades, RequestsBy, fields_in, is_named};
 
 use crate::allowed::{Allowed, is_one_of, is_same};
 use crate::refusal::Refusal;
@@ -19,12 +19,11 @@ pub const HEAD_MOST: usize = 8192;
 const FIELDS_MOST: usize = 64;
 
 /// Returns what the bytes that have come ask for. While that is `Incomplete`, call it again with more bytes after them.
+#[tactic(auto, using(crate::proofs::Choices::head_asks))]
 pub fn read_request(bytes: &[u8], allowed: &Allowed) -> Request
     ensures found { (h : RequestHead) (rest : List ℕ) → ReadsRequest bytes.now h rest → length h.fields ≤ 64 → length (print_request h) ≤ 8192
         → Requests allowed.now h result }
-    ensures incomplete { result ≡ Request.Incomplete → HasNoRequest bytes.now × (length bytes.now < 8192) }
-    ensures large { result ≡ Request.Refused Refusal.TooLarge → (8192 ≤ length bytes.now) ⊎ RequestExceeds 64 bytes.now }
-    ensures bad { result ≡ Request.Refused Refusal.BadRequest → NeverHasRequest bytes.now }
+    ensures asks { AsksFor allowed.now bytes.now result }
 {
     let mut spans = [EMPTY_HEADER_SPAN; FIELDS_MOST];
     match parse_request(bytes, &mut spans) {
@@ -42,7 +41,7 @@ fn request_by(bytes: &[u8], head: &RequestSpans, spans: &[HeaderSpan], allowed: 
     requires { IsRequestWithin bytes.now spans.now head.now }
     ensures asks { RequestsBy allowed.now (span_bytes bytes.now head.now.method) (span_bytes bytes.now head.now.path) head.now.version
         (fields_in bytes.now spans.now head.now) head.now.len result }
-    ensures whole { (result ≢ Request.Incomplete) × (result ≢ Request.Refused Refusal.TooLarge) }
+    ensures whole { IsOfHead result }
 {
     let fields = &spans[..head.headers];
     if !has_field(bytes, fields, b"Host", &allowed.hosts) {
@@ -62,7 +61,7 @@ fn request_by(bytes: &[u8], head: &RequestSpans, spans: &[HeaderSpan], allowed: 
 fn upgrade_by(bytes: &[u8], head: &RequestSpans, spans: &[HeaderSpan], allowed: &Allowed) -> Request
     requires { IsRequestWithin bytes.now spans.now head.now }
     ensures upgrades { Upgrades allowed.now (span_bytes bytes.now head.now.method) head.now.version (fields_in bytes.now spans.now head.now) head.now.len result }
-    ensures whole { (result ≢ Request.Incomplete) × (result ≢ Request.Refused Refusal.TooLarge) }
+    ensures whole { IsOfHead result }
 {
     let fields = &spans[..head.headers];
     if !has_field(bytes, fields, b"Origin", &allowed.origins) {

@@ -1,4 +1,6 @@
 //! The reasons for which a request is refused.
+ghost use Rattle.std.specs.Io.{StartsWith};
+ghost use Rattle.moo_cli_web_request.specs.Requests.{status_line};
 
 /// The reason for which a request is refused.
 #[derive(Clone, Copy, Debug, PartialEq, Eq)]
@@ -19,7 +21,9 @@ pub enum Refusal {
 
 impl Refusal {
     /// Returns the whole response, after which the connection is closed.
-    pub fn response(self) -> &'static [u8] {
+    pub fn response(self) -> &'static [u8]
+        ensures { StartsWith result.now (status_line self) }
+    {
         match self {
             Refusal::BadRequest =>
                 b"HTTP/1.1 400 Bad Request\r\nContent-Type: text/plain\r\nContent-Length: 12\r\nConnection: close\r\n\r\nBad request\n",

@@ -12,4 +12,4 @@ returns-in_err-sockets-clause-refused g c = let p = err_from_is_err_and c.from_r
     rw (p.1, p.2) (_, _, _, c.in_ok-server.ensures.begun)
 
 pub returns-clause-begun : goal.returns-clause-begun
-returns-clause-begun g c = record { from = c.in_ok-server.ensures.begun; none = c.in_ok-sockets.ensures; most_is = refl; idle_is = c.new-silence.ensures }
+returns-clause-begun g c = record { from = c.in_ok-server.ensures.begun; none = c.in_ok-sockets.ensures.none; most_is = refl; idle_is = c.new-silence.ensures }

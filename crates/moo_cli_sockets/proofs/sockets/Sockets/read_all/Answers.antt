@@ -1,18 +1,19 @@
-use Rattle.std.proofs.Common.{◌≡◌, ℕ, ◌+◌, ◌<◌, ◌≤◌, List, [], ◌++◌, length, get_or, Contains, Option, refl, sym, ◌∙◌, ap, subst, append_assoc, arith}
+use Rattle.std.proofs.Common.{◌≡◌, ℕ, ◌+◌, ◌<◌, ◌≤◌, List, [], ◌++◌, length, get_or, Contains, Option, inl, refl, sym, ◌∙◌, ap, subst, append_assoc, arith}
 use Rattle.std.specs.List.{AllPairs}
 use Rattle.std.proofs.lemmas.List.{append-nil, get_or_default}
 use Rattle.moo_server_core.specs.declared.event.Event.{Event}
 use Rattle.slab.specs.Slab.{Slab, get}
 use Rattle.moo_cli_sockets.specs.declared.socket.Socket.{Socket}
 use Rattle.moo_cli_sockets.specs.Coming.{Each, Follow, IsListed, IsRead, held, only}
-use Rattle.moo_cli_sockets.proofs.Counting.{each_gap, each_more, reads_leave}
+use Rattle.moo_cli_sockets.specs.Reading.{Brings}
+use Rattle.moo_cli_sockets.proofs.Counting.{each_gap, each_map, each_more, reads_leave}
 use Rattle.moo_cli_sockets.proofs.Elements.{visited_more}
 use Rattle.moo_cli_sockets.proofs.Listing.{listed_on}
 use Rattle.moo_cli_sockets.proofs.Sent.{follow_append}
 use Rattle.moo_cli_sockets.proofs.sockets.Sockets.read_all.Goals as goal
 
 pub loop-c-init : goal.loop-c-init
-loop-c-init c = (0, [], refl, λ k. refl, sym (append-nil c.args.events.now.items), λ j d from below. omega arith, λ j d less. absurd (omega (arith, less)))
+loop-c-init c = (0, [], refl, λ k. refl, sym (append-nil c.args.events.now.items), λ j d from below. omega arith, λ j d less. absurd (omega (arith, less)), refl, λ k from. refl, refl)
 
 pub loop-c-preserved : goal.loop-c-preserved
 loop-c-preserved c =
@@ -30,7 +31,17 @@ loop-c-preserved c =
     let here : held c.loop-c.self.sockets number ≡ held c.args.self.now.sockets number =
     so_far.3 number ∙ reads_leave (λ (k : ℕ). held c.args.self.now.sockets k) number number (held c.args.self.now.sockets number) so_far.1 (omega arith) each in
     let is : IsRead (held c.args.self.now.sockets number) number event = subst (λ (w : Option (List ℕ)). IsRead w number event) here c.in_ok-event.ensures.read.0 in
-    let same : c.keep_readable.new.self.sockets ≡ c.read.new.self.sockets = c.keep_readable.ensures.same in (
+    let same : c.keep_readable.new.self.sockets ≡ c.read.new.self.sockets = c.keep_readable.ensures.same in
+    let now : Slab Socket = c.keep_readable.new.self.sockets in
+    let others : (k : ℕ) → (k ≡ number → ⊥) → get now k ≡ get c.loop-c.self.sockets k =
+    λ k differs. ap (λ (s : Slab Socket). get s k) same ∙ c.read.ensures.others k differs in
+    let brings_before : Each (λ k e. Brings (get c.args.self.now.sockets k) e (get now k)) number so_far.1 =
+    each_map (λ k e. Brings (get c.args.self.now.sockets k) e (get c.loop-c.self.sockets k)) (λ k e. Brings (get c.args.self.now.sockets k) e (get now k)) number so_far.1
+    (λ k less e is. subst (λ (slot : Option Socket). Brings (get c.args.self.now.sockets k) e slot) (sym (others k (λ is. omega (arith, is, less)))) is)
+    (each_gap (λ k e. Brings (get c.args.self.now.sockets k) e (get c.loop-c.self.sockets k)) so_far.0 number so_far.1 up (λ k from below. inl (so_far.8 k from)) so_far.7) in
+    let brings_here : Brings (get c.args.self.now.sockets number) event (get now number) =
+    subst (λ (s : Slab Socket). Brings (get c.args.self.now.sockets number) event (get s number)) (sym same)
+    (subst (λ (slot : Option Socket). Brings slot event (get c.read.new.self.sockets number)) (so_far.8 number up) c.in_ok-event.ensures.brings) in (
       number + 1,
       reads,
       each_more (λ k e. IsRead (held c.args.self.now.sockets k) k e) number so_far.1 reads event each is refl,
@@ -46,10 +57,13 @@ loop-c-preserved c =
           (λ k there. c.in_ok-keep_readable.ensures.others k (subst (λ ns. Contains ns.items k) (sym c.read.ensures.listed) there))
           (so_far.6 j d less))
           c.in_ok-keep_readable.ensures.listed,
+      each_more (λ k e. Brings (get c.args.self.now.sockets k) e (get now k)) number so_far.1 reads event brings_before brings_here refl,
+      λ k from. others k (λ e. omega (arith, e, from)) ∙ so_far.8 k (omega (arith, from, up)),
+      c.keep_readable.ensures.filter ∙ c.read.ensures.filter ∙ so_far.9,
     )
 
 pub returns-clause-read : goal.returns-clause-read
-returns-clause-read c = let all = c.loop-c.invariant in (all.0, all.1, all.2, all.3, all.4)
+returns-clause-read c = let all = c.loop-c.invariant in (all.0, all.1, all.2, all.3, all.4, all.7, all.8)
 
 pub returns-clause-listed : goal.returns-clause-listed
 returns-clause-listed c k was =

@@ -5,8 +5,8 @@ use Rattle.moo_cli_sockets.proofs.Counting.{each_map}
 use Rattle.moo_cli_sockets.proofs.Sent.{follow_append}
 use Rattle.moo_cli_sockets.proofs.sockets.Sockets.take.Goals as goal
 
-pub returns : goal.returns
-returns g c =
+pub returns-clause-comes : goal.returns-clause-comes
+returns-clause-comes g c =
     let read = c.in_ok-read_all.ensures.read in
     let opened = c.in_ok-opened.opened in
     let all = read.4 ∙ ap (λ (es : List Event). es ++ read.1) (c.in_ok-put.ensures ∙ ap (λ (es : List Event). es ++ only opened) c.new-events.ensures.items) in
@@ -15,8 +15,22 @@ returns g c =
       reads = read.1;
       below = read.0;
       all = all;
-      opens = c.in_ok-opened.ensures.0;
+      opens = c.in_ok-opened.ensures.opens.0;
       read = each_map (λ k e. IsRead (held c.open_one.new.self.sockets k) k e) (λ k e. IsRead (held_after k (held c.args.self.now.sockets k) (only opened)) k e) read.0 read.1
-          (λ k less e is. subst (λ (w : Option (List ℕ)). IsRead w k e) (c.in_ok-opened.ensures.1 k) is) read.2;
-      follow = follow_append (only opened) read.1 c.read_all.new.events.items c.args.self.now.sockets c.open_one.new.self.sockets c.read_all.new.self.sockets all c.in_ok-opened.ensures.1 read.3;
+          (λ k less e is. subst (λ (w : Option (List ℕ)). IsRead w k e) (c.in_ok-opened.ensures.opens.1 k) is) read.2;
+      follow = follow_append (only opened) read.1 c.read_all.new.events.items c.args.self.now.sockets c.open_one.new.self.sockets c.read_all.new.self.sockets all c.in_ok-opened.ensures.opens.1 read.3;
+    }
+
+pub returns-clause-arrives : goal.returns-clause-arrives
+returns-clause-arrives g c =
+    let read = c.in_ok-read_all.ensures.read in
+    let opened = c.in_ok-opened.opened in record {
+      opened = opened;
+      reads = read.1;
+      below = read.0;
+      all = read.4 ∙ ap (λ (es : List Event). es ++ read.1) (c.in_ok-put.ensures ∙ ap (λ (es : List Event). es ++ only opened) c.new-events.ensures.items);
+      between = c.open_one.new.self.sockets;
+      kept = c.in_ok-opened.ensures.kept;
+      brings = read.5;
+      others = read.6;
     }

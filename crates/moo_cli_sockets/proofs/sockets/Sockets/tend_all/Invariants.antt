@@ -1,6 +1,11 @@
 use Rattle.std.proofs.Common.{◌≡◌, ℕ}
+use Rattle.slab.specs.Slab.{get}
 use Rattle.moo_cli_sockets.specs.Coming.{held}
+use Rattle.moo_cli_sockets.specs.Reading.{IsKept}
 use Rattle.moo_cli_sockets.proofs.sockets.Sockets.tend_all.Given as goal
 
 abbrev pub invariant-loop-key : goal.invariant-loop-key
-invariant-loop-key l = (c : ℕ) → held l.self.sockets c ≡ held l.initial.self.sockets c
+invariant-loop-key l =
+    ((c : ℕ) → held l.self.sockets c ≡ held l.initial.self.sockets c)
+    × ((c : ℕ) → IsKept (get l.initial.self.sockets c) (get l.self.sockets c))
+    × (l.self.telnet ≡ l.initial.self.telnet)

@@ -1,0 +1,7 @@
+use Rattle.std.proofs.Common.{◌≡◌}
+use Rattle.moo_cli_web_listener.specs.Callers.{AreCallers}
+use Rattle.moo_cli_web_listener.proofs.listener.WebListener.serve.Given as goal
+
+abbrev pub invariant-loop-key : goal.invariant-loop-key
+invariant-loop-key l =
+    (AreCallers l.fn.self.allowed l.fn.self.callers → AreCallers l.self.allowed l.self.callers) × (l.self.allowed ≡ l.fn.self.allowed)

@@ -1,0 +1,70 @@
+-- The callers of a listener: what came of their requests, and how far the responses are.
+use Rattle.std.specs.Prelude.{◌≡◌, ◌≢◌, ◌⊎◌, ℕ, ◌<◌, ◌≤◌, List, [], ◌++◌, drop, length, Option, None, Some, IfSome}
+use Rattle.std.specs.Io.{StartsWith}
+use Rattle.slab.specs.Slab.{Slab, Updates, get, slab_len}
+use Rattle.moo_cli_web_page.specs.declared.page.TheConstants.{PAGE}
+use Rattle.moo_cli_web_request.specs.Requests.{AsksFor, status_line}
+use Rattle.moo_cli_web_request.specs.declared.allowed.Allowed.{Allowed}
+use Rattle.moo_cli_web_request.specs.declared.request.Request.{Request}
+use Rattle.moo_cli_web_request.specs.declared.request.Request.TheVariants as the
+use Rattle.moo_cli_web_listener.specs.declared.caller.Caller.{Caller}
+use Rattle.moo_cli_web_listener.specs.declared.caller.Stage.{Stage}
+use Rattle.moo_cli_web_listener.specs.declared.caller.Stage.TheVariants as stage
+use Rattle.moo_cli_web_listener.specs.declared.caller.Upgrade.{Upgrade}
+use Rattle.moo_cli_web_listener.specs.declared.listener.WebListener.{WebListener}
+
+-- the whole response to a request: the page, or a refusal with its status line
+abbrev pub IsResponse : Request → List ℕ → Type 0
+IsResponse the.Page bytes = bytes ≡ PAGE.now
+IsResponse (the.Refused refusal) bytes = StartsWith bytes (status_line refusal)
+IsResponse asked bytes = ⊥
+
+-- These bytes are the end of the response to what was asked for.
+pub record IsRest (asked : Request) (rest : List ℕ) : Type 0 where
+  pub response : List ℕ
+  pub sent : List ℕ
+  pub is_response : IsResponse asked response
+  pub all : response ≡ sent ++ rest
+
+-- how far the answer to the bytes is that have come
+abbrev pub IsAt : Allowed → List ℕ → Stage → Type 0
+IsAt allowed bytes stage.Reading = (bytes ≡ []) ⊎ AsksFor allowed bytes the.Incomplete
+IsAt allowed bytes (stage.Writing rest) = (asked : Request) × AsksFor allowed bytes asked × IsRest asked rest.now
+IsAt allowed bytes (stage.Upgrading accept n) = AsksFor allowed bytes (the.Upgrade accept n)
+
+-- a caller is as far as its bytes ask for
+abbrev pub IsCaller : Allowed → Caller → Type 0
+IsCaller allowed caller = IsAt allowed caller.input.items caller.stage
+
+-- There are at most 64 callers, and each is as far as its bytes ask for.
+pub record AreCallers (allowed : Allowed) (callers : Slab Caller) : Type 0 where
+  pub few : slab_len callers ≤ 64
+  pub each : (key : ℕ) → IfSome (get callers key) (IsCaller allowed)
+
+-- The browser's stream and the bytes after its head are handed on.
+pub record HandsOn (caller : Caller) (length : ℕ) (upgrade : Upgrade) : Type 0 where
+  pub stage : caller.stage ≡ stage.Upgrading upgrade.accept length
+  pub stream : upgrade.stream ≡ caller.stream
+  pub frames : upgrade.frames.items ≡ drop length caller.input.items
+
+-- A caller whose head asks for a WebSocket is taken from the others, and handed on.
+pub record Takes (old new : WebListener) (upgrade : Upgrade) : Type 0 where
+  pub key : ℕ
+  pub caller : Caller
+  pub was : get old.callers key ≡ Some caller
+  pub length : ℕ
+  pub asks : AsksFor old.allowed caller.input.items (the.Upgrade upgrade.accept length)
+  pub hands : HandsOn caller length upgrade
+  pub taken : Updates old.callers new.callers key None
+
+-- the arrival and the key of the caller that came first, among those with keys below n
+abbrev pub IsFirst : Slab Caller → ℕ → Option (ℕ × ℕ) → Type 0
+IsFirst callers n None = (k : ℕ) → k < n → get callers k ≡ None
+IsFirst callers n (Some first) =
+    (caller : Caller) × (get callers first.1 ≡ Some caller) × (caller.arrival ≡ first.0)
+    × ((k : ℕ) → k < n → IfSome (get callers k) (λ other. first.0 ≤ other.arrival))
+
+-- There is room for one more: there was, or the caller that came first of all was taken out.
+pub record MakesRoom (old new : Slab Caller) : Type 0 where
+  pub room : slab_len new < 64
+  pub kept : (new ≡ old) ⊎ ((64 ≤ slab_len old) × (first : ℕ × ℕ) × IsFirst old old.capacity (Some first) × Updates old new first.1 None)

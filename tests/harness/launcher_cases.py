@@ -190,10 +190,10 @@ def an_installed_program_needs_no_repository(folder):
 def a_server_has_limits_and_a_console(folder):
     folder.release()
     world = folder.top / "a.db"
-    limits = "--login-seconds 300 --most-unconnected 1000 --telnet --must-save"
+    limits = "--login-seconds 300 --most-unconnected 1000 --telnet --must-save --log-logins 10"
     yield folder.run("serve", str(world), "0"), 0, f"released serve {world} 0 --rounds 18446744073709551615 {limits} --console\n"
     yield folder.run("serve", str(world), "0", "--rounds", "3"), 0, f"released serve {world} 0 --rounds 3 {limits} --console\n"
-    given = ["--rounds", "3", "--login-seconds", "0", "--most-unconnected=5", "--telnet", "--must-save", "--console"]
+    given = ["--rounds", "3", "--login-seconds", "0", "--most-unconnected=5", "--telnet", "--must-save", "--log-logins=0", "--console"]
     yield folder.run("serve", str(world), "0", *given), 0, f"released serve {world} 0 {' '.join(given)}\n"
     yield folder.run("serve", "--help"), 0, "released serve --help\n"
     yield Result(0, "".join(path.name for path in folder.top.glob("a.db*")).encode()), 0, ""
@@ -204,14 +204,14 @@ def a_server_without_a_pipe_has_no_console(folder):
     world = folder.top / "none" / "a.db"
     yield (folder.run("serve", str(world), "0", "--rounds", "3"), 0,
            f"moo: there is no console, since {world}.console cannot be made: a signal ends the server at once\n"
-           f"released serve {world} 0 --rounds 3 --login-seconds 300 --most-unconnected 1000 --telnet --must-save\n")
+           f"released serve {world} 0 --rounds 3 --login-seconds 300 --most-unconnected 1000 --telnet --must-save --log-logins 10\n")
 
 
 def a_world_that_everybody_can_read_is_warned_of(folder):
     folder.release()
     folder.write("a.db", "")
     world = folder.top / "a.db"
-    given = ["--rounds", "3", "--login-seconds", "0", "--most-unconnected", "5", "--telnet", "--must-save", "--console"]
+    given = ["--rounds", "3", "--login-seconds", "0", "--most-unconnected", "5", "--telnet", "--must-save", "--log-logins", "0", "--console"]
     yield (folder.run("serve", str(world), "0", *given), 0,
            f"moo: everybody on this machine can read {world}, and the passwords in it: chmod o-r {world}\nreleased serve {world} 0 {' '.join(given)}\n")
     world.chmod(0o640)

@@ -6,10 +6,11 @@ import re
 import shutil
 import subprocess
 import tempfile
+import time
 from functools import partial
 
 from crowd_cases import a_line_next_to_a_crowd
-from outcome import Outcome, Result, Skipped
+from outcome import PATIENCE, Outcome, Result, Skipped
 from serving import DATA, FILE, Server, Unlike, reset, rest, same, sees, sees_last, starting
 
 LISTENS = "listening on 127.0.0.1:PORT\n"
@@ -144,6 +145,98 @@ def a_clock_that_is_set_back_is_not_shown(moo):
             sees_last(client, LAST)
 
 
+# The option that logs logins, and how the lines of the log on them begin.
+LOGINS = ["--log-logins", "10"]
+ABOUT = r"\[INFO  moo::serve\] connection "
+
+# Nobody logs in: a line is answered and comes to nothing, or ends the connection.
+REFUSES = 'set_verb_code(#0, "do_login_command", {"notify(player, \\"no\\"); return 0;"});'
+HANGS_UP = 'set_verb_code(#0, "do_login_command", {"if (args) boot_player(player); endif return 0;"});'
+
+
+def logs(server, *lines):
+    """Fails if the log has other lines of the server than these after the first."""
+    same("logged", server.read("logged"), BEGUN + "".join(f"[INFO  moo::serve] {line}\n" for line in lines))
+
+
+def a_login_a_redirection_and_a_leaving_are_logged(moo):
+    with Server(moo, starting("return 0;"), *LOGINS) as server:
+        client = server.connect()
+        client.sendall(b"look\n")
+        sees(client, GREETING + LOOKED)
+        other = server.connect()
+        sees_last(client, b"*** Redirecting connection to new port ***\r\n")
+        reset(other)
+        server.wait("logged", ABOUT + "1: player #3 has left")
+        logs(server, "connection 0: player #3 has logged in", "connection 1: player #3 has logged in, and is no longer on connection 0",
+             "connection 1: player #3 has left")
+
+
+def who_leaves_by_a_shutdown_is_logged(moo):
+    with Server(moo, starting("return 0;"), *LOGINS) as server:
+        client = server.connect()
+        client.sendall(b";shutdown();\n")
+        sees_last(client, GREETING + LAST)
+        told = "".join(f"[INFO  moo::serve] {line}\n" for line in [
+            "connection 0: player #3 has logged in", "connection 0: player #3 has left", "checkpoint done: 446 bytes in TIME"])
+        server.is_over(LISTENS, BEGUN + told)
+
+
+def a_line_that_logs_nobody_in_is_logged(moo):
+    with Server(moo, starting(REFUSES), *LOGINS) as server:
+        client = server.connect()
+        client.sendall(b"half a line")
+        sees(client, b"no\r\n")
+        client.sendall(b" and its end\n")
+        sees(client, b"no\r\n")
+        server.wait("logged", ABOUT + "0: nobody is logged in after a line")
+        logs(server, "connection 0: nobody is logged in after a line")
+
+
+def a_line_that_ends_its_connection_is_logged(moo):
+    with Server(moo, starting(HANGS_UP), *LOGINS) as server:
+        client = server.connect()
+        client.sendall(b"connect wizard\n")
+        sees_last(client, b"*** Disconnected ***\r\n")
+        server.wait("logged", ABOUT + "0: nobody is logged in after a line, and it is leaving")
+        logs(server, "connection 0: nobody is logged in after a line, and it is leaving")
+
+
+def all_are_counted(server, lines, most, begun, line, count):
+    """Waits until so many lines are logged or counted, and fails if the log has more than so many in a second since then."""
+    end, counted = time.monotonic() + PATIENCE, 0
+    while counted < lines and time.monotonic() < end:
+        time.sleep(0.01)
+        seconds = 2 + int(time.monotonic() - begun)
+        logged = server.read("logged")
+        written = len(re.findall(f"^{ABOUT}{line}$", logged, re.MULTILINE))
+        counted = written + sum(map(int, re.findall(rf"(\d+) more lines on {count} were left out in one second$", logged, re.MULTILINE)))
+    same("lines", counted, lines)
+    same("too many", max(0, written - most * seconds), 0)
+
+
+def a_storm_of_lines_is_counted(moo):
+    with Server(moo, starting(REFUSES), "--log-logins", "3") as server:
+        client = server.connect()
+        sees(client, b"no\r\n")
+        begun = time.monotonic()
+        for _ in range(100):
+            client.sendall(b"connect wizard\n")
+            sees(client, b"no\r\n")
+        all_are_counted(server, 100, 3, begun, "0: nobody is logged in after a line", "those who aren't logged in")
+
+
+def a_storm_of_logins_is_counted(moo):
+    """Each client redirects the one before, and the last one leaves."""
+    with Server(moo, starting("return 0;"), "--log-logins", "3") as server:
+        begun = time.monotonic()
+        clients = [server.connect() for _ in range(100)]
+        for client in clients[:-1]:
+            rest(client)
+        reset(clients[-1])
+        all_are_counted(server, 101, 3, begun, r"\d+: player #3 has (logged in(, and is no longer on connection \d+)?|left)", "players")
+
+
 def who_sends_nothing_is_hung_up(moo):
     with Server(moo, starting("return 0;"), "--idle-seconds", "1") as server:
         client = server.connect()
@@ -168,6 +261,12 @@ CASES = [
     (output_waits_until_it_is_read, ()),
     (the_next_one_under_a_number_starts_clean, ()),
     (a_clock_that_is_set_back_is_not_shown, ()),
+    (a_login_a_redirection_and_a_leaving_are_logged, ()),
+    (who_leaves_by_a_shutdown_is_logged, ()),
+    (a_line_that_logs_nobody_in_is_logged, ()),
+    (a_line_that_ends_its_connection_is_logged, ()),
+    (a_storm_of_lines_is_counted, ()),
+    (a_storm_of_logins_is_counted, ()),
     (who_sends_nothing_is_hung_up, ()),
     (a_shutdown_is_written_and_the_server_closes, ()),
     (a_line_next_to_a_crowd, ()),

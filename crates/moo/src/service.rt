@@ -38,6 +38,7 @@ pub fn serve(rt: &HostRuntime, service: Service) -> io::Result<u8> {
             idle_seconds: service.idle_seconds,
         },
         has_console: service.console,
+        login_lines: service.log_logins,
         has_telnet: service.telnet,
         must_save: service.must_save,
     };

@@ -69,6 +69,8 @@ pub struct Service<'a> {
     pub telnet: bool,
     /// Whether the exit status says that the server ended without a last checkpoint.
     pub must_save: bool,
+    /// The most lines of the log on logins in a second, or 0 for none.
+    pub log_logins: u64,
     /// The time before each line of the log.
     pub log_times: Times,
 }
@@ -149,6 +151,7 @@ fn service_with<'a>(
         console: found.get_flag("console"),
         telnet: found.get_flag("telnet"),
         must_save: found.get_flag("must-save"),
+        log_logins: found.get_one::<u64>("log-logins")?,
         log_times: times_of(found),
     })
 }
@@ -244,6 +247,7 @@ fn serve<'a>(alloc: Global) -> Result<Command<'a>, AllocError> {
         .arg(console(alloc))?
         .arg(telnet(alloc))?
         .arg(must_save(alloc))?
+        .arg(log_logins(alloc))?
         .arg(log_times(alloc))
 }
 
@@ -312,6 +316,17 @@ fn must_save<'a>(alloc: Global) -> Arg<'a> {
         .long("must-save")
         .action(ArgAction::SetTrue)
         .help("End with status 3 if there is no last checkpoint that is done")
+}
+
+fn log_logins<'a>(alloc: Global) -> Arg<'a> {
+    Arg::new(alloc, "log-logins")
+        .long("log-logins")
+        .value_name("N")
+        .help(
+            "Log logins and departures, and lines that log nobody in, at most N of each in a second; 0 for none",
+        )
+        .value_parser(value_parser!(u64))
+        .default_value("0")
 }
 
 fn log_times<'a>(alloc: Global) -> Arg<'a> {

@@ -8,13 +8,17 @@ ghost use Rattle.moo_cli_serve.specs.Course.{Course, Given, hangs_up};
 ghost use Rattle.moo_cli_serve.specs.Rounds.{GivenIfOpen};
 ghost use Rattle.moo_cli_serve.specs.Service.{IsRefused};
 
+use crate::login_log::LoginLog;
+use log::Log;
 use moo_disk::Disk;
 use moo_server_core::{Cause, Event, Phase, ServerCore, StartApplication};
 use std::slice;
 
 /// Gives events to a server, one after another, each in a run of its own. Drops what waits for a connection that hung up, so
-/// that the next connection of its number starts empty. Returns the cause if the server refuses an event.
-pub fn give<S: StartApplication, D: Disk>(
+/// that the next connection of its number starts empty. Logs the logins. Returns the cause if the server refuses an event.
+pub fn give<S: StartApplication, D: Disk, L: Log>(
+    rt: &L,
+    logins: &mut LoginLog,
     server: &mut ServerCore<S>,
     disk: &mut D,
     events: &[Event],
@@ -26,16 +30,20 @@ pub fn give<S: StartApplication, D: Disk>(
     ensures refused { IfErr result (λ cause. IsRefused S.layer D.kind cause events.now server.old disk.old server.new disk.new) }
 {
     for event in events {
+        let is_attempt = logins.is_attempt(server, event);
         if let Err(fault) = server.run(disk, slice::from_ref(event)) {
             return Err(fault.cause);
         }
         forget(server, event);
+        logins.follow(rt, server, event, is_attempt);
     }
     Ok(())
 }
 
 /// Gives events to a server as `give` does, unless it is closed.
-pub fn give_if_open<S: StartApplication, D: Disk>(
+pub fn give_if_open<S: StartApplication, D: Disk, L: Log>(
+    rt: &L,
+    logins: &mut LoginLog,
     server: &mut ServerCore<S>,
     disk: &mut D,
     events: &[Event],
@@ -49,7 +57,7 @@ pub fn give_if_open<S: StartApplication, D: Disk>(
     if matches!(server.phase(), Phase::Closed) {
         return Ok(());
     }
-    give(server, disk, events)
+    give(rt, logins, server, disk, events)
 }
 
 // Takes and drops what waits for a connection that hung up.

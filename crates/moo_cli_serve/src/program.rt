@@ -41,6 +41,8 @@ pub struct Served<'a> {
     pub limits: Limits,
     /// Whether standard input and output are the operator's own connection.
     pub has_console: bool,
+    /// The most lines on logins in a second, or 0 for none.
+    pub login_lines: u64,
     /// Whether the commands of telnet are dropped from what clients send.
     pub has_telnet: bool,
     /// Whether a server that ends without a last checkpoint has ended badly.
@@ -123,6 +125,7 @@ pub fn serve_disk<S: StartApplication, D: Disk + Watched + Drop, R: Net + Clock 
         served.web,
         served.limits,
         served.has_console,
+        served.login_lines,
         served.has_telnet.then_some(Telnet::new()),
     )?;
     let address = serving.address()?;

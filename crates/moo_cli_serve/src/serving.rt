@@ -15,6 +15,7 @@ use crate::giving::{give, give_if_open};
 use crate::leaving::{log_lines, write_all};
 use crate::limits::Limits;
 use crate::listening::{Web, listen};
+use crate::login_log::LoginLog;
 use crate::silence::Silence;
 use crate::strangers::Strangers;
 use crate::timeouts::Timeouts;
@@ -53,6 +54,7 @@ pub struct Serving<S: StartApplication, D: Disk> {
     /// The last reported moment.
     moment: u32,
     timeouts: Timeouts,
+    logins: LoginLog,
     console: Console,
     /// Whether the clock is before the last reported moment.
     is_late: bool,
@@ -72,6 +74,7 @@ impl<S: StartApplication, D: Disk + Watched> Serving<S, D> {
         web: Option<Web<'_>>,
         limits: Limits,
         has_console: bool,
+        login_lines: u64,
         telnet: Option<Telnet>,
     ) -> Result<Serving<S, D>, ServeFault>
     where
@@ -99,6 +102,7 @@ impl<S: StartApplication, D: Disk + Watched> Serving<S, D> {
                 strangers: Strangers::new(limits.login),
                 silence,
             },
+            logins: LoginLog::new(alloc, login_lines),
             console: Console::new(has_console),
             is_late: false,
             began: None,
@@ -200,7 +204,9 @@ impl<S: StartApplication, D: Disk + Watched> Serving<S, D> {
         let second = now.as_secs();
         self.timeouts.silence.hear(second, &came)?;
         let calls = self.disk.calls();
-        let given = give(&mut self.server, &mut self.disk, &came);
+        let logins = &mut self.logins;
+        logins.begin_round(rt, second);
+        let given = give(rt, logins, &mut self.server, &mut self.disk, &came);
         tell_checkpoint(rt, &self.disk, calls, now, &mut self.began);
         given?;
         let parted = write_all(
@@ -214,7 +220,7 @@ impl<S: StartApplication, D: Disk + Watched> Serving<S, D> {
             &mut self.timeouts,
         )?;
         clients.is_settled = true;
-        give_if_open(&mut self.server, &mut self.disk, &parted)?;
+        give_if_open(rt, logins, &mut self.server, &mut self.disk, &parted)?;
         Ok(())
     }
 

@@ -103,8 +103,8 @@ impl Strangers {
     }
 }
 
-// Returns whether a connection is a stranger.
-fn is_stranger<S: StartApplication>(server: &ServerCore<S>, c: u16) -> bool
+/// Returns whether a connection is a stranger.
+pub(crate) fn is_stranger<S: StartApplication>(server: &ServerCore<S>, c: u16) -> bool
     ensures { result ≡ is_stranger S.layer server.now c }
 {
     !server.is_leaving(c) && server.player_on(c).is_none()

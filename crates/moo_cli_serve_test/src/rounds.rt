@@ -71,6 +71,7 @@ fn a_client_looks_round_by_round(rt: HostRuntime) -> Result<(), Fail> {
             idle_seconds: 0,
         },
         false,
+        0,
         None,
     )?;
     let mut client = TcpStream::connect(&rt, serving.address()?)?;

@@ -1,7 +1,8 @@
 //! A disk over files, each call of which makes calls of the operating system.
-ghost use Rattle.std.specs.Prelude.{◌≡◌};
+ghost use Rattle.std.specs.Prelude.{◌≡◌, IfOk};
 ghost use Rattle.moo_disk.specs.Disk.{Counts};
-ghost use Rattle.moo_cli_file_disk.specs.Files.{file_kind};
+ghost use Rattle.moo_cli_file_disk.specs.Files.{IsUntouched, file_kind, has_failed};
+ghost use Rattle.moo_cli_file_disk.specs.News.{CountsLast};
 
 use crate::news::{News, Watched};
 use moo_disk::{Disk, DiskFault};
@@ -33,8 +34,9 @@ enum Last {
 }
 
 /// Two files of one folder: the database, and the spare, whose name ends in `.new`. No contract says what the files
-/// hold. The contracts say only that each fault is counted, and that bytes go only to a spare of its own. That is a
-/// file which has been open since it was created, and is not main's.
+/// hold: the toolchain gives files no state that a clause can name, so anybody may write them by their names. The
+/// contracts say only that each fault is counted, that a disk makes no call as it is opened, and that bytes go only to a
+/// spare of its own. That is a file which has been open since it was created, and is not main's.
 ///
 /// A checkpoint needs one descriptor more than the disk holds between checkpoints. The disk keeps one for it, gives it
 /// up to open a spare, and takes it back after the rename. So a checkpoint succeeds when other parts of the program
@@ -87,7 +89,9 @@ impl<R: Files + Drop> FileDisk<R> {
     /// Returns the disk of the database at this path. Resolves a symbolic link once, here, so that a checkpoint
     /// replaces the file it leads to and not the link. Fails if there is no such file, or if it is a device, a socket
     /// or a pipe, whose reading might never end.
-    pub fn open(alloc: Global, files: R, path: &str) -> io::Result<FileDisk<R>> {
+    pub fn open(alloc: Global, files: R, path: &str) -> io::Result<FileDisk<R>>
+        ensures { IfOk result IsUntouched }
+    {
         let main = files.canonicalize(alloc, path)?.into_string();
         refuse_device(&files, main.as_str())?;
         let folder = String::from_str(alloc, folder_of(main.as_str()))?;
@@ -146,6 +150,7 @@ impl<R: Files> FileDisk<R> {
     // Counts a call, and a failure if it failed.
     fn counted<T: Drop>(&mut self, place: Place, answer: io::Result<T>) -> Result<T, DiskFault>
         ensures fault { Counts self.old.failures self.new.failures result }
+        ensures last { CountsLast (has_failed self.new) self.old.failures self.new.failures }
         ensures same { self.new.writing ≡ self.old.writing }
     {
         self.calls = self.calls.wrapping_add(1);
@@ -222,6 +227,8 @@ impl<R: Files> FileDisk<R> {
 }
 
 impl<R: Files> Watched for FileDisk<R> {
+    ghost has_failed = { has_failed };
+
     fn calls(&self) -> u64 {
         self.calls
     }
@@ -233,6 +240,8 @@ impl<R: Files> Watched for FileDisk<R> {
             Last::Failed(place, error) => News::Failed(self.name_of(*place), error),
         }
     }
+
+    ghost counts_last = { λ _ _ _ made. made };
 }
 
 /// Returns the error of a call that needs an open spare if there is none.

@@ -132,4 +132,24 @@ impl Watch {
             Err(error) => Err(self.fail(error)),
         }
     }
+
+    /// Writes a text, and flushes the output. Returns the output's error if it fails.
+    pub fn print<O: Write>(&mut self, output: &mut O, text: &[u8]) -> io::Result<()>
+        ensures text { OnOk result (Appends (O.contents output.old) (O.contents output.new) text.now) }
+        ensures failed { OnErr result (HasFailed self.new) }
+        ensures remembers { Remembers self.old self.new }
+    {
+        let written = write_flushed(output, text);
+        if written.is_err() {
+            self.failed = true;
+        }
+        written
+    }
+}
+
+fn write_flushed<O: Write>(output: &mut O, text: &[u8]) -> io::Result<()>
+    ensures { OnOk result (Appends (O.contents output.old) (O.contents output.new) text.now) }
+{
+    output.write_all(text)?;
+    output.flush()
 }

@@ -18,7 +18,7 @@ use Rattle.moo_cli_script.specs.ScriptLines.{Step, opening, typing, sending, han
 use Rattle.moo_cli_script.specs.declared.script.Script.{Script}
 use Rattle.moo_cli_script.specs.Script.{Does, HandsOut, ScriptDisk, Takes as TakesEvent, disk_view, event_of, script_kind}
 use Rattle.moo_cli_script.specs.Playing.{IsTaken, Takes}
-use Rattle.moo_cli_script.specs.Course.{AreAsked, AreSingle, Course, IsOpening, NoneOpens, taken_in, with_event}
+use Rattle.moo_cli_script.specs.Course.{AreAsked, AreRuns, Course, IsOpening, IsSetToFail, NoneOpens, taken_in, with_event}
 use Rattle.moo_cli_script.proofs.Handed.{hands_join, hands_none}
 
 -- ---- a disk that is handed on
@@ -42,9 +42,6 @@ on_join kind a b c first second = record {
 keeps_none : (disk : ScriptDisk) → KeepsMain (disk_view disk) (disk_view disk)
 keeps_none disk = record { text = refl; crash = gains_none NoText (disk_view disk) }
 
-on_none : (disk : ScriptDisk) → HandsOn script_kind disk disk
-on_none disk = record { main = λ h. keeps_none disk; honest_still = λ h. h }
-
 -- with the same disk within
 on_same : (a b : ScriptDisk) → inner_of b ≡ inner_of a → HandsOn script_kind a b
 on_same a b is = record {
@@ -55,8 +52,8 @@ on_same a b is = record {
 abbrev LentDisk : Type 0
 LentDisk = Lent ScriptDisk ScriptDisk
 
-on_lent : (a b : ScriptDisk) → HandsOn script_kind a b → HandsOn (lent script_kind script_kind) (One a) (One b)
-on_lent a b on = record { main = on.main; honest_still = on.honest_still }
+on_lent : (a b : ScriptDisk) → IsSetToFail a b → HandsOn (lent script_kind script_kind) (One a) (One b)
+on_lent a b set = record { main = (on_same a b set).main; honest_still = λ h. h }
 
 abbrev within : LentDisk → ScriptDisk
 within (One disk) = disk
@@ -80,11 +77,11 @@ module _ {S Application : Type 0} (l : Layer S Application Saved) where
     last = server;
     disk = disk;
     chain = (refl, refl, refl);
-    single = tt;
+    runs = tt;
     taken = refl;
     handed = silence;
     hands = hands_none l server;
-    on = on_none disk;
+    set = refl;
   }
 
   -- then some of what waits is handed out
@@ -96,27 +93,27 @@ module _ {S Application : Type 0} (l : Layer S Application Saved) where
     last = course.last;
     disk = course.disk;
     chain = course.chain;
-    single = course.single;
+    runs = course.runs;
     taken = course.taken;
     handed = then_out course.handed h;
     hands = hands_join l course.handed h course.last mid after course.hands hands;
-    on = course.on;
+    set = course.set;
   }
 
-  -- then the disk is handed on
-  course_on : (before after : ServerCore S) (old mid new : ScriptDisk) (events : List Event)
-      → Course l before old events after mid → HandsOn script_kind mid new → Course l before old events after new
-  course_on before after old mid new events course on = record {
+  -- then another call of the disk is set to fail
+  course_set : (before after : ServerCore S) (old mid new : ScriptDisk) (events : List Event)
+      → Course l before old events after mid → IsSetToFail mid new → Course l before old events after new
+  course_set before after old mid new events course set = record {
     calls = course.calls;
     entries = course.entries;
     last = course.last;
     disk = course.disk;
     chain = course.chain;
-    single = course.single;
+    runs = course.runs;
     taken = course.taken;
     handed = course.handed;
     hands = course.hands;
-    on = on_join script_kind course.disk mid new course.on on;
+    set = set ∙ course.set;
   }
 
   -- one call of one event
@@ -129,24 +126,43 @@ module _ {S Application : Type 0} (l : Layer S Application Saved) where
     disk = new;
     chain = (
       hands_none l before,
-      on_lent old old (on_none old),
+      on_lent old old refl,
       record { ran = runs.ran; entries = refl; honest_still = λ h. h },
       [],
       (refl, refl, refl),
       sym (append-nil (entries_of runs.ran.taken)),
     );
-    single = (refl, tt);
+    runs = (
+      record {
+        event = event;
+        events_are = refl;
+        set = old;
+        set_is = refl;
+        over = refl;
+        left = new;
+        left_is = refl;
+        done_is = refl;
+        runs = runs;
+        entries_are = refl;
+      },
+      tt,
+    );
     taken = refl;
     handed = silence;
     hands = hands_none l after;
-    on = on_none new;
+    set = refl;
   }
 
   -- ---- two, one after another
 
-  single_append : (xs ys : List LentCall) → AreSingle xs → AreSingle ys → AreSingle (xs ++ ys)
-  single_append [] ys single single' = single'
-  single_append (x ∷ xs) ys single single' = (single.0, single_append xs ys single.1 single')
+  -- the calls after other calls are such runs over the disk that those left
+  runs_append : (xs ys : List LentCall) (s m : ServerCore S) (disk between : ScriptDisk) (es : List (Entry Saved))
+      → Chain s (One disk) xs m (One between) es → AreRuns l disk xs → AreRuns l between ys → AreRuns l disk (xs ++ ys)
+  runs_append [] ys s m disk between es chain runs runs' = subst (λ (d : ScriptDisk). AreRuns l d ys) (ap within chain.1) runs'
+  runs_append (x ∷ xs) ys s m disk between es chain runs runs' = (
+    runs.0,
+    runs_append xs ys x.server m runs.0.left between chain.3 (subst (λ (d : LentDisk). Chain x.server d xs m (One between) chain.3) runs.0.left_is chain.4) runs.1 runs',
+  )
 
   taken_append : (xs ys : List LentCall) → taken_in (xs ++ ys) ≡ taken_in xs ++ taken_in ys
   taken_append [] ys = refl
@@ -179,25 +195,24 @@ module _ {S Application : Type 0} (l : Layer S Application Saved) where
 
   course_join : (before mid after : ServerCore S) (old between new : ScriptDisk) (events events' : List Event)
       → Course l before old events mid between → Course l mid between events' after new → Course l before old (events ++ events') after new
-  course_join before mid after old between new events events' first second = by_calls second.calls second.chain second.single second.taken
+  course_join before mid after old between new events events' first second = by_calls second.calls second.chain second.runs second.taken
     where
-      by_calls : (calls : List LentCall) → Chain mid (One between) calls second.last (One second.disk) second.entries → AreSingle calls → taken_in calls ≡ events'
+      by_calls : (calls : List LentCall) → Chain mid (One between) calls second.last (One second.disk) second.entries → AreRuns l between calls → taken_in calls ≡ events'
           → Course l before old (events ++ events') after new
-      by_calls [] chain single taken = record {
+      by_calls [] chain runs taken = record {
         calls = first.calls;
         entries = first.entries;
         last = first.last;
         disk = first.disk;
         chain = first.chain;
-        single = first.single;
+        runs = first.runs;
         taken = first.taken ∙ sym (append-nil events) ∙ ap (λ (es : List Event). events ++ es) taken;
         handed = then_out first.handed second.handed;
         hands = hands_join l first.handed second.handed first.last mid after first.hands
             (subst (λ (s : ServerCore S). Hands l second.handed s after) chain.0 second.hands);
-        on = on_join script_kind first.disk between new first.on
-            (subst (λ (d : ScriptDisk). HandsOn script_kind d new) (ap within chain.1) second.on);
+        set = subst (λ (d : ScriptDisk). IsSetToFail d new) (ap within chain.1) second.set ∙ first.set;
       }
-      by_calls (call ∷ calls) chain single taken =
+      by_calls (call ∷ calls) chain runs taken =
           record {
             calls = first.calls ++ (record call { handed = then_out first.handed call.handed }) ∷ calls;
             entries = first.entries ++ second.entries;
@@ -205,18 +220,32 @@ module _ {S Application : Type 0} (l : Layer S Application Saved) where
             disk = second.disk;
             chain = chain_append first.calls ((record call { handed = then_out first.handed call.handed }) ∷ calls) before first.last second.last (One old) (One first.disk) (One second.disk) first.entries second.entries first.chain (
               hands_join l first.handed call.handed first.last mid call.before first.hands chain.0,
-              on_join (lent script_kind script_kind) (One first.disk) (One between) call.old (on_lent first.disk between first.on) chain.1,
+              on_join (lent script_kind script_kind) (One first.disk) (One between) call.old (on_lent first.disk between first.set) chain.1,
               of_call call (then_out first.handed call.handed) call.old call.disk chain.2,
               chain.3,
               chain.4,
               chain.5,
             );
-            single = single_append first.calls ((record call { handed = then_out first.handed call.handed }) ∷ calls) first.single single;
+            runs = runs_append first.calls ((record call { handed = then_out first.handed call.handed }) ∷ calls) before first.last old first.disk first.entries first.chain first.runs (
+              record {
+                event = runs.0.event;
+                events_are = runs.0.events_are;
+                set = runs.0.set;
+                set_is = runs.0.set_is ∙ first.set;
+                over = runs.0.over;
+                left = runs.0.left;
+                left_is = runs.0.left_is;
+                done_is = runs.0.done_is;
+                runs = runs.0.runs;
+                entries_are = runs.0.entries_are;
+              },
+              runs.1,
+            );
             taken = taken_append first.calls ((record call { handed = then_out first.handed call.handed }) ∷ calls) ∙ ap (λ (es : List Event). es ++ taken_in (call ∷ calls)) first.taken
                 ∙ ap (λ (es : List Event). events ++ es) taken;
             handed = second.handed;
             hands = second.hands;
-            on = second.on;
+            set = second.set;
           }
 
   -- ---- a step, and lines
@@ -236,7 +265,7 @@ module _ {S Application : Type 0} (l : Layer S Application Saved) where
   step_is_calls flushing old new none does = taken_event _ old new does
   step_is_calls (failing k effect) old new none does =
       subst (λ (s : ServerCore S). Course l old.server old.disk [] s new.disk) (sym does.server)
-      (course_on old.server old.server old.disk old.disk new.disk [] (course_none old.server old.disk) (on_same old.disk new.disk does.fails.within))
+      (course_set old.server old.server old.disk old.disk new.disk [] (course_none old.server old.disk) does.fails.within)
   step_is_calls reopening old new none does = absurd (none tt)
   step_is_calls (crashing i) old new none does = absurd (none tt)
   step_is_calls showing old new none does =

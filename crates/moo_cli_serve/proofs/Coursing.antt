@@ -1,6 +1,6 @@
--- Courses of a server, one behind another.
+-- Courses of a server, one after another.
 use Rattle.std.proofs.Common.{◌≡◌, ℕ, List, [], ◌∷◌, ◌++◌, length, map, take, Option, false, Ok, Err, refl, sym, ◌∙◌, ap, subst, append_assoc, arith}
-use Rattle.std.specs.Prelude.{if◌then◌else◌, slice_index_or}
+use Rattle.std.specs.Prelude.{Result, if◌then◌else◌, slice_index_or}
 use Rattle.std.proofs.lemmas.List.{append-nil}
 use Rattle.moo_disk.specs.Disk.{DiskKind, KeepsMain}
 use Rattle.moo_dbtext_read.specs.Saved.{Saved}
@@ -8,7 +8,7 @@ use Rattle.moo_server_core.specs.Application.{Layer, Output, silence, then_out}
 use Rattle.moo_server_core.specs.Meaning.{Entry, out_of}
 use Rattle.moo_server_core.specs.Seen.{seen as seen_event}
 use Rattle.moo_server_core.specs.Seen as seen
-use Rattle.moo_server_core.specs.Server.{Follows, Hands, OpenFollows, Ran, Runs, Same, entries_of, waiting_of, with_disk}
+use Rattle.moo_server_core.specs.Server.{Follows, Hands, OpenFollows, Runs, Same, done_of, entries_of, waiting_of, with_disk}
 use Rattle.moo_server_core.specs.Calls.{Call, Calls, IsCallOf, Lent, One, Other}
 use Rattle.moo_server_core.specs.declared.event.Event.{Event}
 use Rattle.moo_server_core.specs.declared.event.Event.TheVariants as the
@@ -17,7 +17,7 @@ use Rattle.moo_server_core.specs.declared.server_core.Open.{Open}
 use Rattle.moo_server_core.specs.declared.server_core.ServerCore.{ServerCore}
 use Rattle.moo_server_core.proofs.Joining.{gains_none}
 use Rattle.moo_server_core.proofs.Running.{waits_of}
-use Rattle.moo_cli_serve.specs.Course.{AreSingle, Course, Given, hangs_up, sent_after, taken_in}
+use Rattle.moo_cli_serve.specs.Course.{AreRuns, Course, Given, hangs_up, sent_after, taken_in}
 
 -- ---- what is handed out
 
@@ -78,7 +78,7 @@ module _ {S Application : Type 0} (l : Layer S Application Saved) where
       last = server;
       handed = silence;
       chain = (refl, refl, refl);
-      single = tt;
+      runs = tt;
       taken = refl;
       hands = hands_none server;
     }
@@ -92,7 +92,7 @@ module _ {S Application : Type 0} (l : Layer S Application Saved) where
       last = course.last;
       handed = then_out course.handed h;
       chain = course.chain;
-      single = course.single;
+      runs = course.runs;
       taken = course.taken;
       hands = hands_join course.handed h course.last mid after course.hands hands;
     }
@@ -101,24 +101,28 @@ module _ {S Application : Type 0} (l : Layer S Application Saved) where
     keeps_main disk = record { text = refl; crash = gains_none (kind.view disk) }
 
     -- one call of one event
-    pub course_one : (before after : ServerCore S) (old new : D) (event : Event) (done : ℕ)
-        → (ran : Ran l kind (with_disk before old) (with_disk after new) (event ∷ []) done) → (kind.honest old → kind.honest new)
-        → Course l kind before old (take done (event ∷ [])) after new
-    course_one before after old new event done ran still = record {
-      calls = record { handed = silence; before = before; old = One old; events = event ∷ []; done = done; entries = entries_of ran.taken; server = after; disk = One new } ∷ [];
-      entries = entries_of ran.taken;
+    pub course_one : (before after : ServerCore S) (old new : D) (event : Event) (result : Result ℕ RunFault)
+        → Runs l kind (with_disk before old) (with_disk after new) (event ∷ []) result → (kind.honest old → kind.honest new)
+        → Course l kind before old (take (done_of result) (event ∷ [])) after new
+    course_one before after old new event result runs still = record {
+      calls =
+          record { handed = silence; before = before; old = One old; events = event ∷ []; done = done_of result; entries = entries_of runs.ran.taken; server = after; disk = One new } ∷ [];
+      entries = entries_of runs.ran.taken;
       last = after;
       handed = silence;
       chain = (
         hands_none before,
         record { main = λ h. keeps_main old; honest_still = λ h. h },
-        record { ran = ran; entries = refl; honest_still = still },
+        record { ran = runs.ran; entries = refl; honest_still = still },
         [],
         (refl, refl, refl),
-        sym (append-nil (entries_of ran.taken)),
+        sym (append-nil (entries_of runs.ran.taken)),
       );
-      single = (refl, tt);
-      taken = sym (append-nil (take done (event ∷ [])));
+      runs = (
+        record { event = event; events_are = refl; over = refl; left = new; left_is = refl; result = result; done_is = refl; runs = runs; entries_are = refl },
+        tt,
+      );
+      taken = sym (append-nil (take (done_of result) (event ∷ [])));
       hands = hands_none after;
     }
 
@@ -127,13 +131,21 @@ module _ {S Application : Type 0} (l : Layer S Application Saved) where
         → events ≡ event ∷ [] → (kind.honest old → kind.honest new)
         → Runs l kind (with_disk before old) (with_disk after new) events (Err fault) → Course l kind before old (take fault.done (event ∷ [])) after new
     course_refused before after old new event events fault is still runs =
-        course_one before after old new event fault.done (subst (λ (es : List Event). Runs l kind (with_disk before old) (with_disk after new) es (Err fault)) is runs).ran still
+        course_one before after old new event (Err fault) (subst (λ (es : List Event). Runs l kind (with_disk before old) (with_disk after new) es (Err fault)) is runs) still
 
-    -- ---- two, one behind the other
+    -- ---- two, one after the other
 
-    single_append : (xs ys : List LentCall) → AreSingle xs → AreSingle ys → AreSingle (xs ++ ys)
-    single_append [] ys single single' = single'
-    single_append (x ∷ xs) ys single single' = (single.0, single_append xs ys single.1 single')
+    abbrev within : Lent D D → D
+    within (One disk) = disk
+    within (Other disk) = disk
+
+    runs_append : (xs ys : List LentCall) (s m : ServerCore S) (disk between : D) (es : List (Entry Saved))
+        → Chain s (One disk) xs m (One between) es → AreRuns l kind disk xs → AreRuns l kind between ys → AreRuns l kind disk (xs ++ ys)
+    runs_append [] ys s m disk between es chain runs runs' = subst (λ (d : D). AreRuns l kind d ys) (ap within chain.1) runs'
+    runs_append (x ∷ xs) ys s m disk between es chain runs runs' = (
+      runs.0,
+      runs_append xs ys x.server m runs.0.left between chain.3 (subst (λ (d : Lent D D). Chain x.server d xs m (One between) chain.3) runs.0.left_is chain.4) runs.1 runs',
+    )
 
     taken_append : (xs ys : List LentCall) → taken_in (xs ++ ys) ≡ taken_in xs ++ taken_in ys
     taken_append [] ys = refl
@@ -167,25 +179,25 @@ module _ {S Application : Type 0} (l : Layer S Application Saved) where
     course_joined : (before mid after : ServerCore S) (old between new : D) (events events' : List Event)
         → (first : Course l kind before old events mid between) → (second : Course l kind mid between events' after new)
         → (both : Course l kind before old (events ++ events') after new) × (both.entries ≡ first.entries ++ second.entries)
-    course_joined before mid after old between new events events' first second = by_calls second.calls second.chain second.single second.taken
+    course_joined before mid after old between new events events' first second = by_calls second.calls second.chain second.runs second.taken
       where
-        by_calls : (calls : List LentCall) → Chain mid (One between) calls second.last (One new) second.entries → AreSingle calls → events' ≡ taken_in calls
+        by_calls : (calls : List LentCall) → Chain mid (One between) calls second.last (One new) second.entries → AreRuns l kind between calls → events' ≡ taken_in calls
             → (both : Course l kind before old (events ++ events') after new) × (both.entries ≡ first.entries ++ second.entries)
-        by_calls [] chain single taken = (
+        by_calls [] chain runs taken = (
           record {
             calls = first.calls;
             entries = first.entries;
             last = first.last;
             handed = then_out first.handed second.handed;
             chain = subst (λ (d : Lent D D). Chain before (One old) first.calls first.last d first.entries) (sym chain.1) first.chain;
-            single = first.single;
+            runs = first.runs;
             taken = ap (λ (es : List Event). events ++ es) taken ∙ append-nil events ∙ first.taken;
             hands = hands_join first.handed second.handed first.last mid after first.hands
                 (subst (λ (s : ServerCore S). Hands l second.handed s after) chain.0 second.hands);
           },
           sym (append-nil first.entries) ∙ ap (λ (es : List (Entry Saved)). first.entries ++ es) (sym chain.2),
         )
-        by_calls (call ∷ calls) chain single taken = (
+        by_calls (call ∷ calls) chain runs taken = (
           record {
             calls = first.calls ++ (record call { handed = then_out first.handed call.handed }) ∷ calls;
             entries = first.entries ++ second.entries;
@@ -194,7 +206,20 @@ module _ {S Application : Type 0} (l : Layer S Application Saved) where
             chain = chain_append first.calls ((record call { handed = then_out first.handed call.handed }) ∷ calls) before first.last second.last (One old) (One between) (One new) first.entries second.entries
                 first.chain
                 (hands_join first.handed call.handed first.last mid call.before first.hands chain.0, chain.1, of_call call (then_out first.handed call.handed) call.old call.disk chain.2, chain.3, chain.4, chain.5);
-            single = single_append first.calls ((record call { handed = then_out first.handed call.handed }) ∷ calls) first.single single;
+            runs = runs_append first.calls ((record call { handed = then_out first.handed call.handed }) ∷ calls) before first.last old between first.entries first.chain first.runs (
+              record {
+                event = runs.0.event;
+                events_are = runs.0.events_are;
+                over = runs.0.over;
+                left = runs.0.left;
+                left_is = runs.0.left_is;
+                result = runs.0.result;
+                done_is = runs.0.done_is;
+                runs = runs.0.runs;
+                entries_are = runs.0.entries_are;
+              },
+              runs.1,
+            );
             taken = ap (λ (es : List Event). events ++ es) taken ∙ ap (λ (es : List Event). es ++ taken_in (call ∷ calls)) first.taken
                 ∙ sym (taken_append first.calls ((record call { handed = then_out first.handed call.handed }) ∷ calls));
             hands = second.hands;
@@ -251,22 +276,22 @@ module _ {S Application : Type 0} (l : Layer S Application Saved) where
     sent_one c waits event (entry ∷ other ∷ entries) is = absurd (omega (arith, ap (λ (es : List seen.Event). length es) is))
 
     -- a run that took its only event; then what waited for one who hung up is dropped
-    given_ran : (before mid after : ServerCore S) (old new : D) (event : Event) (done : ℕ)
-        → (ran : Ran l kind (with_disk before old) (with_disk mid new) (event ∷ []) done) → done ≡ 1 → (kind.honest old → kind.honest new) → ((h : Output) × Hands l h mid after)
+    given_ran : (before mid after : ServerCore S) (old new : D) (event : Event) (result : Result ℕ RunFault)
+        → (runs : Runs l kind (with_disk before old) (with_disk mid new) (event ∷ []) result) → done_of result ≡ 1 → (kind.honest old → kind.honest new) → ((h : Output) × Hands l h mid after)
         → ((c : ℕ) → (waiting_of l after).sent c ≡ (if hangs_up c (seen_event event) then [] else (waiting_of l mid).sent c))
         → (waiting_of l after).logged ≡ (waiting_of l mid).logged
-        → Given l kind before old (take done (event ∷ [])) after new
+        → Given l kind before old (take (done_of result) (event ∷ [])) after new
     unfolding course_hands course_one
-    given_ran before mid after old new event done ran one still dropped left log = record {
-      course = course_hands before mid after old new (take done (event ∷ [])) dropped.0 (course_one before mid old new event done ran still) dropped.1;
+    given_ran before mid after old new event result runs one still dropped left log = record {
+      course = course_hands before mid after old new (take (done_of result) (event ∷ [])) dropped.0 (course_one before mid old new event result runs still) dropped.1;
       sent = λ c.
           left c ∙ ap (λ (w : Output). if hangs_up c (seen_event event) then [] else w.sent c) waits
-          ∙ sym (sent_one c ((waiting_of l before).sent c) (seen_event event) (entries_of ran.taken) (ran.events_are ∙ ap (λ (n : ℕ). map seen_event (take n (event ∷ []))) one));
+          ∙ sym (sent_one c ((waiting_of l before).sent c) (seen_event event) (entries_of runs.ran.taken) (runs.ran.events_are ∙ ap (λ (n : ℕ). map seen_event (take n (event ∷ []))) one));
       logged = log ∙ ap (λ (w : Output). w.logged) waits;
     }
       where
-        waits : waiting_of l mid ≡ then_out (waiting_of l before) (out_of (entries_of ran.taken))
-        waits = waits_of l kind before mid old new (event ∷ []) done ran
+        waits : waiting_of l mid ≡ then_out (waiting_of l before) (out_of (entries_of runs.ran.taken))
+        waits = waits_of l kind before mid old new (event ∷ []) (done_of result) runs.ran
 
     pub given_one : (before mid after : ServerCore S) (old new : D) (event : Event) (events : List Event) (done : ℕ)
         → events ≡ event ∷ [] → done ≡ length events → (kind.honest old → kind.honest new)
@@ -277,4 +302,4 @@ module _ {S Application : Type 0} (l : Layer S Application Saved) where
     given_one before mid after old new event events done is all still runs dropped left log =
         let one : done ≡ 1 = all ∙ ap (λ (es : List Event). length es) is in
         subst (λ (n : ℕ). Given l kind before old (take n (event ∷ [])) after new) one
-        (given_ran before mid after old new event done (subst (λ (es : List Event). Runs l kind (with_disk before old) (with_disk mid new) es (Ok done)) is runs).ran one still dropped left log)
+        (given_ran before mid after old new event (Ok done) (subst (λ (es : List Event). Runs l kind (with_disk before old) (with_disk mid new) es (Ok done)) is runs) one still dropped left log)

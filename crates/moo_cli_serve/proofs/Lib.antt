@@ -1,8 +1,10 @@
 pub mod Carrying
+pub mod Closing
 pub mod Coursing
 mod Finding
 pub mod Hearing
 pub mod Idling
+pub mod PrintedLines
 pub mod Rounding
 pub mod Serviced
 mod Unheard

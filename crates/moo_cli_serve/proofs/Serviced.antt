@@ -1,9 +1,9 @@
 -- A server over a disk, begun and brought to its end.
 use Rattle.std.proofs.Common.{◌≡◌, ◌⊎◌, inl, inr, ℕ, ◌+◌, ◌<◌, List, Bool, true, false, refl, sym, ◌∙◌, ap, subst, add-one, arith}
-use Rattle.std.specs.Prelude.{◌↔◌, IfErr, OnOk, Result, Ok, Err}
+use Rattle.std.specs.Prelude.{◌↔◌, IfErr, IfOk, OnOk, Result, Ok, Err}
 use Rattle.slab.specs.Slab.{Slab}
 use Rattle.moo_disk.specs.Disk.{DiskKind}
-use Rattle.moo_cli_file_disk.specs.Files.{file_kind}
+use Rattle.moo_cli_file_disk.specs.Files.{IsUntouched, file_kind}
 use Rattle.moo_cli_file_disk.specs.declared.file_disk.FileDisk.{FileDisk}
 use Rattle.moo_cli_sockets.specs.declared.socket.Socket.{Socket}
 use Rattle.moo_dbtext_read.specs.Saved.{Saved}
@@ -13,7 +13,7 @@ use Rattle.moo_server_core.specs.declared.event.Cause.{Cause}
 use Rattle.moo_server_core.specs.declared.event.Event.{Event}
 use Rattle.moo_server_core.specs.declared.server_core.ServerCore as inner
 use Rattle.moo_cli_serve.specs.Course.{Course}
-use Rattle.moo_cli_serve.specs.Program.{FailsFile, ServesFile}
+use Rattle.moo_cli_serve.specs.Program.{FailsFile, ServesFile, TellsSaved}
 use Rattle.moo_cli_serve.specs.Rounds.{IsClosed}
 use Rattle.moo_cli_serve.specs.Service.{Begun, BreaksOff, EndsFor, Fails, IsOutside, IsRefused, IsServed, LeavesUnbegun, Makes, NotStarted, RefusesParted, Serves, Steps, Turns, Waits}
 use Rattle.moo_cli_serve.specs.declared.console.Console.{Console}
@@ -165,12 +165,12 @@ module _ {S Application D : Type 0} (l : Layer S Application Saved) (kind : Disk
 
 -- A file that is served is a disk that is served.
 module _ {S Application F File Dir : Type 0} (l : Layer S Application Saved) where
-  pub serves_file : {T : Type 0} (limits : Limits) (rounds : ℕ) (disk : FileDisk F File Dir) (r : Result T ServeFault) → OnOk r (Serves l file_kind disk limits rounds)
-      → OnOk r (ServesFile l F File Dir limits rounds)
-  serves_file limits rounds disk (Ok x) serves = (disk, serves)
-  serves_file limits rounds disk (Err fault) serves = tt
+  pub serves_file : (limits : Limits) (rounds : ℕ) (disk : FileDisk F File Dir) (r : Result Bool ServeFault) → IsUntouched disk
+      → IfOk r (λ saved. (serves : Serves l file_kind disk limits rounds) × TellsSaved l file_kind serves saved) → IfOk r (ServesFile l F File Dir limits rounds)
+  serves_file limits rounds disk (Ok saved) untouched served = (disk, untouched, served.0, served.1)
+  serves_file limits rounds disk (Err fault) untouched served = tt
 
-  pub fails_file : {T : Type 0} (limits : Limits) (rounds : ℕ) (disk : FileDisk F File Dir) (r : Result T ServeFault)
+  pub fails_file : {T : Type 0} (limits : Limits) (rounds : ℕ) (disk : FileDisk F File Dir) (r : Result T ServeFault) → IsUntouched disk
       → IfErr r (Fails l file_kind disk limits rounds) → IfErr r (FailsFile l F File Dir limits rounds)
-  fails_file limits rounds disk (Ok x) fails = tt
-  fails_file limits rounds disk (Err fault) fails = inr (disk, fails)
+  fails_file limits rounds disk (Ok x) untouched fails = tt
+  fails_file limits rounds disk (Err fault) untouched fails = inr (disk, untouched, fails)

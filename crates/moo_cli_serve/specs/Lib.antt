@@ -4,6 +4,7 @@ pub mod Course
 pub mod Found
 pub mod Hearing
 pub mod Idle
+pub mod Printed
 pub mod Program
 pub mod Room
 pub mod Rounds

@@ -18,11 +18,12 @@ mod program;
 mod serving;
 mod silence;
 mod strangers;
+mod telling;
 mod timeouts;
 
 pub use fault::ServeFault;
 pub use limits::Limits;
 pub use listening::Web;
-pub use program::{Served, run_serve};
+pub use program::{Served, run_serve, serve_watched};
 pub use serving::{Round, Serving};
 pub use strangers::LoginLimits;

@@ -1,28 +1,30 @@
 //! The command `moo serve`.
-ghost use Rattle.std.specs.Prelude.{◌≡◌, ◌⊎◌, IfErr, OnOk, true};
-ghost use Rattle.moo_cli_serve.specs.Program.{FailsFile, NoDisk, ServesFile, ShowsService};
-ghost use Rattle.moo_cli_serve.specs.Service.{Fails, IsOutside, Serves};
+ghost use Rattle.std.specs.Prelude.{ℕ, List, IfErr, IfOk, OnOk};
+ghost use Rattle.std.specs.Io.KnownBytes.{Appends};
+ghost use Rattle.std.specs.declared.net.socket_addr.SocketAddr.{SocketAddr};
+ghost use Rattle.moo_cli_io.specs.declared.watch.Watch as watching;
+ghost use Rattle.moo_cli_serve.specs.Printed.{MayListen, Prints, listening_line};
+ghost use Rattle.moo_cli_serve.specs.Program.{FailsFile, NoDisk, ServesFile, ShowsService, TellsSaved};
+ghost use Rattle.moo_cli_serve.specs.Service.{Fails, Serves};
 
 use crate::fault::ServeFault;
 use crate::limits::Limits;
 use crate::listening::Web;
 use crate::serving::Serving;
+use crate::telling::{end_status, tell_address, tell_fault, tell_output};
 use log::{Log, info, warn};
 use moo_checkpoint::OpenFault;
 use moo_cli_file_disk::{FileDisk, Watched};
+use moo_cli_io::Watch;
 use moo_cli_sockets::SocketsFault;
 use moo_cli_telnet::Telnet;
 use moo_disk::Disk;
 use moo_server_core::StartApplication;
 use std::alloc::Global;
-use std::fmt::Display;
 use std::io;
 use std::io::{ErrorKind, Write};
-use std::net::{IpAddr, Net, SocketAddr};
+use std::net::{IpAddr, Net};
 use std::rt::{Clock, Files};
-
-/// The exit status of a server that must save and has not.
-const UNSAVED: u8 = 3;
 
 /// The parameters of a server.
 #[derive(Clone, Copy, Debug)]
@@ -49,9 +51,7 @@ pub struct Served<'a> {
     pub must_save: bool,
 }
 
-/// Serves a database file until the server is closed or the rounds are over, and returns the program's exit status. Prints the
-/// line `listening on ADDRESS`, or a line with the reason why it ends. Everything else goes to the log. If the server must save
-/// and ends without a last checkpoint, the status is 3, and the last line is `refused: Device`.
+/// Serves a database file as `serve_watched` does, and returns the program's exit status.
 pub fn run_serve<S: StartApplication, R: Net + Clock + Log, F: Files + Drop, O: Write>(
     rt: &R,
     files: F,
@@ -59,29 +59,34 @@ pub fn run_serve<S: StartApplication, R: Net + Clock + Log, F: Files + Drop, O: 
     output: &mut O,
     served: Served<'_>,
 ) -> u8
-    ensures { ShowsService S.layer F F.File F.Dir served.entry.limits served.entry.rounds served.entry.must_save result }
+    ensures { (watch : watching.Watch) × ShowsService S.layer F F.File F.Dir served.entry.limits served.entry.rounds served.entry.must_save
+        (O.contents output.old) (O.contents output.new) watch result }
 {
-    match serve_file::<S, R, F, O>(rt, files, alloc, output, served) {
-        Ok(is_saved) => end_status(rt, output, served.must_save, is_saved),
-        Err(fault) => {
-            tell_reason(rt, served, &fault);
-            tell(rt, output, &fault);
-            fault.status()
-        }
-    }
+    serve_watched::<S, R, F, O>(rt, files, alloc, output, served, &mut Watch::new())
 }
 
-// Returns the exit status of a server that was served to its end. The output says if it should have saved and hasn't.
-fn end_status<R: Log, O: Write>(rt: &R, output: &mut O, must_save: bool, is_saved: bool) -> u8
-    ensures { (result ≡ 0) ⊎ ((must_save ≡ true) × (result ≡ 3)) }
+/// Serves a database file until the server is closed or the rounds are over, and returns the program's exit status. Prints the
+/// line `listening on ADDRESS`, and a line with the reason if it ends before. Everything else goes to the log. If the server must
+/// save and ends without a last checkpoint, the status is 3, and the last line is `refused: Device`. Records in `watch` whether
+/// the output has failed.
+pub fn serve_watched<S: StartApplication, R: Net + Clock + Log, F: Files + Drop, O: Write>(
+    rt: &R,
+    files: F,
+    alloc: Global,
+    output: &mut O,
+    served: Served<'_>,
+    watch: &mut Watch,
+) -> u8
+    ensures { ShowsService S.layer F F.File F.Dir served.entry.limits served.entry.rounds served.entry.must_save
+        (O.contents output.old) (O.contents output.new) watch.new result }
 {
-    if is_saved || !must_save {
-        return 0;
+    match serve_file::<S, R, F, O>(rt, files, alloc, output, served, watch) {
+        Ok(is_saved) => end_status(rt, output, served.must_save, is_saved, watch),
+        Err(fault) => {
+            tell_reason(rt, served, &fault);
+            tell_fault(rt, alloc, output, fault, watch)
+        }
     }
-    if let Err(error) = write_line(output, &"refused: Device") {
-        tell_output(rt, &error);
-    }
-    UNSAVED
 }
 
 // Serves the database file.
@@ -91,30 +96,36 @@ fn serve_file<S: StartApplication, R: Net + Clock + Log, F: Files + Drop, O: Wri
     alloc: Global,
     output: &mut O,
     served: Served<'_>,
+    watch: &mut Watch,
 ) -> Result<bool, ServeFault>
-    ensures served { OnOk result (ServesFile S.layer F F.File F.Dir served.entry.limits served.entry.rounds) }
+    ensures served { IfOk result (ServesFile S.layer F F.File F.Dir served.entry.limits served.entry.rounds) }
     ensures ended { IfErr result (FailsFile S.layer F F.File F.Dir served.entry.limits served.entry.rounds) }
+    ensures listening { OnOk result ((address : SocketAddr) × Appends (O.contents output.old) (O.contents output.new) (listening_line address)) }
+    ensures printed { IfErr result (λ _. (first : List ℕ) × MayListen first × Prints (O.contents output.old) (O.contents output.new) watch.new first) }
 {
     match FileDisk::open(alloc, files, served.db) {
         Ok(disk) => {
             tell_spare(rt, &disk);
-            serve_disk::<S, FileDisk<F>, R, O>(rt, alloc, disk, output, served)
+            serve_disk::<S, FileDisk<F>, R, O>(rt, alloc, disk, output, served, watch)
         }
         Err(error) => Err(no_disk(rt, served, error)),
     }
 }
 
-/// Serves the database of a disk, and prints the line with the address. Returns whether it ended with a last checkpoint that is
-/// done, or the reason if it ends before the server is closed or the rounds are over.
+/// Serves the database of a disk, and prints the line with the address. Returns whether the server is closed and its last
+/// checkpoint is done, or the reason if it ends before the server is closed or the rounds are over.
 pub fn serve_disk<S: StartApplication, D: Disk + Watched + Drop, R: Net + Clock + Log, O: Write>(
     rt: &R,
     alloc: Global,
     disk: D,
     output: &mut O,
     served: Served<'_>,
+    watch: &mut Watch,
 ) -> Result<bool, ServeFault>
-    ensures served { OnOk result (Serves S.layer D.kind disk served.entry.limits served.entry.rounds) }
+    ensures served { IfOk result (λ saved. (serves : Serves S.layer D.kind disk served.entry.limits served.entry.rounds) × TellsSaved S.layer D.kind serves saved) }
     ensures ended { IfErr result (Fails S.layer D.kind disk served.entry.limits served.entry.rounds) }
+    ensures listening { OnOk result ((address : SocketAddr) × Appends (O.contents output.old) (O.contents output.new) (listening_line address)) }
+    ensures printed { IfErr result (λ _. (first : List ℕ) × MayListen first × Prints (O.contents output.old) (O.contents output.new) watch.new first) }
 {
     let mut serving = Serving::<S, D>::open(
         rt,
@@ -130,7 +141,7 @@ pub fn serve_disk<S: StartApplication, D: Disk + Watched + Drop, R: Net + Clock 
     )?;
     let address = serving.address()?;
     info!(rt; target: "moo::serve", "listening on {address} over {}", served.db);
-    tell_address(alloc, output, address)?;
+    tell_address(alloc, output, address, watch)?;
     serving.serve(rt, served.rounds)?;
     let is_saved = serving.is_saved();
     tell_unsaved(rt, served, is_saved, serving.is_closed());
@@ -163,20 +174,6 @@ fn tell_spare<R: Log, F: Files + Drop>(rt: &R, disk: &FileDisk<F>) {
     }
 }
 
-fn tell_address<O: Write>(
-    alloc: Global,
-    output: &mut O,
-    address: SocketAddr,
-) -> Result<(), ServeFault>
-    ensures { IfErr result IsOutside }
-{
-    let line = format!(in alloc; "listening on {address}\n")?;
-    output
-        .write_all(line.as_bytes())
-        .map_err(ServeFault::Output)?;
-    output.flush().map_err(ServeFault::Output)
-}
-
 // Logs the reason of a fault, in the system's words if a device failed.
 fn tell_reason<R: Log>(rt: &R, served: Served<'_>, fault: &ServeFault) {
     match fault {
@@ -195,24 +192,4 @@ fn tell_no_web<R: Log>(rt: &R, served: Served<'_>, error: &io::Error) {
     if let Some(web) = served.web {
         warn!(rt; target: "moo::serve", "{}:{}: {error}", served.host, web.port);
     }
-}
-
-fn tell_output<R: Log>(rt: &R, error: &io::Error) {
-    warn!(rt; target: "moo::serve", "standard output: {error}");
-}
-
-// Prints why it ends. If the output fails only now, logs that too.
-fn tell<R: Log, O: Write>(rt: &R, output: &mut O, fault: &ServeFault) {
-    let Err(error) = write_line(output, fault) else {
-        return;
-    };
-    if !matches!(fault, ServeFault::Output(_)) {
-        tell_output(rt, &error);
-    }
-}
-
-// Prints why it ends, in the words of the program's other commands. Takes no memory.
-fn write_line<O: Write, D: Display>(output: &mut O, line: &D) -> io::Result<()> {
-    writeln!(output, "{line}")?;
-    output.flush()
 }

@@ -224,8 +224,10 @@ impl<S: StartApplication, D: Disk + Watched> Serving<S, D> {
         Ok(())
     }
 
-    /// Returns whether the server is closed, and its last checkpoint didn't fail.
-    pub fn is_saved(&self) -> bool {
+    /// Returns whether the server is closed, and the last call of its disk didn't fail. So its last checkpoint is done.
+    pub fn is_saved(&self) -> bool
+        ensures { IsTrue result ↔ (IsClosed self.now.server × (D.has_failed self.now.disk ≡ false)) }
+    {
         self.is_closed() && !matches!(self.disk.news(), News::Failed(_, _))
     }
 

@@ -1,5 +1,7 @@
 use Rattle.std.proofs.Common.{[], inl, inr, refl}
+use Rattle.std.proofs.KnownBytes.{Appends-nil}
 use Rattle.std.proofs.lemmas.Result.{err_from_is_err_and}
+use Rattle.moo_cli_serve.proofs.Closing.{saved_so}
 use Rattle.moo_cli_serve.proofs.Coursing.{course_none}
 use Rattle.moo_cli_serve.proofs.program.serve_disk.Goals as goal
 
@@ -25,7 +27,7 @@ returns-in_err-tell_address-clause-ended g c =
       start = s;
       end = s;
       begun = c.in_ok-serving.ensures.begun;
-      breaks = inl (c.in_err-tell_address.ensures, refl);
+      breaks = inl (c.in_err-tell_address.ensures.outside, refl);
       course = ([], course_none g.S.Application.layer g.D.Disk.kind s.server s.disk);
     }))
 
@@ -41,10 +43,29 @@ returns-in_err-serve-clause-ended g c =
     }))
 
 pub returns-clause-served : goal.returns-clause-served
-returns-clause-served g c = record {
-  start = c.in_ok-serving.serving;
-  end = c.serve.new.self;
-  begun = c.in_ok-serving.ensures.begun;
-  served = c.in_ok-serve.ensures.served;
-  course = c.in_ok-serve.ensures.course;
-}
+returns-clause-served g c =
+    saved_so g.S.Application.layer g.D.Disk.kind g.D.Watched.has_failed g.met.D.Watched.counts_last c.args.served.limits c.args.served.rounds c.args.disk
+    c.in_ok-serving.serving c.serve.new.self c.is_saved-is_saved.result c.in_ok-serving.ensures.begun c.in_ok-serve.ensures.course c.in_ok-serve.ensures.served c.is_saved-is_saved.ensures
+
+-- ---- what was printed
+
+pub returns-in_err-serving-clause-printed : goal.returns-in_err-serving-clause-printed
+returns-in_err-serving-clause-printed g c =
+    let p = err_from_is_err_and c.from_residual.result c.from_residual.ensures.1 in rw p.1 ([], inl refl, inr (Appends-nil _))
+
+pub returns-in_err-address-clause-printed : goal.returns-in_err-address-clause-printed
+returns-in_err-address-clause-printed g c =
+    let p = err_from_is_err_and c.from_residual-in_err-address.result c.from_residual-in_err-address.ensures.1 in rw p.1 ([], inl refl, inr (Appends-nil _))
+
+pub returns-in_err-tell_address-clause-printed : goal.returns-in_err-tell_address-clause-printed
+returns-in_err-tell_address-clause-printed g c =
+    let p = err_from_is_err_and c.from_residual-in_err-tell_address.result c.from_residual-in_err-tell_address.ensures.1 in
+    rw p.1 ([], inl refl, c.in_err-tell_address.ensures.nothing)
+
+pub returns-in_err-serve-clause-printed : goal.returns-in_err-serve-clause-printed
+returns-in_err-serve-clause-printed g c =
+    let p = err_from_is_err_and c.from_residual-in_err-serve.result c.from_residual-in_err-serve.ensures.1 in
+    rw p.1 (_, inr (c.in_ok-address.address, refl), inr c.in_ok-tell_address.ensures.text)
+
+pub returns-clause-listening : goal.returns-clause-listening
+returns-clause-listening g c = (c.in_ok-address.address, c.in_ok-tell_address.ensures.text)

@@ -1,5 +1,6 @@
 pub mod Carrying
 pub mod Coursing
+pub mod Events
 mod Finding
 pub mod Hearing
 pub mod Idling

@@ -1,6 +1,7 @@
 use Rattle.std.proofs.Common.{[], inl, inr, refl}
 use Rattle.std.proofs.lemmas.Result.{err_from_is_err_and}
 use Rattle.moo_cli_serve.proofs.Coursing.{course_none}
+use Rattle.moo_cli_serve.proofs.Events.{course_broken, course_made}
 use Rattle.moo_cli_serve.proofs.program.serve_disk.Goals as goal
 
 pub returns-in_err-serving-clause-ended : goal.returns-in_err-serving-clause-ended
@@ -14,8 +15,9 @@ returns-in_err-address-clause-ended g c =
       start = s;
       end = s;
       begun = c.in_ok-serving.ensures.begun;
-      breaks = inl (c.in_err-address.ensures, refl);
-      course = ([], course_none g.S.Application.layer g.D.Disk.kind s.server s.disk);
+      events = [];
+      breaks = inl (c.in_err-address.ensures, refl, refl);
+      course = course_none g.S.Application.layer g.D.Disk.kind s.server s.disk;
     }))
 
 pub returns-in_err-tell_address-clause-ended : goal.returns-in_err-tell_address-clause-ended
@@ -25,8 +27,9 @@ returns-in_err-tell_address-clause-ended g c =
       start = s;
       end = s;
       begun = c.in_ok-serving.ensures.begun;
-      breaks = inl (c.in_err-tell_address.ensures, refl);
-      course = ([], course_none g.S.Application.layer g.D.Disk.kind s.server s.disk);
+      events = [];
+      breaks = inl (c.in_err-tell_address.ensures, refl, refl);
+      course = course_none g.S.Application.layer g.D.Disk.kind s.server s.disk;
     }))
 
 pub returns-in_err-serve-clause-ended : goal.returns-in_err-serve-clause-ended
@@ -36,8 +39,9 @@ returns-in_err-serve-clause-ended g c =
       start = s;
       end = c.serve.new.self;
       begun = c.in_ok-serving.ensures.begun;
-      breaks = inr c.in_err-serve.ensures.ended;
-      course = c.in_err-serve.ensures.course;
+      events = c.in_err-serve.ensures.ended.0;
+      breaks = inr c.in_err-serve.ensures.ended.1;
+      course = course_broken g.S.Application.layer g.D.Disk.kind _ _ s c.in_err-serve.ensures.ended.0 c.serve.new.self c.in_err-serve.ensures.ended.1;
     }))
 
 pub returns-clause-served : goal.returns-clause-served
@@ -46,5 +50,5 @@ returns-clause-served g c = record {
   end = c.serve.new.self;
   begun = c.in_ok-serving.ensures.begun;
   served = c.in_ok-serve.ensures.served;
-  course = c.in_ok-serve.ensures.course;
+  course = course_made g.S.Application.layer g.D.Disk.kind c.in_ok-serve.ensures.served.made c.in_ok-serving.serving c.serve.new.self c.in_ok-serve.ensures.served.makes;
 }

@@ -23,9 +23,10 @@ use Rattle.moo_server_core.specs.declared.server_core.ServerCore.{ServerCore}
 use Rattle.moo_cli_serve.specs.Course.{AreRuns, Course, last_report}
 use Rattle.moo_cli_serve.specs.Program.{TellsSaved}
 use Rattle.moo_cli_serve.specs.Rounds.{IsClosed}
-use Rattle.moo_cli_serve.specs.Service.{Begun, IsServed, Serves}
+use Rattle.moo_cli_serve.specs.Service.{Begun, IsServed, Serves, events_in}
 use Rattle.moo_cli_serve.specs.declared.limits.Limits.{Limits}
 use Rattle.moo_cli_serve.specs.declared.serving.Serving.{Serving}
+use Rattle.moo_cli_serve.proofs.Events.{course_made}
 
 -- ---- only a report closes a server
 
@@ -221,16 +222,17 @@ module _ {S Application D : Type 0} (l : Layer S Application Saved) (kind : Disk
   )
     where
       reported_at : IsClosed serves.end.server
-          → (report : Report) × (last_report serves.course.1.entries ≡ Some report) × (kind.failures serves.end.disk + 1 < 2 ^ 64 → has_failed serves.end.disk ≡ not (is_done report))
+          → (report : Report) × (last_report serves.course.entries ≡ Some report) × (kind.failures serves.end.disk + 1 < 2 ^ 64 → has_failed serves.end.disk ≡ not (is_done report))
       reported_at closed =
           let c = closed_is serves.end.server.halted serves.end.server.course closed in
-          course_reported serves.start.server serves.start.disk serves.course.0 serves.end.server serves.end.disk serves.course.1
+          course_reported serves.start.server serves.start.disk (events_in l kind serves.served.made serves.start serves.end serves.served.makes) serves.end.server serves.end.disk serves.course
           (started_open l kind serves.start.server disk serves.start.disk serves.begun.from.saved serves.start.moment serves.begun.from.opened) c.0 c.1
 
   pub saved_so : (limits : Limits) (rounds : ℕ) (disk : D) (start end : Serving S D) (told : Bool) → Begun l kind disk limits start
-      → ((events : List given.Event) × Course l kind start.server start.disk events end.server end.disk) → IsServed l kind rounds start end
+      → IsServed l kind rounds start end
       → IsTrue told ↔ (IsClosed end.server × (has_failed end.disk ≡ false)) → (serves : Serves l kind disk limits rounds) × TellsSaved l kind serves told
-  saved_so limits rounds disk start end told begun course served is = (
-    record { start = start; end = end; begun = begun; served = served; course = course },
-    told_saved (record { start = start; end = end; begun = begun; served = served; course = course }) told is,
-  )
+  saved_so limits rounds disk start end told begun served is =
+      let course = course_made l kind served.made start end served.makes in (
+        record { start = start; end = end; begun = begun; served = served; course = course },
+        told_saved (record { start = start; end = end; begun = begun; served = served; course = course }) told is,
+      )

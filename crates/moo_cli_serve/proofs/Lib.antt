@@ -1,6 +1,7 @@
 pub mod Carrying
 pub mod Closing
 pub mod Coursing
+pub mod Events
 mod Finding
 pub mod Hearing
 pub mod Idling

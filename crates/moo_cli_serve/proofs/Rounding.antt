@@ -1,5 +1,5 @@
 -- One round, from its parts.
-use Rattle.std.proofs.Common.{◌≡◌, ℕ, List, ◌++◌, Option, Some, None, sym, ◌∙◌, ap, subst}
+use Rattle.std.proofs.Common.{◌≡◌, ℕ, List, Option, Some, None, sym, ◌∙◌, ap, subst}
 use Rattle.slab.specs.Slab.{Slab}
 use Rattle.moo_cli_sockets.specs.declared.socket.Socket.{Socket}
 use Rattle.moo_cli_sockets.specs.Coming.{IsOpening, IsRead, held, held_after, only}
@@ -11,9 +11,9 @@ use Rattle.moo_server_core.specs.Server.{Follows, Hands, with_disk}
 use Rattle.moo_server_core.specs.declared.event.Event.{Event}
 use Rattle.moo_server_core.specs.declared.event.Event.TheVariants as the
 use Rattle.moo_server_core.specs.declared.server_core.ServerCore.{ServerCore}
-use Rattle.moo_cli_serve.specs.Course.{Course}
 use Rattle.moo_cli_serve.specs.Rounds.{Begins}
-use Rattle.moo_cli_serve.proofs.Coursing.{course_hands, course_join, follows_on}
+use Rattle.moo_cli_serve.specs.declared.console.Console.{Console}
+use Rattle.moo_cli_serve.proofs.Coursing.{follows_on}
 
 -- what was free after a look was free before it
 opens_on : (old new : Slab Socket) → ((c : ℕ) → held new c ≡ held old c) → (opened : Option Event) → IsOpening new opened → IsOpening old opened
@@ -24,9 +24,9 @@ opens_on old new same (Some (the.Hangup c)) opens = absurd opens
 opens_on old new same (Some (the.Moment moment)) opens = absurd opens
 opens_on old new same (Some the.Flush) opens = absurd opens
 
-pub begins_on : (old looked new : Slab Socket) (before now : ℕ) (events : List Event) → ((c : ℕ) → held looked c ≡ held old c)
-    → Begins looked new before now events → Begins old new before now events
-begins_on old looked new before now events same begins = record {
+pub begins_on : (old looked new : Slab Socket) (console typing : Console) (before now : ℕ) (events : List Event) → ((c : ℕ) → held looked c ≡ held old c)
+    → Begins looked new console typing before now events → Begins old new console typing before now events
+begins_on old looked new console typing before now events same begins = record {
   came = begins.came;
   typed = begins.typed;
   clock = begins.clock;
@@ -48,41 +48,8 @@ begins_on old looked new before now events same begins = record {
 }
 
 module _ {S Application D : Type 0} (l : Layer S Application Saved) (kind : DiskKind D) where
-  -- events, then output, then other events
-  pub course_round : (before one two after : ServerCore S) (old between new : D) → ((events : List Event) × Course l kind before old events one between)
-      → ((h : Output) × Hands l h one two) → ((events : List Event) × Course l kind two between events after new)
-      → (events : List Event) × Course l kind before old events after new
-  course_round before one two after old between new first written second =
-      (first.0 ++ second.0, course_join l kind before two after old between new first.0 second.0 (course_hands l kind before one two old between first.0 written.0 first.1 written.1) second.1)
-
-  -- events, then what is handed out
-  pub course_end : (before one two : ServerCore S) (old new : D) → ((events : List Event) × Course l kind before old events one new)
-      → ((h : Output) × Hands l h one two) → (events : List Event) × Course l kind before old events two new
-  course_end before one two old new first handed = (first.0, course_hands l kind before one two old new first.0 handed.0 first.1 handed.1)
-
   pub follows_end : (one two : ServerCore S) (disk : D) → Follows l kind (with_disk one disk) → ((h : Output) × Hands l h one two) → Follows l kind (with_disk two disk)
   follows_end one two disk follows handed = follows_on l kind handed.0 one two disk handed.1 follows
-
-  -- events behind others, and a server and a disk that are then the same
-  pub course_steps : (before mid after : ServerCore S) (old between new : D) (server : ServerCore S) (disk : D) → server ≡ after → disk ≡ new
-      → ((events : List Event) × Course l kind before old events mid between) → ((events : List Event) × Course l kind mid between events after new)
-      → (events : List Event) × Course l kind before old events server disk
-  course_steps before mid after old between new server disk same same' first second = (
-    first.0 ++ second.0,
-    subst
-        (λ (s : ServerCore S). Course l kind before old (first.0 ++ second.0) s disk)
-        (sym same)
-        (subst (λ (d : D). Course l kind before old (first.0 ++ second.0) after d) (sym same') (course_join l kind before mid after old between new first.0 second.0 first.1 second.1)),
-  )
-
-  -- events, and a server and a disk that are then the same
-  pub course_still : (before after : ServerCore S) (old new : D) (server : ServerCore S) (disk : D) → server ≡ after → disk ≡ new
-      → ((events : List Event) × Course l kind before old events after new) → (events : List Event) × Course l kind before old events server disk
-  course_still before after old new server disk same same' course = (
-    course.0,
-    subst (λ (s : ServerCore S). Course l kind before old course.0 s disk) (sym same)
-        (subst (λ (d : D). Course l kind before old course.0 after d) (sym same') course.1),
-  )
 
   pub follows_steps : (after : ServerCore S) (new : D) (server : ServerCore S) (disk : D) → server ≡ after → disk ≡ new → Follows l kind (with_disk after new) → Follows l kind (with_disk server disk)
   follows_steps after new server disk same same' follows =

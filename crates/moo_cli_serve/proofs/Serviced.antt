@@ -1,5 +1,5 @@
 -- A server over a disk, begun and brought to its end.
-use Rattle.std.proofs.Common.{◌≡◌, ◌⊎◌, inl, inr, ℕ, ◌+◌, ◌<◌, List, Bool, true, false, refl, sym, ◌∙◌, ap, subst, add-one, arith}
+use Rattle.std.proofs.Common.{◌≡◌, ◌⊎◌, inl, inr, ℕ, ◌+◌, ◌<◌, List, ◌++◌, Bool, true, false, refl, sym, ◌∙◌, ap, subst, add-one, arith}
 use Rattle.std.specs.Prelude.{◌↔◌, IfErr, IfOk, OnOk, Result, Ok, Err}
 use Rattle.slab.specs.Slab.{Slab}
 use Rattle.moo_disk.specs.Disk.{DiskKind}
@@ -12,10 +12,9 @@ use Rattle.moo_server_core.specs.Server.{Hands}
 use Rattle.moo_server_core.specs.declared.event.Cause.{Cause}
 use Rattle.moo_server_core.specs.declared.event.Event.{Event}
 use Rattle.moo_server_core.specs.declared.server_core.ServerCore as inner
-use Rattle.moo_cli_serve.specs.Course.{Course}
 use Rattle.moo_cli_serve.specs.Program.{FailsFile, ServesFile, TellsSaved}
 use Rattle.moo_cli_serve.specs.Rounds.{IsClosed}
-use Rattle.moo_cli_serve.specs.Service.{Begun, BreaksOff, EndsFor, Fails, IsOutside, IsRefused, IsServed, LeavesUnbegun, Makes, NotStarted, RefusesParted, Serves, Steps, Turns, Waits}
+use Rattle.moo_cli_serve.specs.Service.{BreaksOff, CutsRound, EndsFor, Fails, IsRefused, IsServed, LeavesUnbegun, Makes, NotStarted, Pauses, RefusesParted, RefusesRound, Serves, StepFails, Steps, Turns, Waits, events_in}
 use Rattle.moo_cli_serve.specs.declared.console.Console.{Console}
 use Rattle.moo_cli_serve.specs.declared.fault.ServeFault.{ServeFault}
 use Rattle.moo_cli_serve.specs.declared.fault.ServeFault.TheVariants as the
@@ -33,8 +32,8 @@ is_over other = false
 pub goes_on : (found : Round) → is_over found ≡ false → found ≡ round.Over → ⊥
 goes_on found is over = let no : false ≡ true = sym is ∙ ap is_over over in absurd cc
 
-pub waits_none : {S D : Type 0} (s : Serving S D) → Waits s s
-waits_none s = record { server_is = refl; disk_is = refl; moment_is = refl; most_is = refl; timeouts_are = refl; sockets = λ c. refl }
+waits_none : {S D : Type 0} (s : Serving S D) → Waits s s
+waits_none s = record { server_is = refl; disk_is = refl; moment_is = refl; console_is = refl; most_is = refl; timeouts_are = refl; sockets = λ c. refl }
 
 module _ {S Application D : Type 0} (l : Layer S Application Saved) (kind : DiskKind D) where
   pub not_started : (fault : ServeFault) (disk left : D) → LeavesUnbegun kind disk left fault → NotStarted l kind disk fault
@@ -53,7 +52,13 @@ module _ {S Application D : Type 0} (l : Layer S Application Saved) (kind : Disk
 
   pub stepped : (old new : Serving S D) → (IsClosed old.server × (new ≡ old)) ⊎ Turns l kind old new → (new ≡ old) ⊎ Steps l kind old new
   stepped old new (inl closed) = inl closed.1
-  stepped old new (inr turns) = inr (new, turns, waits_none new)
+  stepped old new (inr turns) = inr (new, turns, round.Over, refl)
+
+  -- what a wait keeps stays also without one
+  pub paused : (found : Round) (turned new : Serving S D) → Pauses l kind found turned new → Waits turned new
+  paused round.Busy turned new same = subst (λ (s : Serving S D). Waits turned s) (sym same) (waits_none turned)
+  paused round.Idle turned new pauses = pauses.1
+  paused round.Over turned new same = subst (λ (s : Serving S D). Waits turned s) (sym same) (waits_none turned)
 
   -- one round more
   pub made_more : (n : ℕ) (old mid new : Serving S D) → Makes l kind n old mid → Steps l kind mid new → Makes l kind (n + 1) old new
@@ -98,6 +103,7 @@ module _ {S Application D : Type 0} (l : Layer S Application Saved) (kind : Disk
     fault = refused.fault;
     left = refused.left;
     runs = refused.runs;
+    honest_still = refused.honest_still;
     cause_is = refused.cause_is;
     handed = (then_out refused.handed.0 handed.0, hands_join l refused.handed.0 handed.0 refused.left mid after refused.handed.1 handed.1);
   }
@@ -120,48 +126,49 @@ module _ {S Application D : Type 0} (l : Layer S Application Saved) (kind : Disk
     refused = refused_hands cause parted.parted parted.written mid after parted.between new parted.refused handed;
   }
 
-  either_hands : (cause : Cause) (first : List Event) (old : Serving S D) (read : Slab Socket) (mid after : inner.ServerCore S) (new : D)
-      → IsRefused l kind cause first old.server old.disk mid new ⊎ RefusesParted l kind cause old.clients.most_waiting first old.server old.disk read old.timeouts.silence mid new
-      → ((h : Output) × Hands l h mid after)
-      → IsRefused l kind cause first old.server old.disk after new ⊎ RefusesParted l kind cause old.clients.most_waiting first old.server old.disk read old.timeouts.silence after new
-  either_hands cause first old read mid after new (inl refused) handed = inl (refused_hands cause first old.server mid after old.disk new refused handed)
-  either_hands cause first old read mid after new (inr parted) handed = inr (parted_hands cause old.clients.most_waiting first old.server mid after old.disk new read old.timeouts.silence parted handed)
-
-  -- A fault outside ends any server,
-  pub outside_ends : (fault : ServeFault) (old new : Serving S D) → IsOutside fault → EndsFor l kind fault old new
-  outside_ends (the.Open fault) old new outside = outside
-  outside_ends (the.Sockets fault) old new outside = outside
-  outside_ends (the.Output fault) old new outside = outside
-  outside_ends (the.Refused cause) old new outside = absurd outside
-  outside_ends the.Memory old new outside = outside
-
-  -- and one that has ended has done so also where some of what waits is then handed out.
-  pub ends_hands : (fault : ServeFault) (old mid : Serving S D) (after : inner.ServerCore S) (console : Console) → EndsFor l kind fault old mid
-      → ((h : Output) × Hands l h mid.server after) → EndsFor l kind fault old (record mid { server = after; console = console })
-  ends_hands (the.Open fault) old mid after console ends handed = ends
-  ends_hands (the.Sockets fault) old mid after console ends handed = ends
-  ends_hands (the.Output fault) old mid after console ends handed = ends
-  ends_hands (the.Refused cause) old mid after console ends handed = record {
-    first = ends.first;
-    read = ends.read;
-    begins = ends.begins;
-    refused = either_hands cause ends.first old ends.read mid.server after mid.disk ends.refused handed;
+  round_hands : (cause : Cause) (old : Serving S D) (moment : ℕ) (events : List Event) (mid after : inner.ServerCore S) (new : D)
+      → RefusesRound l kind cause old moment events mid new → ((h : Output) × Hands l h mid after) → RefusesRound l kind cause old moment events after new
+  unfolding refused_hands parted_hands
+  round_hands cause old moment events mid after new broken handed = record {
+    first = broken.first;
+    read = broken.read;
+    typing = broken.typing;
+    begins = broken.begins;
+    refused = by_place broken.refused;
   }
-  ends_hands the.Memory old mid after console ends handed = ends
+    where
+      by_place : ((refused : IsRefused l kind cause broken.first old.server old.disk mid new) × (events ≡ refused.taken))
+          ⊎ ((parted : RefusesParted l kind cause old.clients.most_waiting broken.first old.server old.disk broken.read old.timeouts.silence mid new) × (events ≡ broken.first ++ parted.refused.taken))
+          → ((refused : IsRefused l kind cause broken.first old.server old.disk after new) × (events ≡ refused.taken))
+          ⊎ ((parted : RefusesParted l kind cause old.clients.most_waiting broken.first old.server old.disk broken.read old.timeouts.silence after new) × (events ≡ broken.first ++ parted.refused.taken))
+      by_place (inl (refused, is)) = inl (refused_hands cause broken.first old.server mid after old.disk new refused handed, is)
+      by_place (inr (p, is)) = inr (parted_hands cause old.clients.most_waiting broken.first old.server mid after old.disk new broken.read old.timeouts.silence p handed, is)
 
-  -- what came of a server that was begun over a disk
-  pub serves_so : {T : Type 0} (limits : Limits) (rounds : ℕ) (disk : D) (start end : Serving S D) (r : Result T ServeFault) → Begun l kind disk limits start
-      → ((events : List Event) × Course l kind start.server start.disk events end.server end.disk)
-      → OnOk r (IsServed l kind rounds start end) → OnOk r (Serves l kind disk limits rounds)
-  serves_so limits rounds disk start end (Ok x) begun course served = record { start = start; end = end; begun = begun; served = served; course = course }
-  serves_so limits rounds disk start end (Err fault) begun course served = tt
+  cut_hands : (old : Serving S D) (moment : ℕ) (events : List Event) (mid after : inner.ServerCore S) (new : D)
+      → CutsRound l kind old moment events mid new → ((h : Output) × Hands l h mid after) → CutsRound l kind old moment events after new
+  cut_hands old moment events mid after new cuts handed = record {
+    events_are = cuts.events_are;
+    given = cuts.given;
+    gives = cuts.gives;
+    handed = (then_out cuts.handed.0 handed.0, hands_join l cuts.handed.0 handed.0 cuts.given mid after cuts.handed.1 handed.1);
+  }
 
-  pub stops_so : {T : Type 0} (limits : Limits) (rounds : ℕ) (disk : D) (start end : Serving S D) (r : Result T ServeFault) → Begun l kind disk limits start
-      → ((events : List Event) × Course l kind start.server start.disk events end.server end.disk)
-      → IfErr r (λ fault. BreaksOff l kind rounds fault start end) → IfErr r (Fails l kind disk limits rounds)
-  stops_so limits rounds disk start end (Ok x) begun course breaks = tt
-  stops_so limits rounds disk start end (Err fault) begun course breaks =
-      inr (record { start = start; end = end; begun = begun; breaks = inr breaks; course = course })
+  -- A round that broke off has done so also where some of what waits is then handed out.
+  pub ends_hands : (fault : ServeFault) (old : Serving S D) (events : List Event) (mid : Serving S D) (after : inner.ServerCore S) (console : Console)
+      → EndsFor l kind fault old events mid → ((h : Output) × Hands l h mid.server after) → EndsFor l kind fault old events (record mid { server = after; console = console })
+  ends_hands (the.Open fault) old events mid after console ends handed = ends
+  ends_hands (the.Sockets fault) old events mid after console ends handed = cut_hands old mid.moment events mid.server after mid.disk ends handed
+  ends_hands (the.Output fault) old events mid after console ends handed = ends
+  ends_hands (the.Refused cause) old events mid after console ends handed = round_hands cause old mid.moment events mid.server after mid.disk ends handed
+  ends_hands the.Memory old events mid after console ends handed = cut_hands old mid.moment events mid.server after mid.disk ends handed
+
+  -- so many rounds, and one that broke off
+  pub breaks_off : (n rounds : ℕ) (fault : ServeFault) (old mid new : Serving S D) → Makes l kind n old mid → n < rounds
+      → ((events : List Event) × StepFails l kind fault mid events new) → (events : List Event) × BreaksOff l kind rounds fault old events new
+  breaks_off n rounds fault old mid new makes less failed = (
+    events_in l kind n old mid makes ++ failed.0,
+    record { made = n; mid = mid; makes = makes; fewer = less; last = failed.0; ends = failed.1; all = refl },
+  )
 
 -- A file that is served is a disk that is served.
 module _ {S Application F File Dir : Type 0} (l : Layer S Application Saved) where

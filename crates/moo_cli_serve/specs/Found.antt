@@ -9,7 +9,7 @@ use Rattle.moo_server_core.specs.Server.{state_of}
 use Rattle.moo_server_core.specs.declared.event.Event.{Event}
 use Rattle.moo_server_core.specs.declared.server_core.ServerCore.{ServerCore}
 use Rattle.moo_cli_serve.specs.Course.{Course}
-use Rattle.moo_cli_serve.specs.Service.{Begun, Serves, Stops}
+use Rattle.moo_cli_serve.specs.Service.{Begun, Serves, Stops, events_in}
 use Rattle.moo_cli_serve.specs.declared.fault.ServeFault.{ServeFault}
 use Rattle.moo_cli_serve.specs.declared.limits.Limits.{Limits}
 use Rattle.moo_cli_serve.specs.declared.serving.Serving.{Serving}
@@ -28,7 +28,7 @@ module _ {S D : Type 0} where
 module _ {S Application D : Type 0} (l : Layer S Application Saved) (kind : DiskKind D) where
   -- A stop at some moment of a course, inside a call of the disk too, leaves this text under main. The calls `returned` had returned by then. If
   -- none had, the moment is any since the start began over the disk `first`.
-  pub record IsStopped (first : D) (before : ServerCore S) (old : D) (events : List Event) (after : ServerCore S) (new : D) (course : Course l kind before old events after new) (text : List ℕ) : Type 0 where
+  pub record IsStopped (first : D) {before : ServerCore S} {old : D} {events : List Event} {after : ServerCore S} {new : D} (course : Course l kind before old events after new) (text : List ℕ) : Type 0 where
     pub returned : List (Call S (Lent D D))
     pub others : List (Call S (Lent D D))
     pub all : course.calls ≡ returned ++ others
@@ -41,17 +41,24 @@ module _ {S Application D : Type 0} (l : Layer S Application Saved) (kind : Disk
     pub begun : Begun l kind first limits start
     pub events : List Event
     pub course : Course l kind start.server start.disk events end.server end.disk
-    pub stopped : IsStopped first start.server start.disk events end.server end.disk course text
+    pub stopped : IsStopped first course text
 
   -- Whoever served to the end was stopped at each moment before it.
   abbrev pub served_to : {first : D} {limits : Limits} {rounds : ℕ} {text : List ℕ} (serves : Serves l kind first limits rounds)
-      → IsStopped first serves.start.server serves.start.disk serves.course.0 serves.end.server serves.end.disk serves.course.1 text → ServedTo first limits text
-  served_to serves stopped = record { start = serves.start; end = serves.end; begun = serves.begun; events = serves.course.0; course = serves.course.1; stopped = stopped }
+      → IsStopped first serves.course text → ServedTo first limits text
+  served_to serves stopped = record {
+    start = serves.start;
+    end = serves.end;
+    begun = serves.begun;
+    events = events_in l kind serves.served.made serves.start serves.end serves.served.makes;
+    course = serves.course;
+    stopped = stopped;
+  }
 
   -- So was one that ended before, for a fault.
   abbrev pub ended_at : {first : D} {limits : Limits} {rounds : ℕ} {fault : ServeFault} {text : List ℕ} (stops : Stops l kind first limits rounds fault)
-      → IsStopped first stops.start.server stops.start.disk stops.course.0 stops.end.server stops.end.disk stops.course.1 text → ServedTo first limits text
-  ended_at stops stopped = record { start = stops.start; end = stops.end; begun = stops.begun; events = stops.course.0; course = stops.course.1; stopped = stopped }
+      → IsStopped first stops.course text → ServedTo first limits text
+  ended_at stops stopped = record { start = stops.start; end = stops.end; begun = stops.begun; events = stops.events; course = stops.course; stopped = stopped }
 
   module _ {E : Type 0} (kind' : DiskKind E) where
     -- Over such a disk a start finds the saved world after a prefix of the events that ends with a mark. The prefix holds every event before the

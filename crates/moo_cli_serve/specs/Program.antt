@@ -21,7 +21,7 @@ use Rattle.moo_cli_serve.specs.declared.limits.Limits.{Limits}
 module _ {S Application D : Type 0} (l : Layer S Application Saved) (kind : DiskKind D) {disk : D} {limits : Limits} {rounds : ℕ} where
   -- A server that was served to its end is saved: it is closed, and the last report of a checkpoint said done.
   abbrev pub IsSaved : Serves l kind disk limits rounds → Type 0
-  IsSaved serves = IsClosed serves.end.server × (last_report serves.course.1.entries ≡ Some Done)
+  IsSaved serves = IsClosed serves.end.server × (last_report serves.course.entries ≡ Some Done)
 
   -- The answer is whether it is saved. At the limit of the disk's count of failures it may be either.
   abbrev pub TellsSaved : Serves l kind disk limits rounds → Bool → Type 0

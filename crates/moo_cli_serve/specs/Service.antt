@@ -1,5 +1,5 @@
 -- A server over a disk from its start to its end: how it is begun, the rounds that it makes, and why it ends.
-use Rattle.std.specs.Prelude.{◌≡◌, ◌≢◌, ◌⊎◌, ℕ, zero, suc, ◌<◌, ◌≤◌, List, [], ◌∷◌, ◌++◌, None, Err}
+use Rattle.std.specs.Prelude.{◌≡◌, ◌≢◌, ◌⊎◌, ℕ, zero, suc, ◌<◌, ◌≤◌, List, [], ◌∷◌, ◌++◌, None, Err, false}
 use Rattle.slab.specs.Slab.{Slab}
 use Rattle.moo_disk.specs.Disk.{DiskKind, KeepsMain, KeepsSpare, OnlyReads}
 use Rattle.moo_dbtext_record.specs.declared.fault.DbFault.{DbFault}
@@ -19,12 +19,16 @@ use Rattle.moo_server_core.specs.declared.event.Event.{Event}
 use Rattle.moo_server_core.specs.declared.event.RunFault.{RunFault}
 use Rattle.moo_server_core.specs.declared.server_core.ServerCore as inner
 use Rattle.moo_cli_serve.specs.Course.{Course, Given}
-use Rattle.moo_cli_serve.specs.Rounds.{Begins, IsClosed, Logs, Rounds}
+use Rattle.moo_cli_serve.specs.Console.{new_console}
+use Rattle.moo_cli_serve.specs.Rounds.{Begins, IsClosed, Logs, Rounds, given_in}
 use Rattle.moo_cli_serve.specs.Silence.{Listens, is_silent}
 use Rattle.moo_cli_serve.specs.Writing.{Writes}
+use Rattle.moo_cli_serve.specs.declared.console.Console.{Console}
 use Rattle.moo_cli_serve.specs.declared.fault.ServeFault.{ServeFault}
 use Rattle.moo_cli_serve.specs.declared.fault.ServeFault.TheVariants as the
 use Rattle.moo_cli_serve.specs.declared.limits.Limits.{Limits}
+use Rattle.moo_cli_serve.specs.declared.serving.Round.{Round}
+use Rattle.moo_cli_serve.specs.declared.serving.Round.TheVariants as round
 use Rattle.moo_cli_serve.specs.declared.serving.Serving.{Serving}
 use Rattle.moo_cli_serve.specs.declared.silence.Silence.{Silence}
 
@@ -39,6 +43,7 @@ pub record Waits {S D : Type 0} (old new : Serving S D) : Type 0 where
   pub server_is : new.server ≡ old.server
   pub disk_is : new.disk ≡ old.disk
   pub moment_is : new.moment ≡ old.moment
+  pub console_is : new.console ≡ old.console
   pub most_is : new.clients.most_waiting ≡ old.clients.most_waiting
   pub timeouts_are : new.timeouts ≡ old.timeouts
   pub sockets : (c : ℕ) → held new.clients.sockets.sockets c ≡ held old.clients.sockets.sockets c
@@ -57,23 +62,34 @@ module _ {S Application D : Type 0} (l : Layer S Application Saved) (kind : Disk
     pub none : (c : ℕ) → held start.clients.sockets.sockets c ≡ None
     pub most_is : start.clients.most_waiting ≡ limits.most_waiting
     pub idle_is : start.timeouts.silence.limit ≡ limits.idle_seconds
+    pub logins_are : start.timeouts.strangers.limits ≡ limits.login
+    pub console_is : start.console ≡ new_console start.console.is_on
 
-  -- a round was made
+  -- A round was made. Then what waited for the console and the log was handed out, and nothing else happened.
   pub record Turns (old new : Serving S D) : Type 0 where
-    pub turned : inner.ServerCore S
-    pub logs : Logs l new.console.is_on turned new.server
-    pub rounds : Rounds l kind old.clients.most_waiting old.moment new.moment old.server turned old.disk new.disk old.clients.sockets.sockets new.clients.sockets.sockets
-        old.timeouts.silence new.timeouts.silence
-    pub most_is : new.clients.most_waiting ≡ old.clients.most_waiting
+    pub turned : Serving S D
+    pub rounds : Rounds l kind old turned
+    pub logs : Logs l turned.console new.console turned.server new.server
+    pub same : new ≡ record turned { server = new.server; console = new.console }
 
-  -- a round was made, and perhaps it waited behind it
+  -- It waits after an idle round, in which nothing was typed, and after no other.
+  abbrev pub Pauses : Round → Serving S D → Serving S D → Type 0
+  Pauses round.Idle turned new = (turned.console.is_busy ≡ false) × Waits turned new
+  Pauses found turned new = new ≡ turned
+
+  -- a round was made, and it waited after it if it was idle
   abbrev pub Steps : Serving S D → Serving S D → Type 0
-  Steps old new = (turned : Serving S D) × Turns old turned × Waits turned new
+  Steps old new = (turned : Serving S D) × Turns old turned × (found : Round) × Pauses found turned new
 
-  -- so many rounds were made, one behind another
+  -- so many rounds were made, one after another
   abbrev pub Makes : ℕ → Serving S D → Serving S D → Type 0
   Makes zero old new = new ≡ old
   Makes (suc n) old new = (mid : Serving S D) × Makes n old mid × Steps mid new
+
+  -- the events that these rounds gave to the server, in order
+  abbrev pub events_in : (rounds : ℕ) (old new : Serving S D) → Makes rounds old new → List Event
+  events_in zero old new makes = []
+  events_in (suc n) old new (mid, makes, steps) = events_in n old mid makes ++ given_in l kind steps.1.rounds
 
   -- It went through so many rounds, or through fewer and was closed then.
   pub record IsServed (rounds : ℕ) (old new : Serving S D) : Type 0 where
@@ -82,13 +98,13 @@ module _ {S Application D : Type 0} (l : Layer S Application Saved) (kind : Disk
     pub few : made ≤ rounds
     pub ends : IsClosed new.server ⊎ (made ≡ rounds)
 
-  -- a server was begun over a disk and served to its end, by calls of one event each
+  -- A server was begun over a disk and served to its end. The events of its rounds were given to it in calls of one each.
   pub record Serves (disk : D) (limits : Limits) (rounds : ℕ) : Type 0 where
     pub start : Serving S D
     pub end : Serving S D
     pub begun : Begun disk limits start
     pub served : IsServed rounds start end
-    pub course : (events : List Event) × Course l kind start.server start.disk events end.server end.disk
+    pub course : Course l kind start.server start.disk (events_in served.made start end served.makes) end.server end.disk
 
 module _ {D : Type 0} (kind : DiskKind D) where
   -- Why no server was begun over a disk, which was left so. Where its text is refused, this is what is told of it, and it spells no saved
@@ -125,6 +141,7 @@ module _ {S Application D : Type 0} (l : Layer S Application Saved) (kind : Disk
     pub fault : RunFault
     pub left : inner.ServerCore S
     pub runs : Runs l kind (with_disk mid between) (with_disk left new) (event ∷ []) (Err fault)
+    pub honest_still : kind.honest between → kind.honest new
     pub cause_is : fault.cause ≡ cause
     pub handed : (handed : Output) × Hands l handed left after
 
@@ -144,34 +161,54 @@ module _ {S Application D : Type 0} (l : Layer S Application Saved) (kind : Disk
     pub refused : IsRefused cause parted written between after new
 
   -- A round was begun, and broke off at an event that the server refused for this cause: one of those that are given first, or a hang-up
-  -- that came of the writes.
-  pub record RefusesRound (cause : Cause) (old : Serving S D) (moment : ℕ) (after : inner.ServerCore S) (new : D) : Type 0 where
+  -- that came of the writes. The server took `events` before.
+  pub record RefusesRound (cause : Cause) (old : Serving S D) (moment : ℕ) (events : List Event) (after : inner.ServerCore S) (new : D) : Type 0 where
     pub first : List Event
     pub read : Slab Socket
-    pub begins : Begins old.clients.sockets.sockets read old.moment moment first
-    pub refused : IsRefused cause first old.server old.disk after new ⊎ RefusesParted cause old.clients.most_waiting first old.server old.disk read old.timeouts.silence after new
+    pub typing : Console
+    pub begins : Begins old.clients.sockets.sockets read old.console typing old.moment moment first
+    pub refused : ((refused : IsRefused cause first old.server old.disk after new) × (events ≡ refused.taken))
+        ⊎ ((parted : RefusesParted cause old.clients.most_waiting first old.server old.disk read old.timeouts.silence after new) × (events ≡ first ++ parted.refused.taken))
 
-  -- why a server that was begun ended before
-  abbrev pub EndsFor : ServeFault → Serving S D → Serving S D → Type 0
-  EndsFor (the.Refused cause) old new = RefusesRound cause old new.moment new.server new.disk
-  EndsFor fault old new = IsOutside fault
+  -- A round was begun, and broke off before the server was given anything, or after it was given all that is given first. Then some of what
+  -- waits was handed out.
+  pub record CutsRound (old : Serving S D) (moment : ℕ) (events : List Event) (after : inner.ServerCore S) (new : D) : Type 0 where
+    pub events_are : (events ≡ []) ⊎ ((read : Slab Socket) × (typing : Console) × Begins old.clients.sockets.sockets read old.console typing old.moment moment events)
+    pub given : inner.ServerCore S
+    pub gives : Given l kind old.server old.disk events given new
+    pub handed : (handed : Output) × Hands l handed given after
 
-  -- So many rounds were made, and one more was begun and broke off for this fault, behind calls of one event each.
-  pub record BreaksOff (rounds : ℕ) (fault : ServeFault) (old new : Serving S D) : Type 0 where
+  -- why a round broke off, after the server took these events
+  abbrev pub EndsFor : ServeFault → Serving S D → List Event → Serving S D → Type 0
+  EndsFor (the.Refused cause) old events new = RefusesRound cause old new.moment events new.server new.disk
+  EndsFor (the.Sockets fault) old events new = CutsRound old new.moment events new.server new.disk
+  EndsFor the.Memory old events new = CutsRound old new.moment events new.server new.disk
+  EndsFor fault old events new = ⊥
+
+  -- a round broke off, or it was made and the wait after it failed
+  abbrev pub StepFails : ServeFault → Serving S D → List Event → Serving S D → Type 0
+  StepFails fault old events new =
+      EndsFor fault old events new ⊎ (IsOutside fault × ((steps : Steps l kind old new) × (events ≡ given_in l kind steps.1.rounds)))
+
+  -- So many rounds were made, and one more was begun and broke off for this fault, or the wait after it failed. The server took `events`.
+  pub record BreaksOff (rounds : ℕ) (fault : ServeFault) (old : Serving S D) (events : List Event) (new : Serving S D) : Type 0 where
     pub made : ℕ
     pub mid : Serving S D
     pub makes : Makes l kind made old mid
     pub fewer : made < rounds
-    pub course : (events : List Event) × Course l kind mid.server mid.disk events new.server new.disk
-    pub ends : EndsFor fault mid new
+    pub last : List Event
+    pub ends : StepFails fault mid last new
+    pub all : events ≡ events_in l kind made old mid makes ++ last
 
-  -- A server was begun over a disk, and ended before for this fault: where it listens couldn't be told, or a round broke off.
+  -- A server was begun over a disk, and ended before for this fault: the address was not known or not printed, or a round broke off. The
+  -- events that it took were given to it in calls of one each.
   pub record Stops (disk : D) (limits : Limits) (rounds : ℕ) (fault : ServeFault) : Type 0 where
     pub start : Serving S D
     pub end : Serving S D
     pub begun : Begun l kind disk limits start
-    pub breaks : (IsOutside fault × (end ≡ start)) ⊎ BreaksOff rounds fault start end
-    pub course : (events : List Event) × Course l kind start.server start.disk events end.server end.disk
+    pub events : List Event
+    pub breaks : (IsOutside fault × (end ≡ start) × (events ≡ [])) ⊎ BreaksOff rounds fault start events end
+    pub course : Course l kind start.server start.disk events end.server end.disk
 
   abbrev pub Fails : D → Limits → ℕ → ServeFault → Type 0
   Fails disk limits rounds fault = NotStarted disk fault ⊎ Stops disk limits rounds fault

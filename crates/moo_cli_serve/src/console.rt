@@ -1,8 +1,8 @@
 //! The console: the operator's own connection, over standard input and standard output.
-ghost use Rattle.std.specs.Prelude.{◌≡◌, ◌≢◌, ℕ, IfOk, OnOk, false};
+ghost use Rattle.std.specs.Prelude.{◌≡◌, ◌≢◌, ◌<◌, ◌≤◌, ◌||◌, ℕ, [], IfOk, IfSome, OnOk, false, is_some, length, true};
 ghost use Rattle.moo_server_core.specs.Application.{Output};
 ghost use Rattle.moo_server_core.specs.Server.{Hands, waiting_of};
-ghost use Rattle.moo_cli_serve.specs.Console.{IsConsolesEnd, IsConsolesInput, IsConsolesOpening, Types};
+ghost use Rattle.moo_cli_serve.specs.Console.{IsConsolesInput, Types, end_of, new_console, opening_of, shown, stays_open};
 
 use libc::net::{POLLIN, POLLOUT, poll};
 use libc::types::pollfd;
@@ -34,7 +34,9 @@ pub struct Console {
 
 impl Console {
     /// Returns a console, or none if `is_on` is false.
-    pub fn new(is_on: bool) -> Console {
+    pub fn new(is_on: bool) -> Console
+        ensures { result ≡ new_console is_on }
+    {
         Console {
             is_on,
             is_open: false,
@@ -45,14 +47,16 @@ impl Console {
     }
 
     /// Returns whether bytes came in the last call of `take`.
-    pub fn is_busy(&self) -> bool {
+    pub fn is_busy(&self) -> bool
+        ensures { result ≡ self.now.is_busy }
+    {
         self.is_busy
     }
 
     /// Appends what comes from the console: its hang-up if the server ends the connection, and one read of standard
     /// input if bytes wait there. The connection opens before its first bytes. Fails only if memory runs out.
     pub fn take(&mut self, alloc: Global, events: &mut Vec<Event>) -> Result<(), AllocError>
-        ensures { OnOk result (Types events.old.items events.new.items) }
+        ensures { OnOk result (Types self.old self.new events.old.items events.new.items) }
     {
         self.is_busy = false;
         if !self.is_on {
@@ -68,7 +72,8 @@ impl Console {
 
     // Returns the hang-up of a connection that the server ends.
     fn hang_up(&mut self) -> Option<Event>
-        ensures { IsConsolesEnd result }
+        ensures end { result ≡ end_of self.old }
+        ensures state { self.new ≡ record self.old { is_open = stays_open self.old; is_leaving = false } }
     {
         if !self.is_leaving {
             return None;
@@ -80,7 +85,8 @@ impl Console {
 
     // Returns the opening of the connection, if bytes came and it isn't open.
     fn open(&mut self, has_input: bool) -> Option<Event>
-        ensures { IsConsolesOpening result }
+        ensures opening { result ≡ opening_of self.old.is_open has_input }
+        ensures state { self.new ≡ record self.old { is_open = self.old.is_open || has_input } }
     {
         if self.is_open || !has_input {
             return None;
@@ -91,7 +97,8 @@ impl Console {
 
     // Reads once from standard input, if bytes wait there. After its end nothing comes.
     fn read(&mut self, alloc: Global) -> Result<Option<Event>, AllocError>
-        ensures { IfOk result (λ event. IsConsolesInput event) }
+        ensures input { IfOk result (λ event. IsConsolesInput event) }
+        ensures state { IfOk result (λ event. self.new ≡ record self.old { has_ended = self.new.has_ended; is_busy = is_some event || self.old.is_busy }) }
     {
         if self.has_ended || !is_ready(STDIN_FILENO, POLLIN) {
             return Ok(None);
@@ -110,9 +117,11 @@ impl Console {
     /// Without a console it does nothing.
     pub fn show<S: StartApplication>(&mut self, server: &mut ServerCore<S>)
         ensures handed { (handed : Output) × Hands S.layer handed server.old server.new }
-        ensures unsent { self.new.is_on ≡ false → (waiting_of S.layer server.new).sent ≡ (waiting_of S.layer server.old).sent }
+        ensures shows { self.old.is_on ≡ true → (waiting_of S.layer server.new).sent 65535 ≡ [] }
+        ensures unsent { self.old.is_on ≡ false → (waiting_of S.layer server.new).sent ≡ (waiting_of S.layer server.old).sent }
         ensures others { (c : ℕ) → c ≢ 65535 → (waiting_of S.layer server.new).sent c ≡ (waiting_of S.layer server.old).sent c }
         ensures log { (waiting_of S.layer server.new).logged ≡ (waiting_of S.layer server.old).logged }
+        ensures state { self.new ≡ shown S.layer server.old self.old }
     {
         if !self.is_on {
             return;
@@ -124,7 +133,9 @@ impl Console {
 }
 
 // Returns the first bytes of a buffer, if a read gave any.
-fn front(buffer: &[u8], count: isize) -> Option<&[u8]> {
+fn front(buffer: &[u8], count: isize) -> Option<&[u8]>
+    ensures { IfSome result (λ piece. (0 < length piece.now) × (length piece.now ≤ length buffer.now)) }
+{
     match usize::try_from(count) {
         Ok(count) if count != 0 => buffer.get(..count),
         _ => None,

@@ -17,12 +17,12 @@ use moo_server_core::StartApplication;
 /// at first, and every text that a crash may leave then has to spell the world that the server read.
 pub fn a_served_world_is_found_again<S: StartApplication, D: Disk, F: Disk>()
     ensures served { (first : D) (limits : Limits) (rounds : ℕ) (serves : Serves S.layer D.kind first limits rounds) (text : List ℕ)
-        (stopped : IsStopped S.layer D.kind first serves.start.server serves.start.disk serves.course.0 serves.end.server serves.end.disk serves.course.1 text)
+        (stopped : IsStopped S.layer D.kind first serves.course text)
         → D.kind.honest first → ((c : List ℕ) → (D.kind.view first).may_leave c → SpellsSavedWithin c serves.begun.from.saved)
         → (found : F) → F.kind.honest found → (F.kind.view found).main_text ≡ text
         → FindsAgain S.layer D.kind F.kind (served_to S.layer D.kind serves stopped) found }
     ensures ended { (first : D) (limits : Limits) (rounds : ℕ) (fault : ServeFault) (stops : Stops S.layer D.kind first limits rounds fault) (text : List ℕ)
-        (stopped : IsStopped S.layer D.kind first stops.start.server stops.start.disk stops.course.0 stops.end.server stops.end.disk stops.course.1 text)
+        (stopped : IsStopped S.layer D.kind first stops.course text)
         → D.kind.honest first → ((c : List ℕ) → (D.kind.view first).may_leave c → SpellsSavedWithin c stops.begun.from.saved)
         → (found : F) → F.kind.honest found → (F.kind.view found).main_text ≡ text
         → FindsAgain S.layer D.kind F.kind (ended_at S.layer D.kind stops stopped) found }

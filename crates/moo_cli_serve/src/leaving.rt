@@ -36,6 +36,7 @@ pub fn write_all<S: StartApplication, L: Log>(
     ensures room { OnOk result (HaveRoom most_waiting sockets.new.sockets) }
     ensures heard { timeouts.new.silence.heard ≡ timeouts.old.silence.heard }
     ensures limit { timeouts.new.silence.limit ≡ timeouts.old.silence.limit }
+    ensures logins { timeouts.new.strangers.limits ≡ timeouts.old.strangers.limits }
 {
     let late = timeouts.find_late(rt, alloc, now, server, sockets)?;
     let due = due(alloc, server, sockets, &late, is_settled)?;
@@ -170,7 +171,7 @@ pub fn log_lines<S: StartApplication, L: Log>(
     console: &mut Console,
     server: &mut ServerCore<S>,
 )
-    ensures { Logs S.layer console.new.is_on server.old server.new }
+    ensures { Logs S.layer console.old console.new server.old server.new }
 {
     console.show(server);
     let lines = server.take_log();

@@ -3,8 +3,9 @@ ghost use Rattle.std.specs.Prelude.{◌≡◌, ◌⊎◌, ◌↔◌, List, IfErr
 ghost use Rattle.moo_server_core.specs.Server.{Follows, with_disk};
 ghost use Rattle.moo_server_core.specs.declared.event.Event as given;
 ghost use Rattle.moo_cli_serve.specs.Course.{Course};
+ghost use Rattle.moo_cli_serve.specs.Console.{new_console};
 ghost use Rattle.moo_cli_serve.specs.Rounds.{IsClosed, Rounds};
-ghost use Rattle.moo_cli_serve.specs.Service.{Begun, BreaksOff, EndsFor, IsOutside, IsServed, NotStarted, Steps, Turns, Waits};
+ghost use Rattle.moo_cli_serve.specs.Service.{Begun, BreaksOff, EndsFor, IsOutside, IsServed, NotStarted, StepFails, Steps, Turns, Waits};
 
 use crate::beginning::{begin, tell_checkpoint};
 use crate::clients::Clients;
@@ -81,6 +82,7 @@ impl<S: StartApplication, D: Disk + Watched> Serving<S, D> {
         D: Drop,
         ensures begun { IfOk result (Begun S.layer D.kind disk limits) }
         ensures follows { IfOk result (λ serving. Follows S.layer D.kind (with_disk serving.server serving.disk)) }
+        ensures console { IfOk result (λ serving. serving.console ≡ new_console has_console) }
         ensures refused { IfErr result (NotStarted S.layer D.kind disk) }
     {
         let mut disk = disk;
@@ -124,7 +126,7 @@ impl<S: StartApplication, D: Disk + Watched> Serving<S, D> {
         ensures follows { Follows S.layer D.kind (with_disk self.new.server self.new.disk) }
         ensures course { (events : List given.Event) × Course S.layer D.kind self.old.server self.old.disk events self.new.server self.new.disk }
         ensures served { OnOk result (IsServed S.layer D.kind rounds self.old self.new) }
-        ensures ended { IfErr result (λ fault. BreaksOff S.layer D.kind rounds fault self.old self.new) }
+        ensures ended { IfErr result (λ fault. (events : List given.Event) × BreaksOff S.layer D.kind rounds fault self.old events self.new) }
     {
         for _made in 0..rounds {
             let goes = self.step(rt)?;
@@ -139,10 +141,9 @@ impl<S: StartApplication, D: Disk + Watched> Serving<S, D> {
     fn step<L: Clock + Log>(&mut self, rt: &L) -> Result<bool, ServeFault>
         requires { Follows S.layer D.kind (with_disk self.old.server self.old.disk) }
         ensures follows { Follows S.layer D.kind (with_disk self.new.server self.new.disk) }
-        ensures course { (events : List given.Event) × Course S.layer D.kind self.old.server self.old.disk events self.new.server self.new.disk }
         ensures goes { IfOk result (λ goes. goes ≡ true → Steps S.layer D.kind self.old self.new) }
         ensures over { IfOk result (λ goes. goes ≡ false → IsClosed self.new.server × ((self.new ≡ self.old) ⊎ Steps S.layer D.kind self.old self.new)) }
-        ensures ended { IfErr result (λ fault. EndsFor S.layer D.kind fault self.old self.new) }
+        ensures ended { IfErr result (λ fault. (events : List given.Event) × StepFails S.layer D.kind fault self.old events self.new) }
     {
         let found = self.round(rt)?;
         match found {
@@ -165,7 +166,8 @@ impl<S: StartApplication, D: Disk + Watched> Serving<S, D> {
         ensures course { (events : List given.Event) × Course S.layer D.kind self.old.server self.old.disk events self.new.server self.new.disk }
         ensures round { OnOk result ((IsClosed self.old.server × (self.new ≡ self.old)) ⊎ Turns S.layer D.kind self.old self.new) }
         ensures over { IfOk result (λ found. (found ≡ Round.Over) ↔ IsClosed self.new.server) }
-        ensures ended { IfErr result (λ fault. EndsFor S.layer D.kind fault self.old self.new) }
+        ensures idle { IfOk result (λ found. found ≡ Round.Idle → self.new.console.is_busy ≡ false) }
+        ensures ended { IfErr result (λ fault. (events : List given.Event) × EndsFor S.layer D.kind fault self.old events self.new) }
     {
         if self.is_closed() {
             return Ok(Round::Over);
@@ -182,11 +184,8 @@ impl<S: StartApplication, D: Disk + Watched> Serving<S, D> {
     fn turn<L: Clock + Log>(&mut self, rt: &L) -> Result<(), ServeFault>
         requires { Follows S.layer D.kind (with_disk self.old.server self.old.disk) }
         ensures follows { Follows S.layer D.kind (with_disk self.new.server self.new.disk) }
-        ensures course { (events : List given.Event) × Course S.layer D.kind self.old.server self.old.disk events self.new.server self.new.disk }
-        ensures round { OnOk result (Rounds S.layer D.kind self.old.clients.most_waiting self.old.moment self.new.moment self.old.server self.new.server self.old.disk self.new.disk
-            self.old.clients.sockets.sockets self.new.clients.sockets.sockets self.old.timeouts.silence self.new.timeouts.silence) }
-        ensures most { self.new.clients.most_waiting ≡ self.old.clients.most_waiting }
-        ensures ended { IfErr result (λ fault. EndsFor S.layer D.kind fault self.old self.new) }
+        ensures round { OnOk result (Rounds S.layer D.kind self.old self.new) }
+        ensures ended { IfErr result (λ fault. (events : List given.Event) × EndsFor S.layer D.kind fault self.old events self.new) }
     {
         let clients = &mut self.clients;
         let is_settled = mem::replace(&mut clients.is_settled, false);
@@ -239,7 +238,8 @@ impl<S: StartApplication, D: Disk + Watched> Serving<S, D> {
 
     // Returns the outcome of a round, before which the disk had made so many calls.
     fn found(&self, calls: u64) -> Round
-        ensures { (result ≡ Round.Over) ↔ IsClosed self.now.server }
+        ensures over { (result ≡ Round.Over) ↔ IsClosed self.now.server }
+        ensures idle { result ≡ Round.Idle → self.now.console.is_busy ≡ false }
     {
         if self.is_closed() {
             return Round::Over;

@@ -19,6 +19,7 @@ pub struct Silence {
 }
 
 impl Silence {
+    /// Returns a search that finds nobody yet: no connection was heard. A limit of 0 seconds is none.
     pub fn new(alloc: Global, limit: u64) -> Silence
         ensures { result.limit ≡ limit }
     {

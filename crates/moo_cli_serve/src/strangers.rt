@@ -33,7 +33,10 @@ pub struct Strangers {
 }
 
 impl Strangers {
-    pub fn new(limits: LoginLimits) -> Strangers {
+    /// Returns a search that has found nobody yet.
+    pub fn new(limits: LoginLimits) -> Strangers
+        ensures { result.limits ≡ limits }
+    {
         Strangers {
             limits,
             second: 0,
@@ -55,7 +58,8 @@ impl Strangers {
         server: &ServerCore<S>,
         sockets: &Sockets,
     ) -> Result<Vec<u16>, AllocError>
-        ensures { IfOk result (λ late. All (λ c. is_stranger S.layer server.now c ≡ true) late.items) }
+        ensures late { IfOk result (λ late. All (λ c. is_stranger S.layer server.now c ≡ true) late.items) }
+        ensures limits { self.new.limits ≡ self.old.limits }
     {
         if !self.is_due(now, sockets.arrivals()) {
             return Ok(Vec::new(alloc));
@@ -88,7 +92,9 @@ impl Strangers {
     }
 
     // Logs a hang-up, at most once a second. The next line counts those between.
-    fn tell_late<L: Log>(&mut self, rt: &L, now: u64, late: &[u16]) {
+    fn tell_late<L: Log>(&mut self, rt: &L, now: u64, late: &[u16])
+        ensures { self.new.limits ≡ self.old.limits }
+    {
         let Some(c) = late.first() else { return };
         let others = self
             .untold

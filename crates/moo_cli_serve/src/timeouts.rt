@@ -31,6 +31,7 @@ impl Timeouts {
         ensures late { IfOk result (λ late. All (λ c. may_be_late S.layer (is_silent self.new.silence now) server.now c ≡ true) late.items) }
         ensures heard { self.new.silence.heard ≡ self.old.silence.heard }
         ensures limit { self.new.silence.limit ≡ self.old.silence.limit }
+        ensures logins { self.new.strangers.limits ≡ self.old.strangers.limits }
     {
         let strangers = self.strangers.find_late(rt, alloc, now, server, sockets)?;
         let silent = self.silence.find(rt, alloc, now, sockets)?;

@@ -65,6 +65,7 @@ returns-in-Err-clause-refused g c = record {
   runs = subst
       (λ (es : List Event). Runs g.S.Application.layer g.D.Disk.kind (with_disk c.loop-event.server c.loop-event.disk) (with_disk c.run.new.self c.run.new.disk) es (Err c.in-Err.fault))
       c.from_ref.ensures.value c.in-Err.ensures.ran;
+  honest_still = c.in-Err.ensures.honest.0;
   cause_is = refl;
   handed = (silence, hands_none g.S.Application.layer c.run.new.self);
 }

@@ -11,6 +11,8 @@ returns g c =
     record {
       handed = (then_out shown.0 lines, hands_join g.S.Application.layer shown.0 lines c.args.server.now c.show.new.server c.take_log-lines.new.self shown.1 c.take_log-lines.ensures.hands);
       none = c.take_log-lines.ensures.nothing;
+      shows = λ on. ap (λ (sent : ℕ → List ℕ). sent 65535) c.take_log-lines.ensures.others ∙ c.show.ensures.shows on;
       unsent = λ off. c.take_log-lines.ensures.others ∙ c.show.ensures.unsent off;
       others = λ k differs. ap (λ (sent : ℕ → List ℕ). sent k) c.take_log-lines.ensures.others ∙ c.show.ensures.others k differs;
+      console_is = c.show.ensures.state;
     }

@@ -3,6 +3,7 @@ use Rattle.std.proofs.KnownBytes.{Appends-nil}
 use Rattle.std.proofs.lemmas.Result.{err_from_is_err_and}
 use Rattle.moo_cli_serve.proofs.Closing.{saved_so}
 use Rattle.moo_cli_serve.proofs.Coursing.{course_none}
+use Rattle.moo_cli_serve.proofs.Events.{course_broken}
 use Rattle.moo_cli_serve.proofs.program.serve_disk.Goals as goal
 
 pub returns-in_err-serving-clause-ended : goal.returns-in_err-serving-clause-ended
@@ -16,8 +17,9 @@ returns-in_err-address-clause-ended g c =
       start = s;
       end = s;
       begun = c.in_ok-serving.ensures.begun;
-      breaks = inl (c.in_err-address.ensures, refl);
-      course = ([], course_none g.S.Application.layer g.D.Disk.kind s.server s.disk);
+      events = [];
+      breaks = inl (c.in_err-address.ensures, refl, refl);
+      course = course_none g.S.Application.layer g.D.Disk.kind s.server s.disk;
     }))
 
 pub returns-in_err-tell_address-clause-ended : goal.returns-in_err-tell_address-clause-ended
@@ -27,8 +29,9 @@ returns-in_err-tell_address-clause-ended g c =
       start = s;
       end = s;
       begun = c.in_ok-serving.ensures.begun;
-      breaks = inl (c.in_err-tell_address.ensures.outside, refl);
-      course = ([], course_none g.S.Application.layer g.D.Disk.kind s.server s.disk);
+      events = [];
+      breaks = inl (c.in_err-tell_address.ensures.outside, refl, refl);
+      course = course_none g.S.Application.layer g.D.Disk.kind s.server s.disk;
     }))
 
 pub returns-in_err-serve-clause-ended : goal.returns-in_err-serve-clause-ended
@@ -38,14 +41,15 @@ returns-in_err-serve-clause-ended g c =
       start = s;
       end = c.serve.new.self;
       begun = c.in_ok-serving.ensures.begun;
-      breaks = inr c.in_err-serve.ensures.ended;
-      course = c.in_err-serve.ensures.course;
+      events = c.in_err-serve.ensures.ended.0;
+      breaks = inr c.in_err-serve.ensures.ended.1;
+      course = course_broken g.S.Application.layer g.D.Disk.kind _ _ s c.in_err-serve.ensures.ended.0 c.serve.new.self c.in_err-serve.ensures.ended.1;
     }))
 
 pub returns-clause-served : goal.returns-clause-served
 returns-clause-served g c =
     saved_so g.S.Application.layer g.D.Disk.kind g.D.Watched.has_failed g.met.D.Watched.counts_last c.args.served.limits c.args.served.rounds c.args.disk
-    c.in_ok-serving.serving c.serve.new.self c.is_saved-is_saved.result c.in_ok-serving.ensures.begun c.in_ok-serve.ensures.course c.in_ok-serve.ensures.served c.is_saved-is_saved.ensures
+    c.in_ok-serving.serving c.serve.new.self c.is_saved-is_saved.result c.in_ok-serving.ensures.begun c.in_ok-serve.ensures.served c.is_saved-is_saved.ensures
 
 -- ---- what was printed
 

@@ -1,5 +1,7 @@
-use Rattle.std.proofs.Common.{refl}
+use Rattle.std.proofs.Common.{refl, sym, ◌∙◌, ap}
 use Rattle.std.proofs.lemmas.Result.{err_from_is_err_and}
+use Rattle.moo_cli_serve.specs.Console.{new_console}
+use Rattle.moo_cli_serve.specs.declared.console.Console.{Console}
 use Rattle.moo_cli_serve.proofs.Serviced.{not_started}
 use Rattle.moo_cli_serve.proofs.serving.Serving.open.Goals as goal
 
@@ -12,4 +14,11 @@ returns-in_err-sockets-clause-refused g c = let p = err_from_is_err_and c.from_r
     rw (p.1, p.2) (_, _, _, c.in_ok-server.ensures.begun)
 
 pub returns-clause-begun : goal.returns-clause-begun
-returns-clause-begun g c = record { from = c.in_ok-server.ensures.begun; none = c.in_ok-sockets.ensures.none; most_is = refl; idle_is = c.new-silence.ensures }
+returns-clause-begun g c = record {
+  from = c.in_ok-server.ensures.begun;
+  none = c.in_ok-sockets.ensures.none;
+  most_is = refl;
+  idle_is = c.new-silence.ensures;
+  logins_are = c.new.ensures;
+  console_is = c.new-2.ensures ∙ ap new_console (sym (ap (λ (console : Console). console.is_on) c.new-2.ensures));
+}

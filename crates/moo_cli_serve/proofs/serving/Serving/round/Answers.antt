@@ -1,8 +1,10 @@
 use Rattle.std.proofs.Common.{[], inl, inr, refl, rules}
 use Rattle.std.proofs.lemmas.Result.{err_from_is_err_and}
-use Rattle.moo_cli_serve.specs.Rounds.{IsClosed}
-use Rattle.moo_cli_serve.proofs.Coursing.{course_none}
-use Rattle.moo_cli_serve.proofs.Rounding.{course_end, follows_end}
+use Rattle.moo_cli_serve.specs.Rounds.{IsClosed, given_in}
+use Rattle.moo_cli_serve.specs.Service.{Turns}
+use Rattle.moo_cli_serve.proofs.Coursing.{course_hands, course_none}
+use Rattle.moo_cli_serve.proofs.Events.{course_ended, course_turned}
+use Rattle.moo_cli_serve.proofs.Rounding.{follows_end}
 use Rattle.moo_cli_serve.proofs.Serviced.{ends_hands}
 use Rattle.moo_cli_serve.proofs.serving.Serving.round.Goals as goal
 
@@ -28,8 +30,12 @@ returns-in_err-turned-clause-follows g c =
 
 pub returns-in_err-turned-clause-course : goal.returns-in_err-turned-clause-course
 returns-in_err-turned-clause-course g c =
-    course_end g.S.Application.layer g.D.Disk.kind
-    c.args.self.now.server c.turn-turned.new.self.server c.log_lines.new.server c.args.self.now.disk c.turn-turned.new.self.disk c.in_err-turned.ensures.course c.log_lines.ensures.handed
+    let ended = c.in_err-turned.ensures.ended in
+    let handed = c.log_lines.ensures.handed in (
+      ended.0,
+      course_hands g.S.Application.layer g.D.Disk.kind c.args.self.now.server c.turn-turned.new.self.server c.log_lines.new.server c.args.self.now.disk c.turn-turned.new.self.disk ended.0 handed.0
+          (course_ended g.S.Application.layer g.D.Disk.kind _ c.args.self.now ended.0 c.turn-turned.new.self ended.1) handed.1,
+    )
 
 pub returns-in_err-turned-clause-round : goal.returns-in_err-turned-clause-round
 returns-in_err-turned-clause-round g c = search rules
@@ -44,19 +50,26 @@ returns-clause-follows g c =
 
 pub returns-clause-course : goal.returns-clause-course
 returns-clause-course g c =
-    course_end g.S.Application.layer g.D.Disk.kind
-    c.args.self.now.server c.turn-turned.new.self.server c.log_lines.new.server c.args.self.now.disk c.turn-turned.new.self.disk c.in_ok-turned.ensures.course c.log_lines.ensures.handed
+    let turns : Turns g.S.Application.layer g.D.Disk.kind c.args.self.now (record c.turn-turned.new.self { server = c.log_lines.new.server; console = c.log_lines.new.console }) =
+    record { turned = c.turn-turned.new.self; rounds = c.in_ok-turned.ensures.round; logs = c.log_lines.ensures; same = refl } in (
+      given_in g.S.Application.layer g.D.Disk.kind turns.rounds,
+      course_turned g.S.Application.layer g.D.Disk.kind c.args.self.now (record c.turn-turned.new.self { server = c.log_lines.new.server; console = c.log_lines.new.console }) turns,
+    )
 
 pub returns-clause-round : goal.returns-clause-round
-returns-clause-round g c = inr (record {
-  turned = c.turn-turned.new.self.server;
-  logs = c.log_lines.ensures;
-  rounds = c.in_ok-turned.ensures.round;
-  most_is = c.in_ok-turned.ensures.most;
-})
+returns-clause-round g c = inr (record { turned = c.turn-turned.new.self; rounds = c.in_ok-turned.ensures.round; logs = c.log_lines.ensures; same = refl })
 
 pub returns-clause-over : goal.returns-clause-over
-returns-clause-over g c = c.found.ensures
+returns-clause-over g c = c.found.ensures.over
+
+pub returns-then-is_closed-clause-idle : goal.returns-then-is_closed-clause-idle
+returns-then-is_closed-clause-idle g c is = absurd cc
+
+pub returns-in_err-turned-clause-idle : goal.returns-in_err-turned-clause-idle
+returns-in_err-turned-clause-idle g c = search rules
+
+pub returns-clause-idle : goal.returns-clause-idle
+returns-clause-idle g c = c.found.ensures.idle
 
 pub returns-then-is_closed-clause-ended : goal.returns-then-is_closed-clause-ended
 returns-then-is_closed-clause-ended g c = tt
@@ -64,9 +77,9 @@ returns-then-is_closed-clause-ended g c = tt
 pub returns-in_err-turned-clause-ended : goal.returns-in_err-turned-clause-ended
 returns-in_err-turned-clause-ended g c =
     let p = err_from_is_err_and c.from_residual.result c.from_residual.ensures.1 in
+    let ended = c.in_err-turned.ensures.ended in
     rw (p.1, p.2)
-    (ends_hands g.S.Application.layer g.D.Disk.kind _
-    c.args.self.now c.turn-turned.new.self c.log_lines.new.server c.log_lines.new.console c.in_err-turned.ensures.ended c.log_lines.ensures.handed)
+    (ended.0, ends_hands g.S.Application.layer g.D.Disk.kind _ c.args.self.now ended.0 c.turn-turned.new.self c.log_lines.new.server c.log_lines.new.console ended.1 c.log_lines.ensures.handed)
 
 pub returns-clause-ended : goal.returns-clause-ended
 returns-clause-ended g c = tt

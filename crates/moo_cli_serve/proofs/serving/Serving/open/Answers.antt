@@ -20,5 +20,5 @@ returns-clause-begun g c = record {
   most_is = refl;
   idle_is = c.new-silence.ensures;
   logins_are = c.new.ensures;
-  console_is = c.new-2.ensures ∙ ap new_console (sym (ap (λ (console : Console). console.is_on) c.new-2.ensures));
+  console_is = c.new-3.ensures ∙ ap new_console (sym (ap (λ (console : Console). console.is_on) c.new-3.ensures));
 }

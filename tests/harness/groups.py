@@ -21,7 +21,7 @@ from row_file import TOP, Broken, parse
 FILES = {
     "commands": "command_line expr",
     "databases": "cut fields hierarchies lines refused values",
-    "programs": "answers at_once begins branches calls expressions frames functions growing hooks hostile in_place known_calls limits lists"
+    "programs": "answers at_once begins branches calls expressions frames functions growing hooks hostile in_place integers known_calls limits lists"
     " loops names operations parts ready scatters statements table values verbs",
     "script": "checkpoints commands connections hooks lines logins programming shown tasks",
 }

@@ -14,5 +14,5 @@ pub use assignment::{before_place, index_refusal, with_index, with_range};
 pub use comparison::{is_decided, is_equal, is_true};
 pub use fault::OperationFault;
 pub use made::list;
-pub use operator::{binary, unary};
+pub use operator::{binary, compared, unary};
 pub use place::{index, length_of, range, spliced};

@@ -1,11 +1,12 @@
 //! The operators.
-ghost use Rattle.std.specs.Prelude.{◌≡◌, ◌++◌, ℤ, Result, Err, IfOk, IfErr};
+ghost use Rattle.std.specs.Prelude.{◌≡◌, ◌++◌, ℤ, Result, Ok, Err, IfOk, IfErr, IfSome};
 ghost use Rattle.moo_value.specs.Tree.{Tree, integer, string};
 ghost use Rattle.moo_value.specs.View.{tree};
 ghost use Rattle.moo_value.specs.declared.error_code.ErrorCode.TheVariants.{TypeMismatch};
 ghost use Rattle.moo_value.specs.declared.error_code.ErrorCode as error;
 ghost use Rattle.moo_builtin_operator.specs.Answer.{Gives, limited};
 ghost use Rattle.moo_builtin_operator.specs.Arithmetic.{on_integers};
+ghost use Rattle.moo_builtin_operator.specs.Truth.{truth_value as truth};
 ghost use Rattle.moo_builtin_operator.specs.Operators.{unary_of, binary_of, added};
 
 use crate::arithmetic;
@@ -66,6 +67,21 @@ pub fn binary(
         BinaryOperator::Greater => Ok(truth_value(ordering(a, b)?.is_gt())),
         BinaryOperator::GreaterOrEqual => Ok(truth_value(ordering(a, b)?.is_ge())),
         BinaryOperator::In => place_in(a, b),
+    }
+}
+
+/// Returns whether a comparison of two values holds. `None` for another operator, or for values that have no order.
+pub fn compared(operator: BinaryOperator, a: &Value, b: &Value) -> Option<bool>
+    ensures { IfSome result (λ holds. binary_of operator (tree a.now) (tree b.now) ≡ Ok (truth holds)) }
+{
+    match operator {
+        BinaryOperator::Equal => Some(is_equal(a, b)),
+        BinaryOperator::NotEqual => Some(!is_equal(a, b)),
+        BinaryOperator::Less => Some(moo_value::order(a, b)?.is_lt()),
+        BinaryOperator::LessOrEqual => Some(moo_value::order(a, b)?.is_le()),
+        BinaryOperator::Greater => Some(moo_value::order(a, b)?.is_gt()),
+        BinaryOperator::GreaterOrEqual => Some(moo_value::order(a, b)?.is_ge()),
+        _ => None,
     }
 }
 

@@ -1,53 +1,76 @@
 //! Runs assignments.
-ghost use Rattle.std.specs.Prelude.{◌≤◌, None, Result, Err, IfOk, IfErr, OnOk, map};
-ghost use Rattle.moo_syntax_ast.specs.Tree.{variable, assign, performs, list, splice, element, no_items};
-ghost use Rattle.moo_syntax_ast.specs.View.{tree, items_of};
+ghost use Rattle.std.specs.Prelude.{◌≡◌, ◌≤◌, None, Ok, IsTrue, IsFalse, Result, Err, IfOk, IfErr, OnOk, map};
+ghost use Rattle.moo_syntax_ast.specs.Tree.{variable, assign, performs, list};
+ghost use Rattle.moo_syntax_lower.specs.Source.{source, source_items};
 ghost use Rattle.moo_value.specs.View.{tree as value_tree};
-ghost use Rattle.moo_eval_access.specs.Target.{Path, named, scattered};
-ghost use Rattle.moo_eval_semantics.specs.Meaning.{Computes, Does, Locates, Finds, Steps, Stores, Puts, SetsDefaults};
-ghost use Rattle.moo_eval_frame.specs.Seen.{context_of, failure_of, seen_answer, seen_by, seen_done, seen_flow, HadMemoryIn, IsKnown, IsKnownFailure};
-ghost use Rattle.moo_eval.specs.Growth.{IsLengthened};
-ghost use Rattle.moo_eval_frame.specs.Outcome.{Failure as Failed};
+ghost use Rattle.moo_eval_access.specs.Target.{Path, named};
+ghost use Rattle.moo_eval_semantics.specs.Meaning.{Evaluates, Computes, Does, Locates, Finds, Steps, Stores};
+ghost use Rattle.moo_eval_frame.specs.Seen.{context_of, failure_of, seen_answer, seen_by, seen_done, seen_flow, seen_value, HadMemoryIn, IsKnown, IsKnownFailure};
 ghost use Rattle.moo_eval_frame.specs.State.{Context};
+ghost use Rattle.moo_eval_frame.specs.Held.{IsHeld};
+ghost use Rattle.moo_eval_frame.specs.Outcome.{next};
 ghost use Rattle.moo_world_table.specs.World.{World as WorldModel};
 ghost use Rattle.moo_eval_access.specs.State.{State};
 ghost use Rattle.moo_builtin.specs.Telling.{Faults};
 ghost use Rattle.moo_eval.specs.Seen.{state_of};
 ghost use Rattle.moo_eval_access.specs.SeenTarget.{root_seen, step_of, steps_of, path_of, spot_of};
-ghost use Rattle.moo_eval_frame.specs.SeenScatter.{left_out_of};
 
 use crate::interpreter::Task;
+use crate::simple::part_value;
 use moo_eval_access::{
     Path, Places, Root, Spot, Step, as_property, push_step, rebuilt, root_alone, set_variable,
     taken_apart, write_property,
 };
-use moo_eval_fast_stmt::{as_variable, set_longer};
-use moo_eval_frame::{
-    Activation, CallStack, Failure, Flow, LeftOut, Stop, dealt, missing, set_shares,
-};
-use moo_syntax_ast::{Expr, Item, Name};
-use moo_value::{ErrorCode, Value};
+use moo_eval_frame::{Activation, CallStack, Failure, Flow, Stop};
+use moo_eval_integer::{arithmetic_integer, take};
+use moo_syntax_ast::Name;
+use moo_syntax_lower::{Node, NodeItem};
+use moo_value::Value;
 use moo_world::World;
 
 impl Task {
+    /// Evaluates an assignment, which takes a tick.
     #[cycle(evaluation)]
-    #[inline(always)]
+    #[inline(never)]
     pub(crate) fn assign(
         &mut self,
         world: &mut World,
         active: &mut Activation,
         stack: &CallStack<'_>,
         indexed: Option<&Value>,
-        target: &Expr,
-        value: &Expr,
-    ) -> Result<Value, Failure>
-        ensures meaning { IsKnownFailure result → Computes Faults (context_of stack.now indexed.entry) (assign (tree target.now) (tree value.now)) (state_of self.old world.old active.old) (seen_answer result) (state_of self.new world.new active.new) }
+        target: &Node,
+        value: &Node,
+    ) -> Result<Value, Stop>
+        ensures meaning { IsKnown result → Evaluates Faults (context_of stack.now indexed.entry) (assign (source target.now) (source value.now)) (state_of self.old world.old active.old) (seen_value result) (state_of self.new world.new active.new) }
         ensures ticks { self.new.ticks_left ≤ self.old.ticks_left }
     {
-        if let Some(name) = as_variable(target) {
-            return self.assign_variable(world, active, stack, indexed, name, value);
+        self.take_tick(active, stack)?;
+        match self.compute_assign(world, active, stack, indexed, target, value) {
+            Ok(value) => Ok(value),
+            Err(failure) => self.settled(active, stack, failure),
         }
-        self.assign_path(world, active, stack, indexed, target, value)
+    }
+
+    #[cycle(evaluation)]
+    #[inline(always)]
+    fn compute_assign(
+        &mut self,
+        world: &mut World,
+        active: &mut Activation,
+        stack: &CallStack<'_>,
+        indexed: Option<&Value>,
+        target: &Node,
+        value: &Node,
+    ) -> Result<Value, Failure>
+        ensures meaning { IsKnownFailure result → Computes Faults (context_of stack.now indexed.entry) (assign (source target.now) (source value.now)) (state_of self.old world.old active.old) (seen_answer result) (state_of self.new world.new active.new) }
+        ensures ticks { self.new.ticks_left ≤ self.old.ticks_left }
+    {
+        match target {
+            Node::Variable(name) => {
+                self.assign_variable(world, active, stack, indexed, name, value)
+            }
+            _ => self.assign_path(world, active, stack, indexed, target, value),
+        }
     }
 
     // Finds the target first, then evaluates the value, then stores it.
@@ -59,14 +82,14 @@ impl Task {
         active: &mut Activation,
         stack: &CallStack<'_>,
         indexed: Option<&Value>,
-        target: &Expr,
-        value: &Expr,
+        target: &Node,
+        value: &Node,
     ) -> Result<Value, Failure>
-        ensures meaning { IsKnownFailure result → Computes Faults (context_of stack.now indexed.entry) (assign (tree target.now) (tree value.now)) (state_of self.old world.old active.old) (seen_answer result) (state_of self.new world.new active.new) }
+        ensures meaning { IsKnownFailure result → Computes Faults (context_of stack.now indexed.entry) (assign (source target.now) (source value.now)) (state_of self.old world.old active.old) (seen_answer result) (state_of self.new world.new active.new) }
         ensures ticks { self.new.ticks_left ≤ self.old.ticks_left }
     {
         let path = self.locate(world, active, stack, indexed, target)?;
-        let value = self.evaluate_part(world, active, stack, indexed, value)?;
+        let value = self.evaluate(world, active, stack, indexed, value)?;
         self.store(world, active, stack, indexed, path, &value)?;
         Ok(value)
     }
@@ -81,19 +104,51 @@ impl Task {
         stack: &CallStack<'_>,
         indexed: Option<&Value>,
         name: &Name,
-        value: &Expr,
+        value: &Node,
     ) -> Result<Value, Failure>
-        ensures meaning { IsKnownFailure result → Computes Faults (context_of stack.now indexed.entry) (assign (variable name.now) (tree value.now)) (state_of self.old world.old active.old) (seen_answer result) (state_of self.new world.new active.new) }
+        ensures meaning { IsKnownFailure result → Computes Faults (context_of stack.now indexed.entry) (assign (variable name.now) (source value.now)) (state_of self.old world.old active.old) (seen_answer result) (state_of self.new world.new active.new) }
         ensures ticks { self.new.ticks_left ≤ self.old.ticks_left }
     {
-        let value = self.evaluate_part(world, active, stack, indexed, value)?;
+        let value = self.evaluate(world, active, stack, indexed, value)?;
         let copy = value.try_clone()?;
         active.variables.set(name, copy)?;
         Ok(value)
     }
 
-    /// Assigns to a variable, if the assignment's own value is not used. The assigned expression is evaluated node by
-    /// node. Not inlined, so that nested statements need no stack space for it.
+    /// Assigns to a variable that is set a value that is simple, and returns whether it did. If not, nothing has changed.
+    #[inline(never)]
+    pub(crate) fn try_set(
+        &mut self,
+        world: &World,
+        active: &mut Activation,
+        name: &Name,
+        value: &Node,
+    ) -> bool
+        ensures done { IsTrue result → (c : Context) → Does Faults c (performs (assign (variable name.now) (source value.now))) (state_of self.old world.now active.old) (Ok next) (state_of self.new world.now active.new) }
+        ensures kept { IsFalse result → (self.new ≡ self.old) × (active.new ≡ active.old) }
+        ensures ticks { self.new.ticks_left ≤ self.old.ticks_left }
+    {
+        if let Node::Call(function, items) = value {
+            if self.try_append(world, active, name, function, items) {
+                return true;
+            }
+        }
+        let Some(slot) = active.variables.standing(name) else {
+            return false;
+        };
+        let mut left = self.ticks_left.left() as u32;
+        if take(&mut left).is_none() {
+            return false;
+        }
+        if !set_simple(world, active, &mut left, slot, value) {
+            return false;
+        }
+        self.ticks_left.leave(left);
+        true
+    }
+
+    /// Assigns to a variable, if the assignment's own value is not used and `try_set` has declined. Not inlined, so that
+    /// nested statements need no stack space for it.
     #[cycle(evaluation)]
     #[inline(never)]
     pub(crate) fn assign_alone(
@@ -102,65 +157,18 @@ impl Task {
         active: &mut Activation,
         stack: &CallStack<'_>,
         name: &Name,
-        value: &Expr,
+        value: &Node,
     ) -> Result<Flow, Stop>
-        ensures meaning { IsKnown result → Does Faults (context_of stack.now None) (performs (assign (variable name.now) (tree value.now))) (state_of self.old world.old active.old) (seen_flow result) (state_of self.new world.new active.new) }
+        ensures meaning { IsKnown result → Does Faults (context_of stack.now None) (performs (assign (variable name.now) (source value.now))) (state_of self.old world.old active.old) (seen_flow result) (state_of self.new world.new active.new) }
         ensures ticks { self.new.ticks_left ≤ self.old.ticks_left }
     {
         self.take_tick(active, stack)?;
-        let value = self.evaluate_node(world, active, stack, None, value)?;
+        let value = match active.variables.standing(name) {
+            Some(_) => self.evaluate_tried(world, active, stack, None, value)?,
+            None => self.evaluate(world, active, stack, None, value)?,
+        };
         active.variables.set(name, value)?;
         Ok(Flow::Next)
-    }
-
-    /// Runs `name = {@name, last}`, if the assignment's own value is not used. Not inlined, so that nested statements
-    /// need no stack space for it.
-    #[cycle(evaluation)]
-    #[inline(never)]
-    pub(crate) fn lengthen(
-        &mut self,
-        world: &mut World,
-        active: &mut Activation,
-        stack: &CallStack<'_>,
-        name: &Name,
-        last: &Expr,
-    ) -> Result<Flow, Stop>
-        ensures meaning { IsKnown result → Does Faults (context_of stack.now None) (performs (assign (variable name.now) (list (splice (variable name.now) (element (tree last.now) no_items))))) (state_of self.old world.old active.old) (seen_flow result) (state_of self.new world.new active.new) }
-        ensures ticks { self.new.ticks_left ≤ self.old.ticks_left }
-    {
-        self.take_tick(active, stack)?;
-        self.take_tick(active, stack)?;
-        match self.put_behind(world, active, stack, name, last) {
-            Ok(()) => Ok(Flow::Next),
-            Err(failure) => {
-                let value = self.settled(active, stack, failure)?;
-                active.variables.set(name, value)?;
-                Ok(Flow::Next)
-            }
-        }
-    }
-
-    // Sets the variable to the list `{@name, last}`, if that is one.
-    #[cycle(evaluation)]
-    fn put_behind(
-        &mut self,
-        world: &mut World,
-        active: &mut Activation,
-        stack: &CallStack<'_>,
-        name: &Name,
-        last: &Expr,
-    ) -> Result<(), Failure>
-        ensures ok { OnOk result (IsLengthened Faults (context_of stack.now None) name.now (list (splice (variable name.now) (element (tree last.now) no_items))) (state_of self.old world.old active.old) (state_of self.new world.new active.new)) }
-        ensures err { IfErr result (λ failure. HadMemoryIn failure → Computes Faults (context_of stack.now None) (list (splice (variable name.now) (element (tree last.now) no_items))) (state_of self.old world.old active.old) (Err (failure_of failure)) (state_of self.new world.new active.new)) }
-        ensures ticks { self.new.ticks_left ≤ self.old.ticks_left }
-    {
-        let found = self.variable(active, stack, name)?;
-        let Value::List(list) = found else {
-            return Err(Failure::Fails(ErrorCode::TypeMismatch));
-        };
-        let last = self.evaluate(world, active, stack, None, last)?;
-        set_longer(self.alloc(), &mut active.variables, name, list, last)?;
-        Ok(())
     }
 
     // Returns the path to what a target sets; its containers are read from the root on.
@@ -172,9 +180,9 @@ impl Task {
         active: &mut Activation,
         stack: &CallStack<'_>,
         indexed: Option<&Value>,
-        target: &'a Expr,
+        target: &'a Node,
     ) -> Result<Path<'a>, Failure>
-        ensures meaning { IsKnownFailure result → Locates Faults (context_of stack.now indexed.entry) (tree target.now) (state_of self.old world.old active.old) (seen_by path_of result) (state_of self.new world.new active.new) }
+        ensures meaning { IsKnownFailure result → Locates Faults (context_of stack.now indexed.entry) (source target.now) (state_of self.old world.old active.old) (seen_by path_of result) (state_of self.new world.new active.new) }
         ensures ticks { self.new.ticks_left ≤ self.old.ticks_left }
     {
         let parts = taken_apart(self.alloc(), target)?;
@@ -199,15 +207,15 @@ impl Task {
         active: &mut Activation,
         stack: &CallStack<'_>,
         indexed: Option<&Value>,
-        root: &'a Expr,
+        root: &'a Node,
     ) -> Result<Root<'a>, Failure>
-        ensures meaning { IsKnownFailure result → Finds Faults (context_of stack.now indexed.entry) (tree root.now) (state_of self.old world.old active.old) (seen_by root_seen result) (state_of self.new world.new active.new) }
+        ensures meaning { IsKnownFailure result → Finds Faults (context_of stack.now indexed.entry) (source root.now) (state_of self.old world.old active.old) (seen_by root_seen result) (state_of self.new world.new active.new) }
         ensures ticks { self.new.ticks_left ≤ self.old.ticks_left }
     {
         match as_property(root) {
             Some((base, name)) => {
-                let base = self.evaluate_part(world, active, stack, indexed, base)?;
-                let name = self.evaluate_part(world, active, stack, indexed, name)?;
+                let base = self.evaluate(world, active, stack, indexed, base)?;
+                let name = self.evaluate(world, active, stack, indexed, name)?;
                 Ok(Root::Property(base, name))
             }
             None => root_alone(root),
@@ -232,13 +240,13 @@ impl Task {
         let container = path.value(self.alloc(), world, active)?;
         match spot {
             Spot::Element(place) => {
-                let place = self.evaluate_part(world, active, stack, Some(&container), place)?;
+                let place = self.evaluate(world, active, stack, Some(&container), place)?;
                 let places = Places::Element(place);
                 Ok(Step { container, places })
             }
             Spot::Part(low, high) => {
-                let low = self.evaluate_part(world, active, stack, Some(&container), low)?;
-                let high = self.evaluate_part(world, active, stack, Some(&container), high)?;
+                let low = self.evaluate(world, active, stack, Some(&container), low)?;
+                let high = self.evaluate(world, active, stack, Some(&container), high)?;
                 let places = Places::Part(low, high);
                 Ok(Step { container, places })
             }
@@ -289,58 +297,31 @@ impl Task {
         set_variable(self.alloc(), &mut active.variables, name, steps, value)?;
         Ok(())
     }
+}
 
-    // Sets the names that get an element first, then those with a default, from the left.
-    #[cycle(evaluation)]
-    fn scatter(
-        &mut self,
-        world: &mut World,
-        active: &mut Activation,
-        stack: &CallStack<'_>,
-        indexed: Option<&Value>,
-        items: &[Item],
-        value: &Value,
-    ) -> Result<(), Failure>
-        ensures meaning { IsKnownFailure result → Puts Faults (context_of stack.now indexed.entry) (scattered (items_of items.now)) (value_tree value.now) (state_of self.old world.old active.old) (seen_done result) (state_of self.new world.new active.new) }
-        ensures ticks { self.new.ticks_left ≤ self.old.ticks_left }
-    {
-        let defaults = self.deal(active, items, value)?;
-        self.set_defaults(world, active, stack, indexed, &defaults)
+// Sets the variable in a slot to a value that is simple, and returns whether it did.
+#[inline(always)]
+fn set_simple(
+    world: &World,
+    active: &mut Activation,
+    left: &mut u32,
+    slot: usize,
+    value: &Node,
+) -> bool
+    requires { IsHeld active.old.variables.own slot }
+    ensures ticks { left.new ≤ left.old }
+    ensures kept { IsFalse result → active.new ≡ active.old }
+{
+    if let Node::Arithmetic(operator, a, b) = value {
+        let Some(number) = arithmetic_integer(active, left, *operator, a, b) else {
+            return false;
+        };
+        active.variables.put_standing_integer(slot, number);
+        return true;
     }
-
-    // Sets the names that get an element, and returns those with a default that get none. Not inlined, so that nested
-    // scatters need no stack space for it.
-    #[inline(never)]
-    fn deal<'a>(
-        &self,
-        active: &mut Activation,
-        items: &'a [Item],
-        value: &Value,
-    ) -> Result<Vec<LeftOut<'a>>, Failure>
-        ensures ok { IfOk result (λ defaults. (c : Context) (w : WorldModel) (o : Result (Unit {0}) Failed) (s : State) → SetsDefaults Faults c (map left_out_of defaults.items) (state_of self.now w active.new) o s → Puts Faults c (scattered (items_of items.now)) (value_tree value.now) (state_of self.now w active.old) o s) }
-        ensures err { IfErr result (λ failure. HadMemoryIn failure → (c : Context) (w : WorldModel) → Puts Faults c (scattered (items_of items.now)) (value_tree value.now) (state_of self.now w active.old) (Err (failure_of failure)) (state_of self.now w active.new)) }
-    {
-        let list = dealt(items, value)?;
-        set_shares(self.alloc(), active, items, list)?;
-        Ok(missing(self.alloc(), items, list)?)
-    }
-
-    #[cycle(evaluation)]
-    fn set_defaults(
-        &mut self,
-        world: &mut World,
-        active: &mut Activation,
-        stack: &CallStack<'_>,
-        indexed: Option<&Value>,
-        defaults: &[LeftOut<'_>],
-    ) -> Result<(), Failure>
-        ensures meaning { IsKnownFailure result → SetsDefaults Faults (context_of stack.now indexed.entry) (map left_out_of defaults.now) (state_of self.old world.old active.old) (seen_done result) (state_of self.new world.new active.new) }
-        ensures ticks { self.new.ticks_left ≤ self.old.ticks_left }
-    {
-        for default in defaults {
-            let value = self.evaluate(world, active, stack, indexed, default.value)?;
-            active.variables.set(default.name, value)?;
-        }
-        Ok(())
-    }
+    let Some(value) = part_value(world, active, left, value) else {
+        return false;
+    };
+    active.variables.put_standing(slot, value);
+    true
 }

@@ -1,25 +1,60 @@
-//! Elements that are set in the variable that holds their list, as in `l[i] = x`, and bytes of a string.
-ghost use Rattle.std.specs.Prelude.{◌≡◌, ◌≤◌, ◌<◌, None, Ok, Err, IfOk, IfErr, IsTrue, IsFalse, OnOk};
+//! Runs assignments to an element of a list, or a byte of a string, in a variable.
+ghost use Rattle.std.specs.Prelude.{◌≡◌, ◌≤◌, None, Ok, Err, IsTrue, IsFalse, IfErr, OnOk};
 ghost use Rattle.moo_syntax_ast.specs.Tree.{performs};
-ghost use Rattle.moo_syntax_ast.specs.View.{tree, statement as statement_of};
-ghost use Rattle.moo_eval_frame.specs.Outcome.{next};
+ghost use Rattle.moo_syntax_lower.specs.Source.{source};
+ghost use Rattle.moo_eval_frame.specs.Held.{IsHeld};
 ghost use Rattle.moo_eval_frame.specs.State.{Context};
+ghost use Rattle.moo_eval_frame.specs.Outcome.{next};
 ghost use Rattle.moo_eval_frame.specs.Seen.{context_of, failure_of, seen_flow, HadMemoryIn, IsKnown};
 ghost use Rattle.moo_builtin.specs.Telling.{Faults};
-ghost use Rattle.moo_eval_fast_stmt.specs.Element.{sets_place};
-ghost use Rattle.moo_eval.specs.Element.{IsPut};
-ghost use Rattle.moo_eval_semantics.specs.Meaning.{Computes, Does, Runs};
+ghost use Rattle.moo_eval.specs.Element.{sets_place, IsPut};
+ghost use Rattle.moo_eval_semantics.specs.Meaning.{Computes, Does};
 ghost use Rattle.moo_eval.specs.Seen.{state_of};
 
 use crate::interpreter::Task;
-use moo_eval_fast_stmt::{as_placing, places, set_at};
+use crate::place::place_integer;
+use crate::simple::part_value;
+use moo_builtin_operator::before_place;
+use moo_eval_access::set_at;
 use moo_eval_frame::{Activation, CallStack, Failure, Flow, Stop, read_variable};
-use moo_syntax_ast::{Expr, Name, Stmt};
+use moo_eval_integer::{flat_integer, take};
+use moo_syntax_ast::Name;
+use moo_syntax_lower::Node;
+use moo_value::Value;
 use moo_world::World;
-use std::alloc::AllocError;
 
 impl Task {
-    /// `name[place] = value`, whose own value is not used. Not inlined, so that nested statements hold no room for it.
+    /// Replaces an element of the list of a variable in place by a value that is simple, and returns whether it did. If not,
+    /// nothing has changed.
+    #[inline(never)]
+    pub(crate) fn try_put(
+        &mut self,
+        world: &World,
+        active: &mut Activation,
+        name: &Name,
+        place: &Node,
+        value: &Node,
+    ) -> bool
+        ensures done { IsTrue result → (c : Context) → Does Faults c (performs (sets_place name.now (source place.now) (source value.now))) (state_of self.old world.now active.old) (Ok next) (state_of self.new world.now active.new) }
+        ensures kept { IsFalse result → (self.new ≡ self.old) × (active.new ≡ active.old) }
+        ensures ticks { self.new.ticks_left ≤ self.old.ticks_left }
+    {
+        let Some(slot) = active.variables.standing(name) else {
+            return false;
+        };
+        let mut left = self.ticks_left.left() as u32;
+        let Some(before) = place_in(active, &mut left, slot, place) else {
+            return false;
+        };
+        if !put_simple(world, active, &mut left, slot, before, value) {
+            return false;
+        }
+        self.ticks_left.leave(left);
+        true
+    }
+
+    /// Runs `name[place] = value`, if the assignment's own value is not used. Not inlined, so that nested statements
+    /// need no stack space for it.
     #[cycle(evaluation)]
     #[inline(never)]
     pub(crate) fn set_place(
@@ -28,10 +63,10 @@ impl Task {
         active: &mut Activation,
         stack: &CallStack<'_>,
         name: &Name,
-        place: &Expr,
-        value: &Expr,
+        place: &Node,
+        value: &Node,
     ) -> Result<Flow, Stop>
-        ensures meaning { IsKnown result → Does Faults (context_of stack.now None) (performs (sets_place name.now (tree place.now) (tree value.now))) (state_of self.old world.old active.old) (seen_flow result) (state_of self.new world.new active.new) }
+        ensures meaning { IsKnown result → Does Faults (context_of stack.now None) (performs (sets_place name.now (source place.now) (source value.now))) (state_of self.old world.old active.old) (seen_flow result) (state_of self.new world.new active.new) }
         ensures ticks { self.new.ticks_left ≤ self.old.ticks_left }
     {
         self.take_tick(active, stack)?;
@@ -44,7 +79,8 @@ impl Task {
         }
     }
 
-    // What the variable holds is read first, then come the place, where `$` measures it, and the value.
+    // Reads the variable, then evaluates the place, in which `$` measures the variable's value, and the value, then
+    // sets the variable.
     #[cycle(evaluation)]
     fn put_at(
         &mut self,
@@ -52,11 +88,11 @@ impl Task {
         active: &mut Activation,
         stack: &CallStack<'_>,
         name: &Name,
-        place: &Expr,
-        value: &Expr,
+        place: &Node,
+        value: &Node,
     ) -> Result<(), Failure>
-        ensures ok { OnOk result (IsPut Faults (context_of stack.now None) name.now (tree place.now) (tree value.now) (state_of self.old world.old active.old) (state_of self.new world.new active.new)) }
-        ensures err { IfErr result (λ failure. HadMemoryIn failure → Computes Faults (context_of stack.now None) (sets_place name.now (tree place.now) (tree value.now)) (state_of self.old world.old active.old) (Err (failure_of failure)) (state_of self.new world.new active.new)) }
+        ensures ok { OnOk result (IsPut Faults (context_of stack.now None) name.now (source place.now) (source value.now) (state_of self.old world.old active.old) (state_of self.new world.new active.new)) }
+        ensures err { IfErr result (λ failure. HadMemoryIn failure → Computes Faults (context_of stack.now None) (sets_place name.now (source place.now) (source value.now)) (state_of self.old world.old active.old) (Err (failure_of failure)) (state_of self.new world.new active.new)) }
         ensures ticks { self.new.ticks_left ≤ self.old.ticks_left }
     {
         let container = read_variable(active, name)?;
@@ -72,33 +108,65 @@ impl Task {
         )?;
         Ok(())
     }
+}
 
-    /// Runs `name[place] = value` where place and value are known at once and nothing is raised, and tells whether it did. Else nothing
-    /// has begun.
-    #[inline(never)]
-    pub(crate) fn places_at_once(
-        &mut self,
-        world: &World,
-        active: &mut Activation,
-        statement: &Stmt,
-    ) -> Result<bool, AllocError>
-        ensures done { IfOk result (λ b. IsTrue b → (c : Context) → Runs Faults c (statement_of statement.now) (state_of self.old world.now active.old) (Ok next) (state_of self.new world.now active.new)) }
-        ensures fewer { IfOk result (λ b. IsTrue b → self.new.ticks_left < self.old.ticks_left) }
-        ensures kept { IfOk result (λ b. IsFalse b → (self.new ≡ self.old) × (active.new ≡ active.old)) }
-        ensures ticks { self.new.ticks_left ≤ self.old.ticks_left }
-    {
-        let Some((name, place, value)) = as_placing(statement) else {
-            return Ok(false);
+// Returns a place in the list in a slot, which counts from 0, if it is computed from integers alone and the list has it, and
+// takes the ticks of the assignment and of the place.
+#[inline(always)]
+fn place_in(active: &Activation, left: &mut u32, slot: usize, place: &Node) -> Option<usize>
+    requires { IsHeld active.now.variables.own slot }
+    ensures ticks { left.new ≤ left.old }
+{
+    let Value::List(list) = active.variables.standing_value(slot) else {
+        return None;
+    };
+    take(left)?;
+    let place = place_integer(active, left, place, list.len())?;
+    before_place(place, list.len())
+}
+
+// Puts a value that is simple into the list in a slot, and returns whether it did. `before` counts from 0.
+#[inline(always)]
+fn put_simple(
+    world: &World,
+    active: &mut Activation,
+    left: &mut u32,
+    slot: usize,
+    before: usize,
+    value: &Node,
+) -> bool
+    requires { IsHeld active.old.variables.own slot }
+    ensures ticks { left.new ≤ left.old }
+    ensures kept { IsFalse result → active.new ≡ active.old }
+{
+    if is_number(value) {
+        return match flat_integer(active, left, value) {
+            Some(number) => put_number(active, slot, before, number),
+            None => false,
         };
-        let mut left = self.ticks_left.left() as u32;
-        if left < 2 {
-            return Ok(false);
-        }
-        left -= 2;
-        let placed = places(self.alloc, world, active, &mut left, name, place, value)?;
-        if placed {
-            self.ticks_left.leave(left);
-        }
-        Ok(placed)
     }
+    let Some(value) = part_value(world, active, left, value) else {
+        return false;
+    };
+    active.variables.put_standing_value(slot, before, value)
+}
+
+// Is true for an integer of the program and an operator between integers.
+#[inline(always)]
+fn is_number(node: &Node) -> bool {
+    matches!(node, Node::Integer(_) | Node::Arithmetic(..))
+}
+
+// Puts an integer into the list in a slot, and returns whether it did. `before` counts from 0.
+#[inline(always)]
+fn put_number(active: &mut Activation, slot: usize, before: usize, number: i32) -> bool
+    requires { IsHeld active.old.variables.own slot }
+    ensures kept { IsFalse result → active.new ≡ active.old }
+{
+    if active.variables.put_standing_element(slot, before, number) {
+        return true;
+    }
+    active
+        .variables
+        .put_standing_value(slot, before, Value::Int(number))
 }

@@ -15,7 +15,7 @@ use moo_eval_frame::{Activation, CallStack, Failure};
 use moo_value::Value;
 use moo_world::World;
 
-/// What a function that calls verbs waits for: nothing, since it has its value, or a verb with statements.
+/// Holds what a function that calls verbs waits for: nothing, since it has its value, or a verb with statements.
 #[derive(Drop)]
 pub(crate) enum Pending<'a> {
     Answer(Value),
@@ -28,7 +28,7 @@ impl Task {
         &mut self,
         world: &mut World,
         active: &Activation,
-        stack: &CallStack<'a>,
+        stack: &'a CallStack<'_>,
         stage: Stage,
         answer: Value,
     ) -> Result<Pending<'a>, Failure>
@@ -46,7 +46,7 @@ impl Task {
         &mut self,
         world: &mut World,
         active: &Activation,
-        stack: &CallStack<'a>,
+        stack: &'a CallStack<'_>,
         first: Progress<'a>,
     ) -> Result<Pending<'a>, Failure>
         ensures meaning { IsKnownFailure result → LeadsTo Faults (context_of stack.now None) (progress_of first.entry) (state_of self.old world.old active.now) (seen_pending result) (state_of self.new world.new active.now) }

@@ -1,9 +1,10 @@
 //! Evaluates expressions.
-ghost use Rattle.std.specs.Prelude.{◌≡◌, ◌-◌, ◌<◌, ◌≤◌, ℕ, List, [], ◌++◌, None, Ok, Err, IfOk, IfErr, OnOk, OnErr};
-ghost use Rattle.moo_syntax_ast.specs.View.{tree, items_of};
+ghost use Rattle.std.specs.Prelude.{◌≡◌, ◌-◌, ◌<◌, ◌≤◌, ℕ, List, [], ◌++◌, None, Ok, Err, IfOk, IfErr, IfSome, IfNone, OnOk, OnErr};
+ghost use Rattle.moo_syntax_lower.specs.Source.{source, source_items};
 ghost use Rattle.moo_value.specs.View.{tree as tree_of};
-ghost use Rattle.moo_eval_frame.specs.Outcome.{out_of_ticks, settled};
-ghost use Rattle.moo_eval_semantics.specs.Meaning.{Evaluates, Computes, EvaluatesAll};
+ghost use Rattle.moo_eval_frame.specs.Outcome.{fails, out_of_ticks, settled};
+ghost use Rattle.moo_eval_frame.specs.State.{Context};
+ghost use Rattle.moo_eval_semantics.specs.Meaning.{Evaluates, EvaluatesAll};
 ghost use Rattle.moo_eval_frame.specs.Seen.{context_of, trace_of, stop_of, failure_of, seen_value, seen_answer, seen_by, HadMemory, HadMemoryIn, IsKnown, IsKnownFailure};
 ghost use Rattle.moo_syntax_function.specs.Names.{function_of};
 ghost use Rattle.moo_eval_call.specs.Tasks.{most_ticks};
@@ -14,28 +15,27 @@ ghost use Rattle.moo_eval_call.specs.SeenByHooks.{progress_of, seen_progress};
 ghost use Rattle.moo_eval_call.specs.Turns.{stage_turns, progress_turns};
 ghost use Rattle.moo_eval.specs.Seen.{state_of};
 
+use crate::simple::{part_value, simple_value};
 use moo_eval_call::{Progress, Stage, Ticks, call_function, resume_call};
-use moo_eval_fast_expr::{may_be_known, may_have_worth};
-use moo_eval_frame::{
-    Activation, CallStack, Failure, Gathered, Notice, Stop, literal_value, measure, read_variable,
-    settle,
-};
-use moo_syntax_ast::{Expr, Item};
+use moo_eval_frame::{Activation, CallStack, Failure, Gathered, Notice, SlotRoom, Stop, settle};
 use moo_syntax_function::Function;
-use moo_value::{ErrorCode, Value};
+use moo_syntax_lower::{Node, NodeItem};
+use moo_value::{ErrorCode, MooList, Value};
 use moo_world::World;
 use std::alloc::{AllocError, Global};
-use std::cell::Cell;
 
-/// The resources that a task may still use, and its requests so far.
+/// Holds the resources that a task may still use, and its requests so far.
 #[derive(Drop)]
 pub struct Task {
     pub(crate) ticks_left: Ticks,
     notices: Vec<Notice>,
-    pub(crate) alloc: Global,
-    /// A hint: whether the last call that the fast path looked at was answered without a frame. If it wasn't, the
-    /// fast path skips calls.
-    pub(crate) answering: Cell<bool>,
+    /// Memory of calls that have ended, for the next ones.
+    pub(crate) rooms: Vec<SlotRoom>,
+    /// Lists without elements, for the arguments of the next calls.
+    pub(crate) spare_lists: Vec<MooList>,
+    /// Memory for the arguments of the next calls of functions.
+    pub(crate) spare_values: Vec<Vec<Value>>,
+    alloc: Global,
 }
 
 impl Task {
@@ -47,8 +47,10 @@ impl Task {
         Task {
             ticks_left: Ticks::full(),
             notices: Vec::new(alloc),
+            rooms: Vec::new(alloc),
+            spare_lists: Vec::new(alloc),
+            spare_values: Vec::new(alloc),
             alloc,
-            answering: Cell::new(true),
         }
     }
 
@@ -61,7 +63,7 @@ impl Task {
     }
 
     /// Takes a tick, if one is left.
-    #[inline]
+    #[inline(always)]
     pub(crate) fn take_tick(
         &mut self,
         active: &Activation,
@@ -85,70 +87,96 @@ impl Task {
     fn spent(&self, active: &Activation, stack: &CallStack<'_>) -> Stop
         ensures { HadMemory result → stop_of result ≡ out_of_ticks (trace_of stack.now active.now) }
     {
-        match stack.trace(self.alloc, active) {
+        let Ok(trace) = stack.trace(self.alloc, active) else {
+            return Stop::Memory;
+        };
+        match Box::new(self.alloc, trace) {
             Ok(trace) => Stop::OutOfTicks(trace),
             Err(_) => Stop::Memory,
         }
     }
 
     /// Returns the value of an expression, which takes a tick as it begins. `indexed` is the value that `$` measures.
+    /// Inlined, so that a variable, an integer or an operator between integers needs no call.
     #[cycle(evaluation)]
+    #[inline(always)]
     pub fn evaluate(
         &mut self,
         world: &mut World,
         active: &mut Activation,
         stack: &CallStack<'_>,
         indexed: Option<&Value>,
-        expr: &Expr,
+        node: &Node,
     ) -> Result<Value, Stop>
-        ensures meaning { IsKnown result → Evaluates Faults (context_of stack.now indexed.entry) (tree expr.now) (state_of self.old world.old active.old) (seen_value result) (state_of self.new world.new active.new) }
+        ensures meaning { IsKnown result → Evaluates Faults (context_of stack.now indexed.entry) (source node.now) (state_of self.old world.old active.old) (seen_value result) (state_of self.new world.new active.new) }
         ensures ticks { self.new.ticks_left ≤ self.old.ticks_left }
     {
-        if let Some(number) = self.leaf_at_once(active, expr) {
-            return Ok(Value::Int(number));
+        if let Some(value) = self.try_simple(world, active, node) {
+            return Ok(value);
         }
-        match expr {
-            Expr::Variable(name) => return self.variable(active, stack, name),
-            Expr::Literal(literal) => return self.literal(active, stack, literal),
-            Expr::Binary(..) => {
-                if let Some(number) = self.integer_at_once(world, active, expr) {
-                    return Ok(Value::Int(number));
-                }
-            }
-            _ => {
-                if may_be_known(expr) {
-                    if let Some(value) = self.at_once(world, active, expr) {
-                        return Ok(value);
-                    }
-                }
-            }
-        }
-        self.evaluate_node(world, active, stack, indexed, expr)
+        self.evaluate_tried(world, active, stack, indexed, node)
     }
 
-    /// Returns the value of a part of an expression. Inlined, so that nested expressions need only the stack space of
-    /// `evaluate_node` for parts that the fast path never handles.
+    /// Evaluates a node that a try has declined. Inlined, so that the most frequent kinds need one call.
     #[cycle(evaluation)]
     #[inline(always)]
-    pub(crate) fn evaluate_part(
+    pub(crate) fn evaluate_tried(
         &mut self,
         world: &mut World,
         active: &mut Activation,
         stack: &CallStack<'_>,
         indexed: Option<&Value>,
-        expr: &Expr,
+        node: &Node,
     ) -> Result<Value, Stop>
-        ensures meaning { IsKnown result → Evaluates Faults (context_of stack.now indexed.entry) (tree expr.now) (state_of self.old world.old active.old) (seen_value result) (state_of self.new world.new active.new) }
+        ensures meaning { IsKnown result → Evaluates Faults (context_of stack.now indexed.entry) (source node.now) (state_of self.old world.old active.old) (seen_value result) (state_of self.new world.new active.new) }
         ensures ticks { self.new.ticks_left ≤ self.old.ticks_left }
     {
-        if may_be_known_within(expr) {
-            return self.evaluate(world, active, stack, indexed, expr);
+        match node {
+            Node::VerbCall(base, name, items) => {
+                self.verb_call(world, active, stack, indexed, base, name, items)
+            }
+            Node::Call(name, items) => self.call(world, active, stack, indexed, name, items),
+            Node::Binary(operator, left, right) => {
+                self.binary(world, active, stack, indexed, *operator, left, right)
+            }
+            _ => self.evaluate_node(world, active, stack, indexed, node),
         }
-        self.evaluate_node(world, active, stack, indexed, expr)
     }
 
-    // Evaluates an expression of any kind. Neither this function nor those for each kind are inlined, so that nested
-    // expressions need no stack space for all kinds.
+    // Returns the value of a simple node, and takes its ticks.
+    // `None` if that can't be or the node is of another kind; then nothing has changed.
+    #[inline(always)]
+    fn try_simple(&mut self, world: &World, active: &Activation, node: &Node) -> Option<Value>
+        ensures some { IfSome result (λ v. (c : Context) → Evaluates Faults c (source node.now) (state_of self.old world.now active.now) (Ok (tree_of v)) (state_of self.new world.now active.now)) }
+        ensures none { IfNone result (self.new ≡ self.old) }
+        ensures ticks { self.new.ticks_left ≤ self.old.ticks_left }
+    {
+        let mut left = self.ticks_left.left() as u32;
+        let value = simple_value(world, active, &mut left, node)?;
+        self.ticks_left.leave(left);
+        Some(value)
+    }
+
+    /// Returns the value of a simple node that is no operator, and takes its ticks, likewise.
+    #[inline(always)]
+    pub(crate) fn try_part(
+        &mut self,
+        world: &World,
+        active: &Activation,
+        node: &Node,
+    ) -> Option<Value>
+        ensures some { IfSome result (λ v. (c : Context) → Evaluates Faults c (source node.now) (state_of self.old world.now active.now) (Ok (tree_of v)) (state_of self.new world.now active.now)) }
+        ensures none { IfNone result (self.new ≡ self.old) }
+        ensures ticks { self.new.ticks_left ≤ self.old.ticks_left }
+    {
+        let mut left = self.ticks_left.left() as u32;
+        let value = part_value(world, active, &mut left, node)?;
+        self.ticks_left.leave(left);
+        Some(value)
+    }
+
+    /// Evaluates an expression of any kind, without a try. Not inlined, and nor are the functions for each kind, so that
+    /// nested expressions need stack space only for their own kinds.
     #[cycle(evaluation)]
     #[inline(never)]
     pub(crate) fn evaluate_node(
@@ -157,20 +185,54 @@ impl Task {
         active: &mut Activation,
         stack: &CallStack<'_>,
         indexed: Option<&Value>,
-        expr: &Expr,
+        node: &Node,
     ) -> Result<Value, Stop>
-        ensures meaning { IsKnown result → Evaluates Faults (context_of stack.now indexed.entry) (tree expr.now) (state_of self.old world.old active.old) (seen_value result) (state_of self.new world.new active.new) }
+        ensures meaning { IsKnown result → Evaluates Faults (context_of stack.now indexed.entry) (source node.now) (state_of self.old world.old active.old) (seen_value result) (state_of self.new world.new active.new) }
         ensures ticks { self.new.ticks_left ≤ self.old.ticks_left }
     {
-        self.take_tick(active, stack)?;
-        match self.compute(world, active, stack, indexed, expr) {
-            Ok(value) => Ok(value),
-            Err(failure) => self.settled(active, stack, failure),
+        match node {
+            Node::Integer(number) => self.integer(active, stack, *number),
+            Node::Object(number) => self.object(active, stack, *number),
+            Node::Error(code) => self.error(active, stack, *code),
+            Node::Str(text) => self.text(active, stack, text),
+            Node::Variable(name) => self.variable(active, stack, name),
+            Node::Length => self.length(active, stack, indexed),
+            Node::Unary(operator, operand) => {
+                self.unary(world, active, stack, indexed, *operator, operand)
+            }
+            Node::Binary(operator, left, right) => {
+                self.binary(world, active, stack, indexed, *operator, left, right)
+            }
+            Node::Arithmetic(operator, left, right) => {
+                self.arithmetic(world, active, stack, indexed, *operator, left, right)
+            }
+            Node::Logic(operator, left, right) => {
+                self.logic(world, active, stack, indexed, *operator, left, right)
+            }
+            Node::Conditional(test, first, second) => {
+                self.conditional(world, active, stack, indexed, test, first, second)
+            }
+            Node::Index(base, place) => self.index(world, active, stack, indexed, base, place),
+            Node::Range(base, low, high) => self.range(
+                world, active, stack, indexed, base, low, high,
+            ),
+            Node::List(items) => self.list(world, active, stack, indexed, items),
+            Node::Property(base, name) => self.property(world, active, stack, indexed, base, name),
+            Node::VerbCall(base, name, items) => {
+                self.verb_call(world, active, stack, indexed, base, name, items)
+            }
+            Node::Call(name, items) => self.call(world, active, stack, indexed, name, items),
+            Node::Assign(target, value) => self.assign(
+                world, active, stack, indexed, target, value,
+            ),
+            Node::Catch(body, codes, other) => {
+                self.catch(world, active, stack, indexed, body, codes, other)
+            }
         }
     }
 
-    /// Returns the outcome of a failure. Not inlined, so that nested expressions need no stack space for it.
-    #[inline(never)]
+    /// Returns the outcome of a failure.
+    #[inline(always)]
     pub(crate) fn settled(
         &self,
         active: &Activation,
@@ -180,7 +242,24 @@ impl Task {
         ensures outcome { IsKnown result → settled stack.now.running.d (trace_of stack.now active.now) (Err (failure_of failure)) ≡ seen_value result }
         ensures known { IsKnown result → HadMemoryIn failure }
     {
-        settle(self.alloc, stack, active, Err(failure))
+        match failure {
+            Failure::Stops(stop) => Err(stop),
+            Failure::Fails(code) => self.failed(active, stack, code),
+        }
+    }
+
+    /// Returns the outcome of an error of a node. Not inlined, so that nested expressions need no stack space for it.
+    #[cold]
+    #[inline(never)]
+    pub(crate) fn failed(
+        &self,
+        active: &Activation,
+        stack: &CallStack<'_>,
+        code: ErrorCode,
+    ) -> Result<Value, Stop>
+        ensures { IsKnown result → settled stack.now.running.d (trace_of stack.now active.now) (Err (fails code)) ≡ seen_value result }
+    {
+        settle(self.alloc, stack, active, Err(Failure::Fails(code)))
     }
 
     /// Returns the allocator of values.
@@ -196,9 +275,9 @@ impl Task {
         active: &mut Activation,
         stack: &CallStack<'_>,
         function: Option<Function>,
-        values: Gathered,
+        values: &mut Gathered,
     ) -> Result<Value, Failure>
-        ensures call { (name : List ℕ) → function_of name ≡ function → IsKnownFailure result → CallsFunction Faults (context_of stack.now None) name values (state_of self.old world.old active.old) (seen_answer result) (state_of self.new world.new active.new) }
+        ensures call { (name : List ℕ) → function_of name ≡ function → IsKnownFailure result → CallsFunction Faults (context_of stack.now None) name values.old (state_of self.old world.old active.old) (seen_answer result) (state_of self.new world.new active.new) }
         ensures ticks { self.new.ticks_left ≡ self.old.ticks_left }
     {
         call_function(
@@ -219,7 +298,7 @@ impl Task {
         &mut self,
         world: &mut World,
         active: &Activation,
-        stack: &CallStack<'a>,
+        stack: &'a CallStack<'_>,
         stage: Stage,
         answer: Value,
     ) -> Result<Progress<'a>, Failure>
@@ -238,53 +317,6 @@ impl Task {
         )
     }
 
-    #[cycle(evaluation)]
-    fn compute(
-        &mut self,
-        world: &mut World,
-        active: &mut Activation,
-        stack: &CallStack<'_>,
-        indexed: Option<&Value>,
-        expr: &Expr,
-    ) -> Result<Value, Failure>
-        ensures meaning { IsKnownFailure result → Computes Faults (context_of stack.now indexed.entry) (tree expr.now) (state_of self.old world.old active.old) (seen_answer result) (state_of self.new world.new active.new) }
-        ensures ticks { self.new.ticks_left ≤ self.old.ticks_left }
-    {
-        match expr {
-            Expr::Literal(literal) => Ok(literal_value(literal)?),
-            Expr::Variable(name) => read_variable(active, name),
-            Expr::Length => measure(indexed),
-            Expr::Unary(operator, operand) => {
-                self.unary(world, active, stack, indexed, *operator, operand)
-            }
-            Expr::Binary(operator, left, right) => {
-                self.binary(world, active, stack, indexed, *operator, left, right)
-            }
-            Expr::Logic(operator, left, right) => {
-                self.logic(world, active, stack, indexed, *operator, left, right)
-            }
-            Expr::Conditional(test, first, second) => {
-                self.conditional(world, active, stack, indexed, test, first, second)
-            }
-            Expr::Index(base, place) => self.index(world, active, stack, indexed, base, place),
-            Expr::Range(base, low, high) => self.range(
-                world, active, stack, indexed, base, low, high,
-            ),
-            Expr::List(items) => self.list(world, active, stack, indexed, items),
-            Expr::Property(base, name) => self.property(world, active, stack, indexed, base, name),
-            Expr::VerbCall(base, name, items) => {
-                self.verb_call(world, active, stack, indexed, base, name, items)
-            }
-            Expr::Call(name, items) => self.call(world, active, stack, indexed, name, items),
-            Expr::Assign(target, value) => self.assign(
-                world, active, stack, indexed, target, value,
-            ),
-            Expr::Catch(body, codes, other) => {
-                self.catch(world, active, stack, indexed, body, codes, other)
-            }
-        }
-    }
-
     /// Evaluates items from left to right. Inlined, so that nested lists and calls need its stack space once.
     #[cycle(evaluation)]
     #[inline(always)]
@@ -294,38 +326,45 @@ impl Task {
         active: &mut Activation,
         stack: &CallStack<'_>,
         indexed: Option<&Value>,
-        items: &[Item],
+        items: &[NodeItem],
     ) -> Result<Gathered, Failure>
-        ensures meaning { IsKnownFailure result → EvaluatesAll Faults (context_of stack.now indexed.entry) (items_of items.now) (state_of self.old world.old active.old) (seen_by (λ values. values) result) (state_of self.new world.new active.new) }
+        ensures meaning { IsKnownFailure result → EvaluatesAll Faults (context_of stack.now indexed.entry) (source_items items.now) (state_of self.old world.old active.old) (seen_by (λ values. values) result) (state_of self.new world.new active.new) }
         ensures ticks { self.new.ticks_left ≤ self.old.ticks_left }
     {
         let mut values = Gathered::with_room(self.alloc, items.len())?;
-        for item in items {
-            match item {
-                Item::Element(expr) => {
-                    let value = self.evaluate_part(world, active, stack, indexed, expr)?;
-                    values.push(value)?;
-                }
-                Item::Splice(expr) => {
-                    let value = self.evaluate_part(world, active, stack, indexed, expr)?;
-                    values.splice(self.alloc, value)?;
-                }
-                Item::Optional(_) | Item::Defaulted(_, _) => return Err(Failure::Fails(
-                    ErrorCode::TypeMismatch,
-                )),
-            }
-        }
+        self.evaluate_items(world, active, stack, indexed, items, &mut values)?;
         Ok(values)
     }
-}
 
-// Returns whether the fast path may handle a part of an expression. Of calls only `length` is included, and no list
-// and no range is, so that nested ones need only the stack space of `evaluate_node`.
-#[inline]
-fn may_be_known_within(expr: &Expr) -> bool {
-    match expr {
-        Expr::Call(name, _) => matches!(name.as_bytes(), [b'l' | b'L', _, _, _, _, _]),
-        Expr::List(_) | Expr::Range(..) => false,
-        _ => may_have_worth(expr),
+    /// Evaluates items from left to right, and appends their values.
+    #[cycle(evaluation)]
+    #[inline(always)]
+    pub(crate) fn evaluate_items(
+        &mut self,
+        world: &mut World,
+        active: &mut Activation,
+        stack: &CallStack<'_>,
+        indexed: Option<&Value>,
+        items: &[NodeItem],
+        values: &mut Gathered,
+    ) -> Result<(), Failure>
+        ensures ticks { self.new.ticks_left ≤ self.old.ticks_left }
+    {
+        for item in items {
+            match item {
+                NodeItem::Element(node) => {
+                    let value = self.evaluate(world, active, stack, indexed, node)?;
+                    values.push(value)?;
+                }
+                NodeItem::Splice(node) => {
+                    let value = self.evaluate(world, active, stack, indexed, node)?;
+                    values.splice(self.alloc, value)?;
+                }
+                NodeItem::Optional(_) | NodeItem::Defaulted(_, _) => {
+                    return Err(Failure::Fails(ErrorCode::TypeMismatch));
+                }
+            }
+        }
+        Ok(())
     }
 }

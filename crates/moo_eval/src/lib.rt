@@ -1,33 +1,32 @@
 //! Runs programs: their expressions and statements, and their budget of ticks.
 #![tactic(auto)]
 
-mod ahead;
-mod appending;
+mod arguments;
+mod arithmetic;
 mod assignment;
-mod branching;
 mod calls;
-mod completing;
+mod conditions;
 mod deciding;
 mod element;
-mod growing;
+mod extension;
 mod hooks;
 mod interpreter;
 pub mod laws;
 mod leaves;
+mod lengthening;
 mod line;
 mod loops;
 mod operators;
-mod parts;
-mod readied;
-mod returning;
+mod place;
+mod property;
 mod scattering;
+mod simple;
+mod spare;
 mod statement;
 mod task;
 mod trying;
-mod turning;
-mod turns;
 mod typed;
-mod writing;
+mod verb_calls;
 
 pub use line::{EvalLine, eval_line};
 pub use moo_eval_call::typed_frame;

@@ -1,20 +1,26 @@
 //! Evaluates operators, indexes, ranges and lists.
-ghost use Rattle.std.specs.Prelude.{◌≡◌, ◌≤◌};
+ghost use Rattle.std.specs.Prelude.{◌≡◌, ◌≤◌, Ok, IfSome, IfNone};
+ghost use Rattle.moo_value.specs.View.{tree};
 ghost use Rattle.moo_syntax_ast.specs.Tree.{unary, binary, index, range, list};
-ghost use Rattle.moo_syntax_ast.specs.View.{tree, items_of};
+ghost use Rattle.moo_syntax_lower.specs.Source.{source, source_items};
 ghost use Rattle.moo_builtin_operator.specs.Places.{made_list};
 ghost use Rattle.moo_eval_frame.specs.Outcome.{answers};
-ghost use Rattle.moo_eval_frame.specs.Seen.{context_of, seen_answer, IsKnownFailure};
+ghost use Rattle.moo_eval_frame.specs.State.{Context};
+ghost use Rattle.moo_eval_frame.specs.Seen.{context_of, seen_answer, seen_value, IsKnown, IsKnownFailure};
 ghost use Rattle.moo_builtin.specs.Telling.{Faults};
-ghost use Rattle.moo_eval_semantics.specs.Meaning.{Computes};
+ghost use Rattle.moo_eval_semantics.specs.Meaning.{Evaluates, Computes};
 ghost use Rattle.moo_eval.specs.Seen.{state_of};
 
 use crate::interpreter::Task;
+use crate::place::{is_place, place_integer, place_value, text_of};
+use crate::simple::made_value;
 use moo_builtin_operator as operation;
-use moo_eval_fast_expr::integers;
-use moo_eval_frame::{Activation, CallStack, Failure, Gathered};
+use moo_builtin_operator::before_place;
+use moo_eval_access::binary;
+use moo_eval_frame::{Activation, CallStack, Failure, Gathered, Stop};
+use moo_eval_integer::take;
 use moo_syntax_ast::operator::{BinaryOperator, UnaryOperator};
-use moo_syntax_ast::{Expr, Item};
+use moo_syntax_lower::{Node, NodeItem};
 use moo_value::Value;
 use moo_world::World;
 use std::alloc::Global;
@@ -29,15 +35,38 @@ impl Task {
         stack: &CallStack<'_>,
         indexed: Option<&Value>,
         operator: UnaryOperator,
-        operand: &Expr,
+        operand: &Node,
+    ) -> Result<Value, Stop>
+        ensures meaning { IsKnown result → Evaluates Faults (context_of stack.now indexed.entry) (unary operator (source operand.now)) (state_of self.old world.old active.old) (seen_value result) (state_of self.new world.new active.new) }
+        ensures ticks { self.new.ticks_left ≤ self.old.ticks_left }
+    {
+        self.take_tick(active, stack)?;
+        match self.compute_unary(world, active, stack, indexed, operator, operand) {
+            Ok(value) => Ok(value),
+            Err(failure) => self.settled(active, stack, failure),
+        }
+    }
+
+    #[cycle(evaluation)]
+    #[inline(always)]
+    fn compute_unary(
+        &mut self,
+        world: &mut World,
+        active: &mut Activation,
+        stack: &CallStack<'_>,
+        indexed: Option<&Value>,
+        operator: UnaryOperator,
+        operand: &Node,
     ) -> Result<Value, Failure>
-        ensures meaning { IsKnownFailure result → Computes Faults (context_of stack.now indexed.entry) (unary operator (tree operand.now)) (state_of self.old world.old active.old) (seen_answer result) (state_of self.new world.new active.new) }
+        ensures meaning { IsKnownFailure result → Computes Faults (context_of stack.now indexed.entry) (unary operator (source operand.now)) (state_of self.old world.old active.old) (seen_answer result) (state_of self.new world.new active.new) }
         ensures ticks { self.new.ticks_left ≤ self.old.ticks_left }
     {
         let operand = self.evaluate(world, active, stack, indexed, operand)?;
         Ok(operation::unary(operator, &operand)?)
     }
 
+    /// Evaluates an operator between two operands, which takes a tick. If both are simple, no copy of a value that is there
+    /// already is made.
     #[cycle(evaluation)]
     #[inline(never)]
     pub(crate) fn binary(
@@ -47,15 +76,102 @@ impl Task {
         stack: &CallStack<'_>,
         indexed: Option<&Value>,
         operator: BinaryOperator,
-        left: &Expr,
-        right: &Expr,
+        left: &Node,
+        right: &Node,
+    ) -> Result<Value, Stop>
+        ensures meaning { IsKnown result → Evaluates Faults (context_of stack.now indexed.entry) (binary operator (source left.now) (source right.now)) (state_of self.old world.old active.old) (seen_value result) (state_of self.new world.new active.new) }
+        ensures ticks { self.new.ticks_left ≤ self.old.ticks_left }
+    {
+        if let Some(value) = self.try_binary(world, active, operator, left, right) {
+            return Ok(value);
+        }
+        self.binary_node(world, active, stack, indexed, operator, left, right)
+    }
+
+    // Returns the value of an operator between simple operands, and takes the ticks. `None` if an operand isn't simple or the
+    // operator fails; then nothing has changed.
+    #[inline(always)]
+    fn try_binary(
+        &mut self,
+        world: &World,
+        active: &Activation,
+        operator: BinaryOperator,
+        left: &Node,
+        right: &Node,
+    ) -> Option<Value>
+        ensures some { IfSome result (λ v. (c : Context) → Evaluates Faults c (binary operator (source left.now) (source right.now)) (state_of self.old world.now active.now) (Ok (tree v)) (state_of self.new world.now active.now)) }
+        ensures none { IfNone result (self.new ≡ self.old) }
+        ensures ticks { self.new.ticks_left ≤ self.old.ticks_left }
+    {
+        let mut ticks = self.ticks_left.left() as u32;
+        take(&mut ticks)?;
+        let value = if is_place(left) {
+            let left = place_value(world, active, &mut ticks, left)?;
+            operated(
+                self.alloc(),
+                world,
+                active,
+                &mut ticks,
+                operator,
+                left,
+                right,
+            )?
+        } else {
+            let left = made_value(active, &mut ticks, left)?;
+            operated(
+                self.alloc(),
+                world,
+                active,
+                &mut ticks,
+                operator,
+                &left,
+                right,
+            )?
+        };
+        self.ticks_left.leave(ticks);
+        Some(value)
+    }
+
+    #[cycle(evaluation)]
+    #[inline(never)]
+    fn binary_node(
+        &mut self,
+        world: &mut World,
+        active: &mut Activation,
+        stack: &CallStack<'_>,
+        indexed: Option<&Value>,
+        operator: BinaryOperator,
+        left: &Node,
+        right: &Node,
+    ) -> Result<Value, Stop>
+        ensures meaning { IsKnown result → Evaluates Faults (context_of stack.now indexed.entry) (binary operator (source left.now) (source right.now)) (state_of self.old world.old active.old) (seen_value result) (state_of self.new world.new active.new) }
+        ensures ticks { self.new.ticks_left ≤ self.old.ticks_left }
+    {
+        self.take_tick(active, stack)?;
+        match self.compute_binary(world, active, stack, indexed, operator, left, right) {
+            Ok(value) => Ok(value),
+            Err(failure) => self.settled(active, stack, failure),
+        }
+    }
+
+    #[cycle(evaluation)]
+    #[inline(always)]
+    fn compute_binary(
+        &mut self,
+        world: &mut World,
+        active: &mut Activation,
+        stack: &CallStack<'_>,
+        indexed: Option<&Value>,
+        operator: BinaryOperator,
+        left: &Node,
+        right: &Node,
     ) -> Result<Value, Failure>
-        ensures meaning { IsKnownFailure result → Computes Faults (context_of stack.now indexed.entry) (binary operator (tree left.now) (tree right.now)) (state_of self.old world.old active.old) (seen_answer result) (state_of self.new world.new active.new) }
+        ensures meaning { IsKnownFailure result → Computes Faults (context_of stack.now indexed.entry) (binary operator (source left.now) (source right.now)) (state_of self.old world.old active.old) (seen_answer result) (state_of self.new world.new active.new) }
         ensures ticks { self.new.ticks_left ≤ self.old.ticks_left }
     {
         let left = self.evaluate(world, active, stack, indexed, left)?;
         let right = self.evaluate(world, active, stack, indexed, right)?;
-        Ok(integers::binary(self.alloc, operator, &left, &right)?)
+        Ok(binary(self.alloc(), operator, &left, &right)?)
     }
 
     // Evaluates `base[index]`; in the index `$` is the length of the base.
@@ -67,15 +183,80 @@ impl Task {
         active: &mut Activation,
         stack: &CallStack<'_>,
         indexed: Option<&Value>,
-        base: &Expr,
-        place: &Expr,
+        base: &Node,
+        place: &Node,
+    ) -> Result<Value, Stop>
+        ensures meaning { IsKnown result → Evaluates Faults (context_of stack.now indexed.entry) (index (source base.now) (source place.now)) (state_of self.old world.old active.old) (seen_value result) (state_of self.new world.new active.new) }
+        ensures ticks { self.new.ticks_left ≤ self.old.ticks_left }
+    {
+        if let Some(letter) = self.try_letter(world, active, base, place) {
+            return Ok(letter);
+        }
+        self.index_node(world, active, stack, indexed, base, place)
+    }
+
+    // Returns a letter of the string of a variable or of a property, and takes the ticks. `None` if the place isn't computed
+    // from integers alone, or for another base; then nothing has changed.
+    #[inline(always)]
+    fn try_letter(
+        &mut self,
+        world: &World,
+        active: &Activation,
+        base: &Node,
+        place: &Node,
+    ) -> Option<Value>
+        ensures some { IfSome result (λ v. (c : Context) → Evaluates Faults c (index (source base.now) (source place.now)) (state_of self.old world.now active.now) (Ok (tree v)) (state_of self.new world.now active.now)) }
+        ensures none { IfNone result (self.new ≡ self.old) }
+        ensures ticks { self.new.ticks_left ≤ self.old.ticks_left }
+    {
+        let mut left = self.ticks_left.left() as u32;
+        take(&mut left)?;
+        let text = text_of(world, active, &mut left, base)?;
+        let place = place_integer(active, &mut left, place, text.len())?;
+        let before = before_place(place, text.len())?;
+        let letter = text.part(self.alloc(), before, before + 1).ok()?;
+        self.ticks_left.leave(left);
+        Some(Value::Str(letter))
+    }
+
+    #[cycle(evaluation)]
+    #[inline(never)]
+    fn index_node(
+        &mut self,
+        world: &mut World,
+        active: &mut Activation,
+        stack: &CallStack<'_>,
+        indexed: Option<&Value>,
+        base: &Node,
+        place: &Node,
+    ) -> Result<Value, Stop>
+        ensures meaning { IsKnown result → Evaluates Faults (context_of stack.now indexed.entry) (index (source base.now) (source place.now)) (state_of self.old world.old active.old) (seen_value result) (state_of self.new world.new active.new) }
+        ensures ticks { self.new.ticks_left ≤ self.old.ticks_left }
+    {
+        self.take_tick(active, stack)?;
+        match self.compute_index(world, active, stack, indexed, base, place) {
+            Ok(value) => Ok(value),
+            Err(failure) => self.settled(active, stack, failure),
+        }
+    }
+
+    #[cycle(evaluation)]
+    #[inline(always)]
+    fn compute_index(
+        &mut self,
+        world: &mut World,
+        active: &mut Activation,
+        stack: &CallStack<'_>,
+        indexed: Option<&Value>,
+        base: &Node,
+        place: &Node,
     ) -> Result<Value, Failure>
-        ensures meaning { IsKnownFailure result → Computes Faults (context_of stack.now indexed.entry) (index (tree base.now) (tree place.now)) (state_of self.old world.old active.old) (seen_answer result) (state_of self.new world.new active.new) }
+        ensures meaning { IsKnownFailure result → Computes Faults (context_of stack.now indexed.entry) (index (source base.now) (source place.now)) (state_of self.old world.old active.old) (seen_answer result) (state_of self.new world.new active.new) }
         ensures ticks { self.new.ticks_left ≤ self.old.ticks_left }
     {
         let base = self.evaluate(world, active, stack, indexed, base)?;
         let place = self.evaluate(world, active, stack, Some(&base), place)?;
-        Ok(operation::index(self.alloc, &base, &place)?)
+        Ok(operation::index(self.alloc(), &base, &place)?)
     }
 
     #[cycle(evaluation)]
@@ -86,17 +267,39 @@ impl Task {
         active: &mut Activation,
         stack: &CallStack<'_>,
         indexed: Option<&Value>,
-        base: &Expr,
-        low: &Expr,
-        high: &Expr,
+        base: &Node,
+        low: &Node,
+        high: &Node,
+    ) -> Result<Value, Stop>
+        ensures meaning { IsKnown result → Evaluates Faults (context_of stack.now indexed.entry) (range (source base.now) (source low.now) (source high.now)) (state_of self.old world.old active.old) (seen_value result) (state_of self.new world.new active.new) }
+        ensures ticks { self.new.ticks_left ≤ self.old.ticks_left }
+    {
+        self.take_tick(active, stack)?;
+        match self.compute_range(world, active, stack, indexed, base, low, high) {
+            Ok(value) => Ok(value),
+            Err(failure) => self.settled(active, stack, failure),
+        }
+    }
+
+    #[cycle(evaluation)]
+    #[inline(always)]
+    fn compute_range(
+        &mut self,
+        world: &mut World,
+        active: &mut Activation,
+        stack: &CallStack<'_>,
+        indexed: Option<&Value>,
+        base: &Node,
+        low: &Node,
+        high: &Node,
     ) -> Result<Value, Failure>
-        ensures meaning { IsKnownFailure result → Computes Faults (context_of stack.now indexed.entry) (range (tree base.now) (tree low.now) (tree high.now)) (state_of self.old world.old active.old) (seen_answer result) (state_of self.new world.new active.new) }
+        ensures meaning { IsKnownFailure result → Computes Faults (context_of stack.now indexed.entry) (range (source base.now) (source low.now) (source high.now)) (state_of self.old world.old active.old) (seen_answer result) (state_of self.new world.new active.new) }
         ensures ticks { self.new.ticks_left ≤ self.old.ticks_left }
     {
         let base = self.evaluate(world, active, stack, indexed, base)?;
-        let low = self.evaluate_part(world, active, stack, Some(&base), low)?;
-        let high = self.evaluate_part(world, active, stack, Some(&base), high)?;
-        Ok(operation::range(self.alloc, &base, &low, &high)?)
+        let low = self.evaluate(world, active, stack, Some(&base), low)?;
+        let high = self.evaluate(world, active, stack, Some(&base), high)?;
+        Ok(operation::range(self.alloc(), &base, &low, &high)?)
     }
 
     #[cycle(evaluation)]
@@ -107,14 +310,55 @@ impl Task {
         active: &mut Activation,
         stack: &CallStack<'_>,
         indexed: Option<&Value>,
-        items: &[Item],
+        items: &[NodeItem],
+    ) -> Result<Value, Stop>
+        ensures meaning { IsKnown result → Evaluates Faults (context_of stack.now indexed.entry) (list (source_items items.now)) (state_of self.old world.old active.old) (seen_value result) (state_of self.new world.new active.new) }
+        ensures ticks { self.new.ticks_left ≤ self.old.ticks_left }
+    {
+        self.take_tick(active, stack)?;
+        match self.compute_list(world, active, stack, indexed, items) {
+            Ok(value) => Ok(value),
+            Err(failure) => self.settled(active, stack, failure),
+        }
+    }
+
+    #[cycle(evaluation)]
+    #[inline(always)]
+    fn compute_list(
+        &mut self,
+        world: &mut World,
+        active: &mut Activation,
+        stack: &CallStack<'_>,
+        indexed: Option<&Value>,
+        items: &[NodeItem],
     ) -> Result<Value, Failure>
-        ensures meaning { IsKnownFailure result → Computes Faults (context_of stack.now indexed.entry) (list (items_of items.now)) (state_of self.old world.old active.old) (seen_answer result) (state_of self.new world.new active.new) }
+        ensures meaning { IsKnownFailure result → Computes Faults (context_of stack.now indexed.entry) (list (source_items items.now)) (state_of self.old world.old active.old) (seen_answer result) (state_of self.new world.new active.new) }
         ensures ticks { self.new.ticks_left ≤ self.old.ticks_left }
     {
         let values = self.evaluate_all(world, active, stack, indexed, items)?;
-        listed(self.alloc, values)
+        listed(self.alloc(), values)
     }
+}
+
+// Returns the value of an operator between a value and a simple operand, and takes the operand's ticks from `left`.
+#[inline(always)]
+fn operated(
+    alloc: Global,
+    world: &World,
+    active: &Activation,
+    left: &mut u32,
+    operator: BinaryOperator,
+    a: &Value,
+    b: &Node,
+) -> Option<Value>
+    ensures ticks { left.new ≤ left.old }
+{
+    if is_place(b) {
+        let b = place_value(world, active, left, b)?;
+        return binary(alloc, operator, a, b).ok();
+    }
+    let b = made_value(active, left, b)?;
+    binary(alloc, operator, a, &b).ok()
 }
 
 // Returns the list of values. Not inlined, so that nested lists need no stack space for it.

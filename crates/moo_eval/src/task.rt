@@ -1,4 +1,5 @@
-//! Runs whole tasks: 'MOO Tasks' of the LambdaMOO Programmer's Manual, 'Tracebacks' and 'Limits' of docs/reference/language.md.
+//! Runs whole tasks: 'MOO Tasks' of the LambdaMOO Programmer's Manual, 'Tracebacks' and 'Limits' of
+//! docs/reference/language.md.
 ghost use Rattle.std.specs.Prelude.{◌≡◌};
 ghost use Rattle.moo_eval_frame.specs.Seen.{seen_flow, IsKnown};
 ghost use Rattle.moo_eval_frame.specs.Variables.{first_bindings, value_of_name};
@@ -9,13 +10,14 @@ ghost use Rattle.moo_eval.specs.Ends.{IfEnded, LeavesNotices, IsBegunBy};
 
 use crate::interpreter::Task;
 use moo_eval_frame::{
-    Activation, CallStack, Callers, Flow, Frame, Stop, TaskEnv, Variables, traceback_lines,
+    Activation, CallStack, Callers, Flow, Frame, GivenValues, SlotRoom, Stop, TaskEnv, Variables,
+    traceback_lines,
 };
 use moo_value::Value;
 use moo_world::World;
 use std::alloc::{AllocError, Global};
 
-/// How a task ended.
+/// Holds how a task ended.
 #[derive(Drop)]
 pub enum Ended {
     /// With a value: the one that it returned, or 0.
@@ -38,42 +40,40 @@ pub fn run_task(alloc: Global, world: &mut World, start: Frame, env: &mut TaskEn
     ensures kept { env.new.surroundings ≡ env.old.surroundings }
     ensures notices { IsBegunBy env.old.notices.items env.new.notices.items }
 {
-    match Variables::first(alloc, &start) {
-        Ok(variables) => run_frame(alloc, world, start, variables, env),
+    match GivenValues::first(alloc, &start) {
+        Ok(given) => run_frame(alloc, world, start, given, env),
         Err(AllocError) => Ended::Memory,
     }
 }
 
-#[tactic(auto, using(crate::proofs::Ending::behind, crate::proofs::Ending::unchanged))]
+#[tactic(auto, using(crate::proofs::Ending::followed, crate::proofs::Ending::unchanged))]
 fn run_frame(
     alloc: Global,
     world: &mut World,
     start: Frame,
-    variables: Variables,
+    given: GivenValues,
     env: &mut TaskEnv<'_>,
 ) -> Ended
-    requires { variables_of variables ≡ value_of_name (first_bindings start) }
+    requires { slot_value given_names (given_values given) (value_of_name []) ≡ value_of_name (first_bindings start) }
     ensures ends { IfEnded result (λ end. LeavesNotices env.old.notices.items (TaskEnds Faults (surroundings_of env.old.surroundings) start world.old end world.new) env.new.notices.items) }
     ensures kept { env.new.surroundings ≡ env.old.surroundings }
     ensures notices { IsBegunBy env.old.notices.items env.new.notices.items }
 {
-    let mut active = Activation {
-        variables,
-        programmer: start.programmer,
-    };
     let stack = CallStack {
-        running: start,
+        running: start.running(),
         callers: Callers::none(),
         surroundings: &env.surroundings,
     };
+    let program = &stack.running.program;
+    let Ok(variables) = Variables::begun(alloc, program, given, SlotRoom::new(alloc)) else {
+        return Ended::Memory;
+    };
+    let mut active = Activation {
+        variables,
+        programmer: stack.running.programmer,
+    };
     let mut task = Task::new(alloc);
-    let outcome = task.run_all(
-        world,
-        &mut active,
-        &stack,
-        stack.running.program.statements(),
-        false,
-    );
+    let outcome = task.run_all(world, &mut active, &stack, program.code());
     let Ok(()) = task.leave_notices(&mut env.notices) else {
         return Ended::Memory;
     };

@@ -1,20 +1,28 @@
-//! Accesses of evaluation to a world: properties, verbs to run, and targets of assignments. An internal crate of
-//! `moo_eval`.
+//! Accesses of evaluation to a world and to variables: properties, verbs to run, targets of assignments, and operators
+//! between values. An internal crate of `moo_eval`.
 #![tactic(auto)]
 
 mod entering;
 mod fault;
+mod growth;
+mod integers;
 mod object;
+mod place;
 mod target;
+mod verb_name;
 
 pub use entering::{
-    Call, Called, Found, MOST_FRAMES, Sought, called_verb, enter_sought, enter_verb,
-    enter_verb_from, found_verb, has_frame_left, player_of_call, program_of, sought_verb,
-    verb_frame, verb_there,
+    Call, Called, Found, MOST_FRAMES, arguments, called_verb, enter_found, enter_verb,
+    enter_verb_from, found_verb, has_frame_left, player_of_call, program_of, verb_frame,
+    verb_there,
 };
 pub use fault::failed;
-pub use object::{read_property, write_property};
+pub use growth::{set_longer, set_sum};
+pub use integers::{binary, number_of};
+pub use object::{read_property, read_written, write_property};
+pub use place::set_at;
 pub use target::{
     Path, Places, Root, Spot, Step, Target, as_property, push_step, rebuilt, root_alone,
     set_variable, taken_apart,
 };
+pub use verb_name::VerbName;

@@ -1,9 +1,10 @@
 -- `pass`: the verb of the same name further up.
 use Rattle.std.specs.Prelude.{List, Result, Ok, Err}
+use Rattle.moo_value.specs.declared.error_code.ErrorCode.{ErrorCode}
 use Rattle.moo_value.specs.Tree.{Tree}
 use Rattle.moo_world_table.specs.World.{World}
 use Rattle.moo_eval_frame.specs.Outcome.{Failure, answers}
-use Rattle.moo_eval_access.specs.Entering.{Entered, entered_from}
+use Rattle.moo_eval_access.specs.Entering.{Entered, entered_found, entered_from, found_verb}
 use Rattle.moo_eval_call.specs.declared.progress.Stage.{Stage}
 use Rattle.moo_eval_call.specs.declared.progress.Stage.TheVariants.{Passed}
 use Rattle.moo_eval_call.specs.Progressing.{Calling, Progress, done, verb_next}
@@ -13,6 +14,12 @@ use Rattle.moo_eval_call.specs.Objects.{parent}
 abbrev pub run_by : Stage → Result Entered Failure → Progress
 run_by stage (Ok e) = verb_next e stage
 run_by stage (Err failure) = done (Err failure)
+
+-- the verb that is entered, its arguments a list
+abbrev pub entered_passed : Calling → World → List Tree → Result Entered ErrorCode
+entered_passed k w vs =
+    let f = k.context.frame in
+    entered_found w k.context k.variables k.programmer f.this f.verb vs (found_verb w (parent w f.definer) f.verb)
 
 -- The search uses the name of the running verb, and starts at the parent of the object that has it. The verb runs on
 -- the same object.

@@ -17,12 +17,6 @@ Reply = Result Tree Failure × State
 abbrev pub most_ticks : ℕ
 most_ticks = 100000
 
--- the programmer of the nearest frame of a verb, #-1 if there is none
-abbrev pub nearest_programmer : List TraceEntry → ℤ
-nearest_programmer [] = negsuc 0
-nearest_programmer (Verb f ∷ callers) = f.programmer
-nearest_programmer (BuiltIn name ∷ callers) = nearest_programmer callers
-
 -- the running frame gets another programmer, if its own programmer is that one or a wizard
 abbrev pub set_task_perms : List Tree → State → Reply
 set_task_perms (object o ∷ []) s =

@@ -40,9 +40,9 @@ pub fn call_function(
     ticks: &Ticks,
     notices: &mut Vec<Notice>,
     function: Option<Function>,
-    values: Gathered,
+    values: &mut Gathered,
 ) -> Result<Value, Failure>
-    ensures { (name : List ℕ) → function_of name ≡ function → IsKnownFailure result → CallsFunction Faults (context_of stack.now None) name values (state_at ticks.now notices.old.items world.old active.old) (seen_answer result) (state_at ticks.now notices.new.items world.new active.new) }
+    ensures { (name : List ℕ) → function_of name ≡ function → IsKnownFailure result → CallsFunction Faults (context_of stack.now None) name values.old (state_at ticks.now notices.old.items world.old active.old) (seen_answer result) (state_at ticks.now notices.new.items world.new active.new) }
 {
     match task_function(function) {
         Some(function) => {
@@ -73,14 +73,14 @@ fn unless_too_many(
     ticks: &Ticks,
     notices: &mut Vec<Notice>,
     function: Function,
-    values: Gathered,
+    values: &mut Gathered,
 ) -> Result<Value, Failure>
-    ensures { IsKnownFailure result → unless_refused (state_at ticks.now notices.old.items world.old active.old) (refusal (is_valid world.old) (row function) values) (task_reply function (context_of stack.now None) values (state_at ticks.now notices.old.items world.old active.old)) ≡ (seen_answer result, state_at ticks.now notices.new.items world.new active.new) }
+    ensures { IsKnownFailure result → unless_refused (state_at ticks.now notices.old.items world.old active.old) (refusal (is_valid world.old) (row function) values.old) (task_reply function (context_of stack.now None) values.old (state_at ticks.now notices.old.items world.old active.old)) ≡ (seen_answer result, state_at ticks.now notices.new.items world.new active.new) }
 {
-    if are_too_many(function, &values) {
+    if are_too_many(function, values) {
         return Err(Failure::Fails(ErrorCode::Arguments));
     }
-    let args = values.into_values(alloc)?;
+    let args = values.take_values(alloc)?;
     unless_refused(alloc, world, active, stack, ticks, notices, function, &args)
 }
 
@@ -109,9 +109,9 @@ fn plain(
     active: &Activation,
     stack: &CallStack<'_>,
     function: Option<Function>,
-    values: Gathered,
+    values: &mut Gathered,
 ) -> Result<Value, Failure>
-    ensures { (name : List ℕ) (ticks : ℕ) (notices : List Notice) → function_of name ≡ function → IsKnownFailure result → ComesTo (CallsPlain Faults name values world.old (caller (context_of stack.now None) (state_at ticks notices world.old active.now))) (context_of stack.now None) (state_at ticks notices world.old active.now) (seen_answer result) (state_at ticks notices world.new active.now) }
+    ensures { (name : List ℕ) (ticks : ℕ) (notices : List Notice) → function_of name ≡ function → IsKnownFailure result → ComesTo (CallsPlain Faults name values.old world.old (caller (context_of stack.now None) (state_at ticks notices world.old active.now))) (context_of stack.now None) (state_at ticks notices world.old active.now) (seen_answer result) (state_at ticks notices world.new active.now) }
 {
     let caller = Caller {
         programmer: active.programmer,
@@ -130,22 +130,22 @@ fn plain(
 fn outcome(
     alloc: Global,
     function: Option<Function>,
-    values: Gathered,
+    values: &mut Gathered,
     world: &mut World,
     caller: Caller,
 ) -> Outcome
-    ensures { (name : List ℕ) → function_of name ≡ function → IsReply result world.old world.new (CallsPlain Faults name values world.old caller) }
+    ensures { (name : List ℕ) → function_of name ≡ function → IsReply result world.old world.new (CallsPlain Faults name values.old world.old caller) }
 {
     let Some(found) = function else {
         return raised(alloc, ErrorCode::InvalidArgument);
     };
-    if are_too_many(found, &values) {
+    if are_too_many(found, values) {
         return raised(alloc, ErrorCode::Arguments);
     }
     match found {
-        Function::Tostr => settled(alloc, joined_text(alloc, values)),
-        Function::Min => settled(alloc, extreme_number(Extreme::Least, values)),
-        Function::Max => settled(alloc, extreme_number(Extreme::Greatest, values)),
+        Function::Tostr => settled(alloc, joined_text(alloc, values.take(alloc))),
+        Function::Min => settled(alloc, extreme_number(Extreme::Least, values.take(alloc))),
+        Function::Max => settled(alloc, extreme_number(Extreme::Greatest, values.take(alloc))),
         _ => called(alloc, found, values, world, caller),
     }
 }
@@ -154,14 +154,18 @@ fn outcome(
 fn called(
     alloc: Global,
     function: Function,
-    values: Gathered,
+    values: &mut Gathered,
     world: &mut World,
     caller: Caller,
 ) -> Outcome
-    ensures { (name : List ℕ) → function_of name ≡ Some function → IsReply result world.old world.new (CallsPlain Faults name values world.old caller) }
+    ensures { (name : List ℕ) → function_of name ≡ Some function → IsReply result world.old world.new (CallsPlain Faults name values.old world.old caller) }
 {
-    match values.into_values(alloc) {
-        Ok(mut args) => call_found(alloc, Some(function), &mut args, world, caller),
+    match values.take_values(alloc) {
+        Ok(mut args) => {
+            let outcome = call_found(alloc, Some(function), &mut args, world, caller);
+            values.keep(args);
+            outcome
+        }
         Err(AllocError) => Outcome::Memory,
     }
 }

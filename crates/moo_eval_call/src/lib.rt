@@ -26,6 +26,7 @@ mod verb_call;
 pub use arguments::are_too_many;
 pub use call::call_function;
 pub use evaluating::typed_frame;
+pub use passing::enter_passed;
 pub use progress::{Progress, Stage};
 pub use stages::resume_call;
 pub use ticks::{MOST_TICKS, Ticks};

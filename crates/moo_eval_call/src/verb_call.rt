@@ -54,7 +54,7 @@ fn calls_verbs(function: Function) -> bool
 pub fn start_call<'a>(
     alloc: Global,
     world: &mut World,
-    stack: &CallStack<'a>,
+    stack: &'a CallStack<'_>,
     active: &Activation,
     function: Function,
     values: Gathered,
@@ -85,7 +85,7 @@ fn arguments(alloc: Global, function: Function, values: Gathered) -> Result<Vec<
 fn begin<'a>(
     alloc: Global,
     world: &mut World,
-    stack: &CallStack<'a>,
+    stack: &'a CallStack<'_>,
     active: &Activation,
     function: Function,
     args: Vec<Value>,
@@ -101,7 +101,7 @@ fn begin<'a>(
 fn first_progress<'a>(
     alloc: Global,
     world: &mut World,
-    stack: &CallStack<'a>,
+    stack: &'a CallStack<'_>,
     active: &Activation,
     function: Function,
     args: Vec<Value>,
@@ -120,7 +120,7 @@ fn first_progress<'a>(
 fn begin_moving<'a>(
     alloc: Global,
     world: &mut World,
-    stack: &CallStack<'a>,
+    stack: &'a CallStack<'_>,
     active: &Activation,
     args: &[Value],
 ) -> Result<Progress<'a>, Failure>
@@ -135,7 +135,7 @@ fn begin_moving<'a>(
 fn begin_creating<'a>(
     alloc: Global,
     world: &mut World,
-    stack: &CallStack<'a>,
+    stack: &'a CallStack<'_>,
     active: &Activation,
     args: &[Value],
 ) -> Result<Progress<'a>, Failure>
@@ -151,7 +151,7 @@ fn begin_creating<'a>(
 fn recycle<'a>(
     alloc: Global,
     world: &World,
-    stack: &CallStack<'a>,
+    stack: &'a CallStack<'_>,
     active: &Activation,
     args: &[Value],
 ) -> Result<Progress<'a>, Failure>

@@ -1,7 +1,7 @@
 pub mod Variables
 pub mod GivenValues
 pub mod Held
-pub mod Slotted
+pub mod Standing
 pub mod Surroundings
 pub mod State
 pub mod Frames
@@ -18,4 +18,3 @@ pub mod Seen
 pub mod SeenScatter
 pub mod SeenHandling
 pub mod Fault
-pub mod Standing

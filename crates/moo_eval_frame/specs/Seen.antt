@@ -8,9 +8,9 @@ use Rattle.moo_value.specs.declared.value.Value.{Value}
 use Rattle.moo_value.specs.Tree.{Tree}
 use Rattle.moo_value.specs.Compare.{folded}
 use Rattle.moo_value.specs.View.{tree, trees}
-use Rattle.moo_syntax_ast.specs.declared.tree.Expr as code_expr
+use Rattle.moo_syntax_lower.specs.declared.node.Node.{Node}
 use Rattle.moo_syntax_ast.specs.Tree.{Expr, catch, catch_or, Codes}
-use Rattle.moo_syntax_ast.specs.View.{root}
+use Rattle.moo_syntax_lower.specs.Source.{source}
 use Rattle.moo_eval_frame.specs.declared.frame.CallStack.{CallStack}
 use Rattle.moo_eval_frame.specs.declared.frame.Activation.{Activation}
 use Rattle.moo_eval_frame.specs.declared.surroundings.Surroundings as code_surroundings
@@ -44,9 +44,14 @@ slot_value (own ∷ slots) (value ∷ values) elsewhere name =
     if bytes_eq (folded own) name then option_map (λ v. tree v) value else slot_value slots values elsewhere name
 slot_value _ _ elsewhere name = elsewhere name
 
+-- the variables that are no names of the program
+abbrev pub others_of : Option (Box (Vec Variable Global) Global) → List Variable
+others_of None = []
+others_of (Some others) = others.value.items
+
 -- the variables that not every frame has
 abbrev pub own_variables : Variables → List ℕ → Option Tree
-own_variables variables = slot_value variables.own.names variables.own.values (value_among variables.others.items)
+own_variables variables = slot_value variables.own.names variables.own.values (value_among (others_of variables.others))
 
 -- the value that a folded name has
 unfoldable pub variables_of : Variables → List ℕ → Option Tree
@@ -80,12 +85,12 @@ abbrev pub trace_of : CallStack → Activation → List TraceEntry
 trace_of stack active = entries stack.running active.programmer stack.callers
 
 abbrev pub raise_of : code_raise.Raise → Raise
-raise_of raise = let account = raise.account.value in record { code = raise.code; message = account.message; value = tree account.value; trace = account.trace.items }
+raise_of raise = let account = raise.account.value in record { code = account.code; message = account.message; value = tree account.value; trace = account.trace.items }
 
 -- Lack of memory has no meaning: `IsKnown` is false of it, so its value here is never read.
 abbrev pub stop_of : code_stop.Stop → Stop
 stop_of (stop_case.Raised raise) = raised (raise_of raise)
-stop_of (stop_case.OutOfTicks trace) = out_of_ticks trace.items
+stop_of (stop_case.OutOfTicks trace) = out_of_ticks trace.value.items
 stop_of stop_case.Memory = out_of_ticks []
 
 abbrev pub failure_of : code_failure.Failure → Failure
@@ -134,9 +139,9 @@ seen_codes (Ok vs) = Ok (trees vs.items)
 seen_codes (Err stop) = Err (stop_of stop)
 
 -- a catch, with or without what it goes on to
-abbrev pub catch_of : Expr → Codes → Option (Box code_expr.Expr Global) → Expr
+abbrev pub catch_of : Expr → Codes → Option (Box Node Global) → Expr
 catch_of a codes None = catch a codes
-catch_of a codes (Some b) = catch_or a codes (root b)
+catch_of a codes (Some b) = catch_or a codes (source b.value)
 
 -- there was memory enough
 abbrev pub HadMemory : code_stop.Stop → Type 0

@@ -58,6 +58,16 @@ impl Gathered {
         })
     }
 
+    /// Returns these values.
+    pub fn begun(alloc: Global, values: Vec<Value>) -> Gathered
+        ensures { result ≡ trees values.items }
+    {
+        Gathered {
+            stretches: Vec::new(alloc),
+            last: values,
+        }
+    }
+
     /// Appends a value.
     #[inline(always)]
     pub fn push(&mut self, value: Value) -> Result<(), AllocError>
@@ -100,6 +110,49 @@ impl Gathered {
     {
         let Gathered { stretches, last } = self;
         joined(alloc, &stretches, last)
+    }
+
+    /// Takes all values out.
+    pub fn take(&mut self, alloc: Global) -> Gathered
+        ensures taken { result ≡ self.old }
+        ensures left { self.new ≡ [] }
+    {
+        mem::replace(
+            self,
+            Gathered {
+                stretches: Vec::new(alloc),
+                last: Vec::new(alloc),
+            },
+        )
+    }
+
+    /// Takes all values out, as a vector.
+    #[inline(always)]
+    pub fn take_values(&mut self, alloc: Global) -> Result<Vec<Value>, AllocError>
+        ensures { IfOk result (λ values. trees values.items ≡ self.old) }
+    {
+        if self.stretches.is_empty() {
+            return Ok(mem::replace(&mut self.last, Vec::new(alloc)));
+        }
+        self.take(alloc).into_values(alloc)
+    }
+
+    /// Keeps the memory of these values, in place of the values.
+    #[inline(always)]
+    pub fn keep(&mut self, values: Vec<Value>) {
+        let mut values = values;
+        values.clear();
+        self.last = values;
+    }
+
+    /// Returns the memory of the values after the last stretch.
+    #[inline(always)]
+    pub fn into_room(self) -> Vec<Value>
+        ensures { result.items ≡ [] }
+    {
+        let mut last = self.last;
+        last.clear();
+        last
     }
 
     /// Returns the stretches of the values without copying, and the values after the last one.

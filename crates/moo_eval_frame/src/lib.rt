@@ -24,18 +24,20 @@ mod surroundings;
 mod traceback;
 mod variables;
 
-pub use access::{literal_value, measure, push, read_variable};
+pub use access::{measure, push, read_variable};
 pub use callers::Callers;
 pub use catching::{caught, settle_codes};
-pub use frame::{Activation, CallStack, Frame, TraceEntry, TraceFrame};
+pub use frame::{Activation, CallStack, Frame, Running, TraceEntry, TraceFrame};
 pub use gathered::{Gathered, Stretch};
+pub use given_values::GivenValues;
 pub use handling::{
     Guarded, HandlerParts, chosen, frame_lists, handler_parts, push_guarded, set_caught,
 };
 pub use leading::{Span, after_finally, after_turn, copied_name, no_turn, runs_finally};
 pub use notice::Notice;
 pub use outcome::{Account, Failure, Flow, Raise, Stop, raised, settle};
-pub use scatter::{LeftOut, dealt, missing, set_shares};
+pub use scatter::{LeftOut, dealt, missing, set_names, set_shares};
+pub use slots::SlotRoom;
 pub use surroundings::{Connection, Login, Surroundings, TaskEnv, own_number};
 pub use traceback::traceback_lines;
 pub use variables::Variables;

@@ -9,22 +9,30 @@ use moo_builtin_operator::OperationFault;
 use moo_value::{ErrorCode, ListLimit, MooStr, Value};
 use std::alloc::{AllocError, Global};
 
-/// An error that was raised. Its details are on the heap, so that an outcome is small.
+/// An error that was raised. It is on the heap, so that an outcome is small.
 #[derive(Drop)]
 pub struct Raise {
-    pub code: ErrorCode,
     pub account: Box<Account>,
 }
 
-/// The details of an error that was raised, with the entries from where it was raised.
+/// The code and the details of an error that was raised, with the entries from where it was raised.
 #[derive(Drop)]
 pub struct Account {
+    pub code: ErrorCode,
     pub message: MooStr,
     pub value: Value,
     pub trace: Vec<TraceEntry>,
 }
 
 impl Raise {
+    /// Returns the code of the error.
+    #[inline(always)]
+    pub fn code(&self) -> ErrorCode
+        ensures { result ≡ (raise_of self.now).code }
+    {
+        self.account.code
+    }
+
     /// Returns an error that is raised with this message and this value.
     pub fn new(
         alloc: Global,
@@ -36,12 +44,13 @@ impl Raise {
         ensures { IfOk result (λ raise. raise_of raise ≡ record { code = code; message = message; value = tree value; trace = trace.items }) }
     {
         let account = Account {
+            code,
             message,
             value,
             trace,
         };
         match Box::new(alloc, account) {
-            Ok(account) => Ok(Raise { code, account }),
+            Ok(account) => Ok(Raise { account }),
             Err(_) => Err(AllocError),
         }
     }
@@ -52,7 +61,7 @@ impl Raise {
 pub enum Stop {
     Raised(Raise),
     /// No tick was left: the entries from where it was needed. No handler and no cleanup runs.
-    OutOfTicks(Vec<TraceEntry>),
+    OutOfTicks(Box<Vec<TraceEntry>>),
     /// Memory ran out.
     Memory,
 }

@@ -1,5 +1,5 @@
 //! The values of variables that a called verb has from its caller: the names of types, and the parts of the command.
-ghost use Rattle.std.specs.Prelude.{◌≡◌, IsTrue, IfOk, OnOk};
+ghost use Rattle.std.specs.Prelude.{◌≡◌, IsTrue, IsFalse, IfOk, OnOk};
 ghost use Rattle.moo_eval_frame.specs.GivenValues.{with_shared, types_of, types, command_of, command_in};
 
 use crate::frame::Frame;
@@ -11,6 +11,8 @@ use std::rc::Rc;
 /// Holds the values of the names of types, and the parts of the command.
 #[derive(Drop)]
 pub(crate) struct SharedValues {
+    /// Whether the names of types surely have the values that a frame begins with.
+    has_types: bool,
     pub(crate) num: Value,
     pub(crate) int: Value,
     pub(crate) obj: Value,
@@ -33,6 +35,7 @@ impl SharedValues {
         ensures command { IfOk result (λ shared. command_of shared ≡ command_in frame.now) }
     {
         Ok(SharedValues {
+            has_types: true,
             num: Value::Int(0),
             int: Value::Int(0),
             obj: Value::Int(1),
@@ -55,6 +58,7 @@ impl SharedValues {
         ensures command { IfOk result (λ shared. command_of shared ≡ command_of self.now) }
     {
         Ok(SharedValues {
+            has_types: true,
             num: Value::Int(0),
             int: Value::Int(0),
             obj: Value::Int(1),
@@ -76,6 +80,7 @@ impl SharedValues {
         ensures { IfOk result (λ copy. copy ≡ self.now) }
     {
         Ok(SharedValues {
+            has_types: self.has_types,
             num: self.num.try_clone()?,
             int: self.int.try_clone()?,
             obj: self.obj.try_clone()?,
@@ -97,19 +102,14 @@ impl SharedValues {
     pub(crate) fn has_types(&self) -> bool
         ensures { IsTrue result → types_of self.now ≡ types }
     {
-        is_number(&self.num, 0)
-            && is_number(&self.int, 0)
-            && is_number(&self.obj, 1)
-            && is_number(&self.str, 2)
-            && is_number(&self.err, 3)
-            && is_number(&self.list, 4)
-            && is_number(&self.float, 9)
+        self.has_types
     }
 
     // Sets a shared value.
     fn set(&mut self, given: Given, value: Value)
         ensures { self.new ≡ with_shared self.old given value }
     {
+        self.has_types = self.has_types && !is_type(given);
         match given {
             Given::Num => self.num = value,
             Given::Int => self.int = value,
@@ -129,6 +129,16 @@ impl SharedValues {
     }
 }
 
+// Returns whether a variable is the name of a type.
+fn is_type(given: Given) -> bool
+    ensures { IsFalse result → (shared : SharedValues) (value : Value) → types_of (with_shared shared given value) ≡ types_of shared }
+{
+    matches!(
+        given,
+        Given::Num | Given::Int | Given::Obj | Given::Str | Given::Err | Given::List | Given::Float
+    )
+}
+
 /// Sets a shared value, in a block that nothing else shares.
 pub(crate) fn set_shared(
     alloc: Global,
@@ -146,12 +156,4 @@ pub(crate) fn set_shared(
     own.set(given, value);
     *shared = Rc::new(alloc, own)?;
     Ok(())
-}
-
-// Returns whether a value is this integer.
-#[inline(always)]
-fn is_number(value: &Value, number: i32) -> bool
-    ensures { IsTrue result → value.now ≡ Value.Int number }
-{
-    matches!(value, Value::Int(own) if *own == number)
 }

@@ -1,45 +1,74 @@
 //! The slots of the variables of a program.
-ghost use Rattle.std.specs.Prelude.{◌≡◌, ◌≢◌, ℕ, [], ◌∷◌, ◌+◌, ◌<◌, ◌≤◌, ◌++◌, List, Some, None, map, set, position, length, get_or, option_map, vec_len, vec_capacity, IsTrue, IsFalse, IfOk, IfSome, IfNone};
+ghost use Rattle.std.specs.Prelude.{◌≡◌, ℕ, [], ◌∷◌, ◌<◌, ◌++◌, List, Some, None, repeat, position, length, set, get_or, option_map, IsTrue, IsFalse, IfOk, OnOk, IfSome};
 ghost use Rattle.std.specs.Str.{bytes_eq};
-ghost use Rattle.moo_value.specs.Tree.{Tree, IsText, integer, list_of};
-ghost use Rattle.moo_value.specs.Size.{IsWithinLimits};
+ghost use Rattle.moo_value.specs.Tree.{Tree, integer, list_of};
+ghost use Rattle.moo_value.specs.Size.{IsString, IsWithinLimits};
 ghost use Rattle.moo_value.specs.View.{tree};
 ghost use Rattle.moo_value.specs.Compare.{folded};
-ghost use Rattle.moo_value.specs.declared.value.Value.TheVariants.{Int, List as ListOf};
+ghost use Rattle.moo_value.specs.declared.value.Value.TheVariants.{Int, List as ListOf, Str as StrOf};
 ghost use Rattle.moo_syntax_ast.specs.Given.{given_of};
-ghost use Rattle.moo_syntax_ast.specs.Spelling.{AreNumbersOf};
 ghost use Rattle.moo_syntax_ast.specs.Slots.{slots};
 ghost use Rattle.moo_eval_frame.specs.Variables.{value_of_name};
 ghost use Rattle.moo_eval_frame.specs.Held.{with_held, IsHeld};
 ghost use Rattle.moo_eval_frame.specs.Seen.{slot_value};
-ghost use Rattle.moo_eval_frame.specs.Slotted.{values_in, unset_slot, with_value, AreSlotsOf};
 
-use crate::growing::push_in;
+use crate::growing::{extend_in, push_in, put_in};
 use crate::integers::{put_element_in, set_integer};
 use moo_syntax_ast::Name;
 use moo_syntax_grammar::Program;
-use moo_value::Value;
+use moo_value::{MooStr, Value};
 use std::alloc::{AllocError, Global};
 use std::marker::Model;
 
-/// A slot: the value, if one is set, and the numbers that identify its name without a comparison of names. The
-/// numbers are 0 and 1, which identify no name, if no value is set or the name has no numbers.
+/// Holds memory for the slots of a frame: some slots in which no value is set.
 #[derive(Drop)]
-struct Slot {
-    number: u64,
-    further: u64,
-    is_set: bool,
-    value: Value,
+pub struct SlotRoom {
+    values: Vec<Option<Value>>,
 }
 
-/// Holds the slots of the names of a program. There are none if every frame has all of the names.
-#[derive(Drop)]
-pub(crate) struct Slots {
-    program: Program,
-    slots: Vec<Slot>,
+impl Model for SlotRoom {
+    ghost use Rattle.std.specs.Prelude.{◌≡◌, ℕ, None, length, repeat};
+
+    ghost Value = { ℕ };
+
+    ghost view = { λ room. length room.values.items };
+
+    ghost invariant = { λ room. room.values.items ≡ repeat (length room.values.items) None };
 }
 
-impl Model for Slots {
+impl SlotRoom {
+    /// Returns room for no slot, which takes no memory.
+    pub fn new(alloc: Global) -> SlotRoom
+        ensures { result ≡ 0 }
+    {
+        SlotRoom {
+            values: Vec::new(alloc),
+        }
+    }
+
+    // Returns so many slots in which no value is set.
+    #[inline(always)]
+    fn into_slots(self, count: usize) -> Result<Vec<Option<Value>>, AllocError>
+        ensures { IfOk result (λ values. values.items ≡ repeat count None) }
+    {
+        let mut values = self.values;
+        if values.len() != count {
+            resize(&mut values, count)?;
+        }
+        Ok(values)
+    }
+}
+
+/// Holds a slot for each name of a program, with a value if one is set.
+#[derive(Drop)]
+pub(crate) struct Slots<'p> {
+    program: &'p Program,
+    names: &'p [Name],
+    values: Vec<Option<Value>>,
+}
+
+impl<'p> Model for Slots<'p> {
+    ghost use Rattle.std.specs.Prelude.{◌≡◌, length};
     ghost use Rattle.moo_syntax_ast.specs.Slots.{slots as names_of};
     ghost use Rattle.moo_eval_frame.specs.Held.{Held, held_code};
 
@@ -47,53 +76,86 @@ impl Model for Slots {
 
     ghost coded = { held_code };
 
-    ghost use Rattle.moo_eval_frame.specs.Slotted.{values_in, AreSlotsOf};
+    ghost view = { λ s. record { names = s.names.now; values = s.values.items } };
 
-    ghost view = { λ s. record { names = names_of s.program; values = values_in s.slots.items } };
-
-    ghost invariant = { λ s. AreSlotsOf s.slots.items (names_of s.program) };
+    ghost invariant = { λ s. (s.names.now ≡ names_of s.program.now) × (length s.values.items ≡ length s.names.now) };
 }
 
-impl Slots {
+impl<'p> Slots<'p> {
     /// Returns the slots of the names of a program, none set.
     #[inline(always)]
-    pub(crate) fn unset(alloc: Global, program: Program) -> Result<Slots, AllocError>
+    pub(crate) fn unset(program: &'p Program, room: SlotRoom) -> Result<Slots<'p>, AllocError>
         ensures { IfOk result (λ own. slot_value own.names own.values (value_of_name []) ≡ value_of_name []) }
     {
-        let slots = unset_slots(alloc, program.slot_names())?;
-        Ok(Slots { program, slots })
+        let names = program.slot_names();
+        let values = room.into_slots(names.len())?;
+        Ok(Slots {
+            program,
+            names,
+            values,
+        })
     }
 
-    /// Returns the hint at the slot of a name, if the numbers there are the name's. A value is set in it, and not
-    /// every frame has the name.
+    /// Returns the memory of the slots.
+    #[inline(always)]
+    pub(crate) fn into_room(self) -> SlotRoom
+        ensures { result ≡ length self.values }
+    {
+        let mut values = self.values;
+        unset_all(&mut values);
+        SlotRoom { values }
+    }
+
+    /// Returns the hint at the slot of a name, if the numbers of the name there are the name's.
     #[inline(always)]
     pub(crate) fn known_slot(&self, name: &Name) -> Option<usize>
+        ensures there { IfSome result (λ i. position (λ own. bytes_eq (folded own) (folded name.now)) self.now.names ≡ Some i) }
+        ensures own { IfSome result (λ _. given_of name.now ≡ None) }
+    {
+        let hint = name.hint();
+        if hint >= self.names.len() {
+            return None;
+        }
+        let own = &self.names[hint];
+        if own.is_known_as(name) {
+            Some(hint)
+        } else {
+            None
+        }
+    }
+
+    /// Returns the hint at the slot of a name, likewise, if a value is set in it.
+    #[inline(always)]
+    pub(crate) fn held_slot(&self, name: &Name) -> Option<usize>
         ensures there { IfSome result (λ i. position (λ own. bytes_eq (folded own) (folded name.now)) self.now.names ≡ Some i) }
         ensures held { IfSome result (λ i. IsHeld self.now i) }
         ensures own { IfSome result (λ _. given_of name.now ≡ None) }
     {
-        let hint = name.hint();
-        if hint >= self.slots.len() {
-            return None;
-        }
-        let slot = &self.slots[hint];
-        if has_numbers_of(slot, name) {
-            return Some(hint);
-        }
-        None
-    }
-
-    /// Returns the slot of a name, if it may hold a value.
-    #[inline(always)]
-    pub(crate) fn slot_of(&self, name: &Name) -> Option<usize>
-        ensures some { IfSome result (λ i. (position (λ own. bytes_eq (folded own) (folded name.now)) self.now.names ≡ Some i) × (i < length self.now.values)) }
-        ensures none { IfNone result ((i : ℕ) → position (λ own. bytes_eq (folded own) (folded name.now)) self.now.names ≡ Some i → length self.now.values ≤ i) }
-    {
-        let slot = own_slot(&self.program, name)?;
-        if slot < self.slots.len() {
+        let slot = self.known_slot(name)?;
+        if self.values[slot].is_some() {
             Some(slot)
         } else {
             None
+        }
+    }
+
+    /// Returns the slot of a name.
+    #[inline(never)]
+    pub(crate) fn slot_of(&self, name: &Name) -> Option<usize>
+        ensures { result ≡ position (λ own. bytes_eq (folded own) (folded name.now)) self.now.names }
+    {
+        own_slot(self.program, name)
+    }
+
+    /// Returns the value in a slot, if one is set.
+    #[inline(always)]
+    pub(crate) fn get(&self, slot: usize) -> Option<&Value>
+        requires { slot < length self.now.values }
+        ensures { option_map (λ v. tree v.now) result ≡ option_map (λ v. tree v) (get_or self.now.values slot None) }
+    {
+        match &self.values[slot] {
+            Some(value) => Some(value),
+            None => None,
         }
     }
 
@@ -103,192 +165,146 @@ impl Slots {
         requires { IsHeld self.now slot }
         ensures { get_or self.now.values slot None ≡ Some result.now }
     {
-        let held = &self.slots[slot];
-        &held.value
+        let Some(value) = &self.values[slot] else {
+            unreachable!()
+        };
+        value
     }
 
-    /// Returns the value in a slot, if one is set.
+    /// Sets a slot.
     #[inline(always)]
-    pub(crate) fn get(&self, slot: usize) -> Option<&Value>
-        requires { slot < length self.now.values }
-        ensures { option_map (λ v. tree v.now) result ≡ option_map (λ v. tree v) (get_or self.now.values slot None) }
-    {
-        let held = &self.slots[slot];
-        if held.is_set { Some(&held.value) } else { None }
-    }
-
-    /// Overwrites a slot that is set.
-    #[inline(always)]
-    pub(crate) fn set_held(&mut self, slot: usize, value: Value)
-        requires { IsHeld self.old slot }
-        ensures { self.new ≡ with_held self.old slot value }
-    {
-        put_value(&mut self.slots, slot, value);
-    }
-
-    /// Overwrites a slot that is set with an integer. A slot that holds an integer is changed in place.
-    #[inline(always)]
-    pub(crate) fn set_held_integer(&mut self, slot: usize, number: i32)
-        requires { IsHeld self.old slot }
-        ensures { self.new ≡ with_held self.old slot (Int number) }
-    {
-        put_integer(&mut self.slots, slot, number);
-    }
-
-    /// Replaces an integer at a place of the list in a set slot by another, if nothing else shares the list, and
-    /// returns whether it did. Allocates nothing.
-    #[inline(always)]
-    pub(crate) fn put_held_element(&mut self, slot: usize, index: usize, number: i32) -> bool
-        requires { IsHeld self.old slot }
-        ensures put { IsTrue result → (ts : List Tree) × (get_or self.old.values slot None ≡ Some (ListOf ts)) × (index < length ts) × IsWithinLimits (list_of (set ts index (integer number))) × (self.new ≡ with_held self.old slot (ListOf (set ts index (integer number)))) }
-        ensures kept { IsFalse result → self.new ≡ self.old }
-    {
-        put_element(&mut self.slots, slot, index, number)
-    }
-
-    /// Appends a value to the list in a set slot, and returns whether it did. Nothing else may share the list, the
-    /// longer list has to be within the limits, and memory has to be available; else the value is dropped.
-    #[inline(always)]
-    pub(crate) fn push_held(&mut self, slot: usize, value: Value) -> bool
-        requires { IsHeld self.old slot }
-        ensures put { IsTrue result → (ts : List Tree) × (get_or self.old.values slot None ≡ Some (ListOf ts)) × IsWithinLimits (list_of (ts ++ tree value ∷ [])) × (self.new ≡ with_held self.old slot (ListOf (ts ++ tree value ∷ []))) }
-        ensures kept { IsFalse result → self.new ≡ self.old }
-    {
-        push_value(&mut self.slots, slot, value)
-    }
-
-    /// Sets a slot, and with it the numbers of its name.
     pub(crate) fn set(&mut self, slot: usize, value: Value)
         requires { slot < length self.old.values }
         ensures { self.new ≡ with_held self.old slot value }
     {
-        let (number, further) = held_numbers(&self.program.slot_names()[slot]);
-        self.slots[slot] = Slot {
-            number,
-            further,
-            is_set: true,
-            value,
-        };
+        self.values[slot] = Some(value);
+    }
+
+    /// Sets a slot to an integer. A slot that holds an integer is changed in place.
+    #[inline(always)]
+    pub(crate) fn set_integer(&mut self, slot: usize, number: i32)
+        requires { slot < length self.old.values }
+        ensures { self.new ≡ with_held self.old slot (Int number) }
+    {
+        put_integer(&mut self.values, slot, number);
+    }
+
+    /// Replaces an integer at a place of the list in a slot by another, if nothing else shares the list, and returns
+    /// whether it did. Allocates nothing.
+    #[inline(always)]
+    pub(crate) fn put_element(&mut self, slot: usize, index: usize, number: i32) -> bool
+        requires { slot < length self.old.values }
+        ensures put { IsTrue result → (ts : List Tree) × (get_or self.old.values slot None ≡ Some (ListOf ts)) × (index < length ts) × IsWithinLimits (list_of (set ts index (integer number))) × (self.new ≡ with_held self.old slot (ListOf (set ts index (integer number)))) }
+        ensures kept { IsFalse result → self.new ≡ self.old }
+    {
+        put_element(&mut self.values, slot, index, number)
+    }
+
+    /// Replaces an element of the list in a slot by a value, and returns whether it did. Nothing else may share the list,
+    /// and the new list has to be within the limits; else the value is dropped. Allocates nothing.
+    #[inline(always)]
+    pub(crate) fn put_value(&mut self, slot: usize, index: usize, value: Value) -> bool
+        requires { slot < length self.old.values }
+        ensures put { IsTrue result → (ts : List Tree) × (get_or self.old.values slot None ≡ Some (ListOf ts)) × (index < length ts) × IsWithinLimits (list_of (set ts index (tree value))) × (self.new ≡ with_held self.old slot (ListOf (set ts index (tree value)))) }
+        ensures kept { IsFalse result → self.new ≡ self.old }
+    {
+        replace_value(&mut self.values, slot, index, value)
+    }
+
+    /// Appends a value to the list in a slot, and returns whether it did. Nothing else may share the list, the longer
+    /// list has to be within the limits, and memory has to be available; else the value is dropped.
+    #[inline(always)]
+    pub(crate) fn push(&mut self, slot: usize, value: Value) -> bool
+        requires { slot < length self.old.values }
+        ensures put { IsTrue result → (ts : List Tree) × (get_or self.old.values slot None ≡ Some (ListOf ts)) × IsWithinLimits (list_of (ts ++ tree value ∷ [])) × (self.new ≡ with_held self.old slot (ListOf (ts ++ tree value ∷ []))) }
+        ensures kept { IsFalse result → self.new ≡ self.old }
+    {
+        push_value(&mut self.values, slot, value)
+    }
+
+    /// Appends the bytes of a string to the string in a slot, and returns whether it did. Nothing else may share the
+    /// string, the longer string has to be within the limit, and memory has to be available.
+    #[inline(always)]
+    pub(crate) fn extend(&mut self, slot: usize, last: &MooStr) -> bool
+        requires { slot < length self.old.values }
+        ensures put { IsTrue result → (t : List ℕ) × (get_or self.old.values slot None ≡ Some (StrOf t)) × IsString (t ++ last.now) × (self.new ≡ with_held self.old slot (StrOf (t ++ last.now))) }
+        ensures kept { IsFalse result → self.new ≡ self.old }
+    {
+        extend_value(&mut self.values, slot, last)
     }
 }
 
-// Returns whether a slot has the numbers of a name.
+// Sets a slot to an integer.
 #[inline(always)]
-fn has_numbers_of(slot: &Slot, name: &Name) -> bool
-    ensures text { IsText name.now }
-    ensures known { IsTrue result → slot.now.number ≢ 0 → (given_of name.now ≡ None) × AreNumbersOf slot.now.number slot.now.further name.now }
-    ensures unknown { IsTrue result → slot.now.number ≡ 0 → slot.now.further ≡ 0 }
+fn put_integer(values: &mut Vec<Option<Value>>, slot: usize, number: i32)
+    requires { slot < length values.old.items }
+    ensures { values.new.items ≡ set values.old.items slot (Some (Int number)) }
 {
-    let (number, further) = text_numbers(name);
-    if slot.number != number {
-        return false;
-    }
-    slot.further == further
-}
-
-// Returns the numbers of a name. The borrowed bytes prove that the name is text, so that no other name has both
-// numbers.
-#[inline(always)]
-fn text_numbers(name: &Name) -> (u64, u64)
-    ensures text { IsText name.now }
-    ensures known { result.0 ≢ 0 → (given_of name.now ≡ None) × AreNumbersOf result.0 result.1 name.now }
-    ensures unknown { result.0 ≡ 0 → result.1 ≡ 0 }
-{
-    let _ = name.as_bytes();
-    name.numbers()
-}
-
-// Returns the numbers that a slot that is set has of its name.
-fn held_numbers(name: &Name) -> (u64, u64)
-    ensures known { result.0 ≢ 0 → IsText name.now × AreNumbersOf result.0 result.1 name.now }
-    ensures unknown { result.0 ≡ 0 → result.1 ≡ 1 }
-{
-    let (number, further) = text_numbers(name);
-    if number == 0 {
-        return (0, 1);
-    }
-    (number, further)
-}
-
-// Overwrites the value in a slot.
-#[inline(always)]
-fn put_value(all: &mut Vec<Slot>, slot: usize, value: Value)
-    requires { slot < length all.old.items }
-    ensures { all.new.items ≡ set all.old.items slot (with_value (get_or all.old.items slot unset_slot) value) }
-{
-    all[slot].value = value;
-}
-
-// Overwrites the value in a slot with an integer.
-#[inline(always)]
-fn put_integer(all: &mut Vec<Slot>, slot: usize, number: i32)
-    requires { slot < length all.old.items }
-    ensures { all.new.items ≡ set all.old.items slot (with_value (get_or all.old.items slot unset_slot) (Int number)) }
-{
-    set_integer(&mut all[slot].value, number);
+    set_integer(&mut values[slot], number);
 }
 
 // Replaces an integer at a place of the list in a slot by another, and returns whether it did.
 #[inline(always)]
-fn put_element(all: &mut Vec<Slot>, slot: usize, index: usize, number: i32) -> bool
-    requires { slot < length all.old.items }
-    ensures put { IsTrue result → (ts : List Tree) × ((get_or all.old.items slot unset_slot).value ≡ ListOf ts) × (index < length ts) × IsWithinLimits (list_of (set ts index (integer number))) × (all.new.items ≡ set all.old.items slot (with_value (get_or all.old.items slot unset_slot) (ListOf (set ts index (integer number))))) }
-    ensures are { (names : List (List ℕ)) → AreSlotsOf all.old.items names → AreSlotsOf all.new.items names }
-    ensures kept { IsFalse result → all.new.items ≡ all.old.items }
+fn put_element(values: &mut Vec<Option<Value>>, slot: usize, index: usize, number: i32) -> bool
+    requires { slot < length values.old.items }
+    ensures put { IsTrue result → (ts : List Tree) × (get_or values.old.items slot None ≡ Some (ListOf ts)) × (index < length ts) × IsWithinLimits (list_of (set ts index (integer number))) × (values.new.items ≡ set values.old.items slot (Some (ListOf (set ts index (integer number))))) }
+    ensures kept { IsFalse result → values.new.items ≡ values.old.items }
 {
-    put_element_in(&mut all[slot].value, index, number)
+    put_element_in(&mut values[slot], index, number)
+}
+
+// Replaces an element of the list in a slot by a value, and returns whether it did.
+#[inline(always)]
+fn replace_value(values: &mut Vec<Option<Value>>, slot: usize, index: usize, value: Value) -> bool
+    requires { slot < length values.old.items }
+    ensures put { IsTrue result → (ts : List Tree) × (get_or values.old.items slot None ≡ Some (ListOf ts)) × (index < length ts) × IsWithinLimits (list_of (set ts index (tree value))) × (values.new.items ≡ set values.old.items slot (Some (ListOf (set ts index (tree value))))) }
+    ensures kept { IsFalse result → values.new.items ≡ values.old.items }
+{
+    put_in(&mut values[slot], index, value)
 }
 
 // Appends a value to the list in a slot, and returns whether it did.
 #[inline(always)]
-fn push_value(all: &mut Vec<Slot>, slot: usize, value: Value) -> bool
-    requires { slot < length all.old.items }
-    ensures put { IsTrue result → (ts : List Tree) × ((get_or all.old.items slot unset_slot).value ≡ ListOf ts) × IsWithinLimits (list_of (ts ++ tree value ∷ [])) × (all.new.items ≡ set all.old.items slot (with_value (get_or all.old.items slot unset_slot) (ListOf (ts ++ tree value ∷ [])))) }
-    ensures are { (names : List (List ℕ)) → AreSlotsOf all.old.items names → AreSlotsOf all.new.items names }
-    ensures kept { IsFalse result → all.new.items ≡ all.old.items }
+fn push_value(values: &mut Vec<Option<Value>>, slot: usize, value: Value) -> bool
+    requires { slot < length values.old.items }
+    ensures put { IsTrue result → (ts : List Tree) × (get_or values.old.items slot None ≡ Some (ListOf ts)) × IsWithinLimits (list_of (ts ++ tree value ∷ [])) × (values.new.items ≡ set values.old.items slot (Some (ListOf (ts ++ tree value ∷ [])))) }
+    ensures kept { IsFalse result → values.new.items ≡ values.old.items }
 {
-    push_in(&mut all[slot].value, value)
+    push_in(&mut values[slot], value)
 }
 
-// Returns the slots of these names, none set. If every frame has all of the names, there are no slots.
+// Appends the bytes of a string to the string in a slot, and returns whether it did.
 #[inline(always)]
-fn unset_slots(alloc: Global, names: &[Name]) -> Result<Vec<Slot>, AllocError>
-    ensures values { IfOk result (λ all. slot_value names.now (values_in all.items) (value_of_name []) ≡ value_of_name []) }
-    ensures are { IfOk result (λ all. AreSlotsOf all.items names.now) }
+fn extend_value(values: &mut Vec<Option<Value>>, slot: usize, last: &MooStr) -> bool
+    requires { slot < length values.old.items }
+    ensures put { IsTrue result → (t : List ℕ) × (get_or values.old.items slot None ≡ Some (StrOf t)) × IsString (t ++ last.now) × (values.new.items ≡ set values.old.items slot (Some (StrOf (t ++ last.now)))) }
+    ensures kept { IsFalse result → values.new.items ≡ values.old.items }
 {
-    if !has_own(names) {
-        return Ok(Vec::new(alloc));
-    }
-    let mut all = Vec::with_capacity(alloc, names.len())?;
-    push_unset(&mut all, names);
-    Ok(all)
+    extend_in(&mut values[slot], last)
 }
 
-// Returns whether not every frame has all of these names.
+// Removes the values from all slots.
 #[inline(always)]
-fn has_own(names: &[Name]) -> bool {
-    for name in names {
-        if name.given().is_none() {
-            return true;
-        }
+fn unset_all(values: &mut Vec<Option<Value>>)
+    ensures { values.new.items ≡ repeat (length values.old.items) None }
+{
+    for value in values.as_mut_slice() {
+        *value = None;
     }
-    false
 }
 
-// Appends a slot without a value for each of these names.
-#[inline(always)]
-fn push_unset(all: &mut Vec<Slot>, names: &[Name])
-    requires room { vec_len all.old + length names.now ≤ vec_capacity all.old }
-    ensures { all.new.items ≡ all.old.items ++ map (λ name. unset_slot) names.now }
+// Removes or appends slots without a value, so that there are so many. Not inlined, since most frames need as many as
+// the one before.
+#[inline(never)]
+fn resize(values: &mut Vec<Option<Value>>, count: usize) -> Result<(), AllocError>
+    requires { values.old.items ≡ repeat (length values.old.items) None }
+    ensures { OnOk result (values.new.items ≡ repeat count None) }
 {
-    for _ in names {
-        all.push_reserved(Slot {
-            number: 0,
-            further: 1,
-            is_set: false,
-            value: Value::Int(0),
-        });
+    values.truncate(count);
+    while values.len() < count {
+        values.push(None)?;
     }
+    Ok(())
 }
 
 // Returns the slot of a name among those of a program: the hint, if the name there has the same spelling, else what a
@@ -305,7 +321,7 @@ fn own_slot(program: &Program, name: &Name) -> Option<usize>
     }
 }
 
-// Returns the slot of a name by a linear search. It is a separate function, so that the common case stays short.
+// Returns the slot of a name by a search. It is a separate function, so that the common case stays short.
 #[cold]
 #[inline(never)]
 fn searched_slot(program: &Program, name: &Name) -> Option<usize>

@@ -5,47 +5,55 @@ ghost use Rattle.moo_value.specs.Held.{IsAlike};
 ghost use Rattle.moo_value.specs.View.{trees};
 ghost use Rattle.moo_value.specs.declared.value.Value.TheVariants.{Int};
 
+use crate::measure::Measure;
 use crate::string::total_length;
 use crate::value::Value;
 use std::alloc::{AllocError, Global};
 use std::rc::Rc;
 
-// Appends a value to the elements. Copies them only if another list shares them.
+// Appends a value to the elements, which then have this measure. Copies them only if another list shares them.
 pub(crate) fn with_last(
     alloc: Global,
-    elements: Rc<Vec<Value>>,
+    block: Rc<(Vec<Value>, Measure)>,
     value: Value,
-) -> Result<Rc<Vec<Value>>, AllocError>
-    ensures { IfOk result (λ all. all.value.items ≡ elements.value.items ++ value ∷ []) }
+    measure: Measure,
+) -> Result<Rc<(Vec<Value>, Measure)>, AllocError>
+    ensures elements { IfOk result (λ all. all.value.0.items ≡ block.value.0.items ++ value ∷ []) }
+    ensures measure { IfOk result (λ all. all.value.1 ≡ measure) }
 {
-    let mut elements = elements;
-    if let Some(own) = Rc::get_mut(&mut elements) {
-        own.push(value)?;
-        return Ok(elements);
+    let mut block = block;
+    if let Some(own) = Rc::get_mut(&mut block) {
+        own.0.push(value)?;
+        own.1 = measure;
+        return Ok(block);
     }
-    let mut copies = copied(alloc, &elements)?;
+    let mut copies = copied(alloc, &block.0)?;
     copies.push(value)?;
-    Ok(Rc::new(alloc, copies)?)
+    Ok(Rc::new(alloc, (copies, measure))?)
 }
 
-// Replaces the element at `index` by a value. Copies the elements only if another list shares them.
+// Replaces the element at `index` by a value, so that the elements have this measure. Copies them only if another list
+// shares them.
 pub(crate) fn with_put(
     alloc: Global,
-    elements: Rc<Vec<Value>>,
+    block: Rc<(Vec<Value>, Measure)>,
     index: usize,
     value: Value,
-) -> Result<Rc<Vec<Value>>, AllocError>
-    requires { index < vec_len elements.value }
-    ensures { IfOk result (λ all. all.value.items ≡ slice_set elements.value.items index value) }
+    measure: Measure,
+) -> Result<Rc<(Vec<Value>, Measure)>, AllocError>
+    requires { index < vec_len block.value.0 }
+    ensures elements { IfOk result (λ all. all.value.0.items ≡ slice_set block.value.0.items index value) }
+    ensures measure { IfOk result (λ all. all.value.1 ≡ measure) }
 {
-    let mut elements = elements;
-    if let Some(own) = Rc::get_mut(&mut elements) {
-        put(own, index, value);
-        return Ok(elements);
+    let mut block = block;
+    if let Some(own) = Rc::get_mut(&mut block) {
+        put(&mut own.0, index, value);
+        own.1 = measure;
+        return Ok(block);
     }
-    let mut copies = copied(alloc, &elements)?;
+    let mut copies = copied(alloc, &block.0)?;
     put(&mut copies, index, value);
-    Ok(Rc::new(alloc, copies)?)
+    Ok(Rc::new(alloc, (copies, measure))?)
 }
 
 // Replaces the element at `index` by an integer if it is an integer. Returns whether it was.
@@ -78,7 +86,7 @@ fn replaces_integer(place: &mut Value, number: i32) -> bool
     }
 }
 
-fn put(elements: &mut Vec<Value>, index: usize, value: Value)
+pub(crate) fn put(elements: &mut Vec<Value>, index: usize, value: Value)
     requires { index < vec_len elements.old }
     ensures { elements.new.items ≡ slice_set elements.old.items index value }
 {

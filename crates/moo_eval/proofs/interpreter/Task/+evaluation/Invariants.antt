@@ -1,7 +1,8 @@
 use Rattle.std.proofs.Common.{◌+◌, ◌*◌, ◌≤◌, ◌<◌, drop, map, List, Result, None}
 use Rattle.moo_value.specs.Tree.{Tree}
 use Rattle.moo_value.specs.View.{trees}
-use Rattle.moo_syntax_ast.specs.View.{tree, items_of, block, arms_of, handlers_of}
+use Rattle.moo_syntax_lower.specs.Source.{source, source_items}
+use Rattle.moo_syntax_lower.specs.Blocks.{source_block, source_arm_list, source_handler_list}
 use Rattle.moo_eval_frame.specs.Outcome.{Failure, Flow, Stop}
 use Rattle.moo_eval_access.specs.State.{State}
 use Rattle.moo_eval_access.specs.Target.{Path}
@@ -24,14 +25,29 @@ use Rattle.moo_eval.proofs.interpreter.Task.+evaluation.Given as goal
 abbrev pub decreases-evaluate : goal.decreases-evaluate
 decreases-evaluate l = 8 * l.self.now.ticks_left + 1
 
-abbrev pub decreases-evaluate_part : goal.decreases-evaluate_part
-decreases-evaluate_part l = 8 * l.self.now.ticks_left + 2
-
 abbrev pub decreases-passes : goal.decreases-passes
 decreases-passes l = 8 * l.self.now.ticks_left + 3
 
-abbrev pub decreases-passes_node : goal.decreases-passes_node
-decreases-passes_node l = 8 * l.self.now.ticks_left + 2
+abbrev pub decreases-evaluate_tried : goal.decreases-evaluate_tried
+decreases-evaluate_tried l = 8 * l.self.now.ticks_left + 2
+
+abbrev pub decreases-arithmetic : goal.decreases-arithmetic
+decreases-arithmetic l = 8 * l.self.now.ticks_left + 3
+
+abbrev pub decreases-arithmetic_passes : goal.decreases-arithmetic_passes
+decreases-arithmetic_passes l = 8 * l.self.now.ticks_left + 2
+
+abbrev pub decreases-tried_passes : goal.decreases-tried_passes
+decreases-tried_passes l = 8 * l.self.now.ticks_left + 1
+
+abbrev pub decreases-value_passes : goal.decreases-value_passes
+decreases-value_passes l = 8 * l.self.now.ticks_left + 2
+
+abbrev pub decreases-logic_passes : goal.decreases-logic_passes
+decreases-logic_passes l = 8 * l.self.now.ticks_left
+
+abbrev pub decreases-not_passes : goal.decreases-not_passes
+decreases-not_passes l = 8 * l.self.now.ticks_left
 
 abbrev pub decreases-evaluate_node : goal.decreases-evaluate_node
 decreases-evaluate_node l = 8 * l.self.now.ticks_left
@@ -45,14 +61,14 @@ decreases-assign_alone l = 8 * l.self.now.ticks_left
 abbrev pub decreases-lengthen : goal.decreases-lengthen
 decreases-lengthen l = 8 * l.self.now.ticks_left
 
-abbrev pub decreases-put_behind : goal.decreases-put_behind
-decreases-put_behind l = 8 * l.self.now.ticks_left + 2
+abbrev pub decreases-put_longer : goal.decreases-put_longer
+decreases-put_longer l = 8 * l.self.now.ticks_left + 2
 
-abbrev pub decreases-append : goal.decreases-append
-decreases-append l = 8 * l.self.now.ticks_left
+abbrev pub decreases-extend : goal.decreases-extend
+decreases-extend l = 8 * l.self.now.ticks_left
 
-abbrev pub decreases-put_appended : goal.decreases-put_appended
-decreases-put_appended l = 8 * l.self.now.ticks_left + 2
+abbrev pub decreases-put_extended : goal.decreases-put_extended
+decreases-put_extended l = 8 * l.self.now.ticks_left + 3
 
 abbrev pub decreases-set_place : goal.decreases-set_place
 decreases-set_place l = 8 * l.self.now.ticks_left
@@ -93,17 +109,8 @@ decreases-property l = 8 * l.self.now.ticks_left + 3
 abbrev pub decreases-verb_call : goal.decreases-verb_call
 decreases-verb_call l = 8 * l.self.now.ticks_left + 6
 
-abbrev pub decreases-callee : goal.decreases-callee
-decreases-callee l = 8 * l.self.now.ticks_left + 5
-
 abbrev pub decreases-call_verb : goal.decreases-call_verb
 decreases-call_verb l = 8 * l.self.now.ticks_left + 5
-
-abbrev pub decreases-call_named : goal.decreases-call_named
-decreases-call_named l = 8 * l.self.now.ticks_left + 4
-
-abbrev pub decreases-call_unnamed : goal.decreases-call_unnamed
-decreases-call_unnamed l = 8 * l.self.now.ticks_left + 4
 
 abbrev pub decreases-run_called : goal.decreases-run_called
 decreases-run_called l = 8 * l.self.now.ticks_left + 3
@@ -151,14 +158,14 @@ decreases-set_defaults l = 8 * l.self.now.ticks_left + 2
 abbrev pub invariant-evaluate_all-loop-item : goal.invariant-evaluate_all-loop-item
 invariant-evaluate_all-loop-item l = record {
   ticks : l.self.ticks_left ≤ l.fn.self.ticks_left;
-  rest : (o : Result (List Tree) Failure) (s : State) → EvaluatesAll Faults (context_of l.stack l.indexed) (items_of (drop l.item-index l.items)) (state_of l.self l.world l.active) o s → EvaluatesAll Faults (context_of l.stack l.indexed) (items_of l.items) (state_of l.fn.self l.fn.world l.fn.active) (before l.values o) s;
+  rest : (o : Result (List Tree) Failure) (s : State) → EvaluatesAll Faults (context_of l.stack l.indexed) (source_items (drop l.item-index l.items)) (state_of l.self l.world l.active) o s → EvaluatesAll Faults (context_of l.stack l.indexed) (source_items l.items) (state_of l.fn.self l.fn.world l.fn.active) (before l.values o) s;
 }
 
 -- where the rest leads, the whole target leads
 abbrev pub invariant-locate-loop-spot : goal.invariant-locate-loop-spot
 invariant-locate-loop-spot l = record {
   ticks : l.self.ticks_left ≤ l.fn.self.ticks_left;
-  rest : (o : Result Path Failure) (s : State) → Enters Faults (context_of l.stack l.indexed) (root_seen l.path.root) (steps_of l.path.steps.items) (map spot_of (drop l.spot-index l.spot-items)) (state_of l.self l.world l.active) o s → Locates Faults (context_of l.stack l.indexed) (tree l.target) (state_of l.fn.self l.fn.world l.fn.active) o s;
+  rest : (o : Result Path Failure) (s : State) → Enters Faults (context_of l.stack l.indexed) (root_seen l.path.root) (steps_of l.path.steps.items) (map spot_of (drop l.spot-index l.spot-items)) (state_of l.self l.world l.active) o s → Locates Faults (context_of l.stack l.indexed) (source l.target) (state_of l.fn.self l.fn.world l.fn.active) o s;
 }
 
 -- what the rest does is what all defaults do
@@ -174,17 +181,11 @@ decreases-run l = 8 * l.self.now.ticks_left + 1
 abbrev pub decreases-turn : goal.decreases-turn
 decreases-turn l = 8 * l.self.now.ticks_left + 1
 
-abbrev pub decreases-end_turn : goal.decreases-end_turn
-decreases-end_turn l = 8 * l.self.now.ticks_left + 3
-
 abbrev pub decreases-visit : goal.decreases-visit
 decreases-visit l = 8 * l.self.now.ticks_left + 1
 
 abbrev pub decreases-run_all : goal.decreases-run_all
 decreases-run_all l = 8 * l.self.now.ticks_left + 2
-
-abbrev pub decreases-run_body : goal.decreases-run_body
-decreases-run_body l = 8 * l.self.now.ticks_left + 3
 
 abbrev pub decreases-repeat : goal.decreases-repeat
 decreases-repeat l = 8 * l.self.now.ticks_left + 4
@@ -233,42 +234,39 @@ abbrev pub invariant-run_all-loop-statement : goal.invariant-run_all-loop-statem
 invariant-run_all-loop-statement l = record {
   ticks : l.self.ticks_left ≤ l.fn.self.ticks_left;
   fewer : 0 < l.statement-index → l.self.ticks_left < l.fn.self.ticks_left;
-  rest : (o : Result Flow Stop) (s : State) → RunsAll Faults (context_of l.stack None) (block (drop l.statement-index l.statements)) (state_of l.self l.world l.active) o s → RunsAll Faults (context_of l.stack None) (block l.statements) (state_of l.fn.self l.fn.world l.fn.active) o s;
+  rest : (o : Result Flow Stop) (s : State) → RunsAll Faults (context_of l.stack None) (source_block (drop l.statement-index l.statements)) (state_of l.self l.world l.active) o s → RunsAll Faults (context_of l.stack None) (source_block l.statements) (state_of l.fn.self l.fn.world l.fn.active) o s;
 }
 
 -- what the rest does is what all arms do
 abbrev pub invariant-select-loop-arm : goal.invariant-select-loop-arm
 invariant-select-loop-arm l = record {
   ticks : l.self.ticks_left ≤ l.fn.self.ticks_left;
-  rest : (o : Result Flow Stop) (s : State) → Selects Faults (context_of l.stack None) (arms_of (drop l.arm-index l.arms)) (state_of l.self l.world l.active) o s → Selects Faults (context_of l.stack None) (arms_of l.arms) (state_of l.fn.self l.fn.world l.fn.active) o s;
+  rest : (o : Result Flow Stop) (s : State) → Selects Faults (context_of l.stack None) (source_arm_list (drop l.arm-index l.arms)) (state_of l.self l.world l.active) o s → Selects Faults (context_of l.stack None) (source_arm_list l.arms) (state_of l.fn.self l.fn.world l.fn.active) o s;
 }
 
 -- what the loop does from here is what it does from its start
 abbrev pub invariant-repeat-turns : goal.invariant-repeat-turns
 invariant-repeat-turns l = record {
   ticks : l.self.ticks_left ≤ l.fn.self.ticks_left;
-  rest : (o : Result Flow Stop) (s : State) → Loops Faults (context_of l.stack None) l.own (tree l.test) (block l.body) (state_of l.self l.world l.active) o s → Loops Faults (context_of l.stack None) l.own (tree l.test) (block l.body) (state_of l.fn.self l.fn.world l.fn.active) o s;
+  rest : (o : Result Flow Stop) (s : State) → Loops Faults (context_of l.stack None) l.own (source l.test) (source_block l.body) (state_of l.self l.world l.active) o s → Loops Faults (context_of l.stack None) l.own (source l.test) (source_block l.body) (state_of l.fn.self l.fn.world l.fn.active) o s;
 }
 
 abbrev pub decreases-repeat-turns : goal.decreases-repeat-turns
 decreases-repeat-turns l = l.self.ticks_left
 
 -- what the rest of the values does is what all do
-abbrev pub invariant-visit_all-values : goal.invariant-visit_all-values
-invariant-visit_all-values l = record {
+abbrev pub invariant-visit_all-loop-value : goal.invariant-visit_all-loop-value
+invariant-visit_all-loop-value l = record {
   ticks : l.self.ticks_left ≤ l.fn.self.ticks_left;
-  rest : (o : Result Flow Stop) (s : State) → Visits Faults (context_of l.stack None) l.name (trees (drop l.next l.values)) (block l.body) (state_of l.self l.world l.active) o s → Visits Faults (context_of l.stack None) l.name (trees l.values) (block l.body) (state_of l.fn.self l.fn.world l.fn.active) o s;
+  rest : (o : Result Flow Stop) (s : State) → Visits Faults (context_of l.stack None) l.name (trees (drop l.value-index l.values)) (source_block l.body) (state_of l.self l.world l.active) o s → Visits Faults (context_of l.stack None) l.name (trees l.values) (source_block l.body) (state_of l.fn.self l.fn.world l.fn.active) o s;
 }
-
-abbrev pub decreases-visit_all-values : goal.decreases-visit_all-values
-decreases-visit_all-values l = l.self.ticks_left
 
 -- what the loop does from here is what it does from its start
 abbrev pub invariant-count-numbers : goal.invariant-count-numbers
 invariant-count-numbers l = record {
   ticks : l.self.ticks_left ≤ l.fn.self.ticks_left;
   low : l.span.low ≤ℤ l.number;
-  rest : (o : Result Flow Stop) (s : State) → Counts Faults (context_of l.stack None) l.name l.span l.number (block l.body) (state_of l.self l.world l.active) o s → Counts Faults (context_of l.stack None) l.name l.span l.span.low (block l.body) (state_of l.fn.self l.fn.world l.fn.active) o s;
+  rest : (o : Result Flow Stop) (s : State) → Counts Faults (context_of l.stack None) l.name l.span l.number (source_block l.body) (state_of l.self l.world l.active) o s → Counts Faults (context_of l.stack None) l.name l.span l.span.low (source_block l.body) (state_of l.fn.self l.fn.world l.fn.active) o s;
 }
 
 abbrev pub decreases-count-numbers : goal.decreases-count-numbers
@@ -278,7 +276,7 @@ decreases-count-numbers l = l.self.ticks_left
 abbrev pub invariant-prepare-loop-handler : goal.invariant-prepare-loop-handler
 invariant-prepare-loop-handler l = record {
   ticks : l.self.ticks_left ≤ l.fn.self.ticks_left;
-  rest : (o : Result (List Guarded) Stop) (s : State) → Prepares Faults (context_of l.stack None) (handlers_of (drop l.handler-index l.handlers)) (state_of l.self l.world l.active) o s → Prepares Faults (context_of l.stack None) (handlers_of l.handlers) (state_of l.fn.self l.fn.world l.fn.active) (guarded_before (map guarded_of l.guarded.items) o) s;
+  rest : (o : Result (List Guarded) Stop) (s : State) → Prepares Faults (context_of l.stack None) (source_handler_list (drop l.handler-index l.handlers)) (state_of l.self l.world l.active) o s → Prepares Faults (context_of l.stack None) (source_handler_list l.handlers) (state_of l.fn.self l.fn.world l.fn.active) (guarded_before (map guarded_of l.guarded.items) o) s;
 }
 
 -- what the function does from here is what it does from its first step

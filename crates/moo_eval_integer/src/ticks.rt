@@ -1,0 +1,28 @@
+//! Counts ticks.
+ghost use Rattle.std.specs.Prelude.{◌≡◌, ◌-◌, ◌<◌, ◌≤◌, IfSome};
+
+/// Takes a tick. `None` if none is left.
+#[inline(always)]
+pub fn take(left: &mut u32) -> Option<()>
+    ensures taken { IfSome result (λ _. (0 < left.old) × (left.new ≡ left.old - 1)) }
+    ensures ticks { left.new ≤ left.old }
+{
+    if *left == 0 {
+        return None;
+    }
+    *left -= 1;
+    Some(())
+}
+
+/// Takes three ticks. `None` if fewer are left.
+#[inline(always)]
+pub fn take_three(left: &mut u32) -> Option<()>
+    ensures taken { IfSome result (λ _. (2 < left.old) × (left.new ≡ left.old - 3)) }
+    ensures ticks { left.new ≤ left.old }
+{
+    if *left < 3 {
+        return None;
+    }
+    *left -= 3;
+    Some(())
+}

@@ -13,10 +13,14 @@ use Rattle.moo_eval_semantics.specs.Meaning.{Evaluates}
 abbrev pub with_ticks : ℕ → State → State
 with_ticks n s = record s { ticks = n }
 
--- with these variables an expression gives this integer in every state, and changes nothing but the ticks, of which so
+-- with these variables an expression gives this value in every state, and changes nothing but the ticks, of which so
 -- many are left before and after it
+abbrev pub Gives : (List ℕ → Option Tree) → ℕ → Expr → Tree → ℕ → Type 0
+Gives variables n e t m = (c : Context) (s : State) → s.variables ≡ variables → Evaluates Faults c e (with_ticks n s) (Ok t) (with_ticks m s)
+
+-- it gives this integer
 abbrev pub GivesInteger : (List ℕ → Option Tree) → ℕ → Expr → ℤ → ℕ → Type 0
-GivesInteger variables n e i m = (c : Context) (s : State) → s.variables ≡ variables → Evaluates Faults c e (with_ticks n s) (Ok (integer i)) (with_ticks m s)
+GivesInteger variables n e i m = Gives variables n e (integer i) m
 
 -- with these variables an expression is this integer, or a variable that holds it
 pub data IsLeaf (variables : List ℕ → Option Tree) : Expr → ℤ → Type 0 where

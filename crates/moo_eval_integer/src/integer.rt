@@ -1,13 +1,14 @@
 //! Computes the integers of nodes.
-ghost use Rattle.std.specs.Prelude.{◌≡◌, ◌≤◌, ℕ, List, Option, Some, IfSome};
-ghost use Rattle.moo_value.specs.Tree.{Tree, integer};
+ghost use Rattle.std.specs.Prelude.{◌≡◌, ◌≤◌, ℕ, List, Option, Some, Ok, IfSome};
+ghost use Rattle.moo_value.specs.Tree.{Tree, integer, list_of};
 ghost use Rattle.moo_value.specs.Compare.{folded};
 ghost use Rattle.moo_syntax_ast.specs.declared.tree.Literal.TheVariants.{Integer};
 ghost use Rattle.moo_syntax_ast.specs.Tree.{literal, variable, binary, call, index};
 ghost use Rattle.moo_syntax_lower.specs.Source.{source, source_items};
 ghost use Rattle.moo_builtin_operator.specs.Truth.{is_true};
+ghost use Rattle.moo_builtin_operator.specs.Places.{length_of};
 ghost use Rattle.moo_eval_frame.specs.Seen.{indexed_of, variables_of};
-ghost use Rattle.moo_eval_integer.specs.Integers.{GivesInteger, IsLeaf};
+ghost use Rattle.moo_eval_integer.specs.Integers.{Gives, GivesInteger, IsLeaf};
 
 use crate::ticks::{take, take_three};
 use moo_builtin_operator::before_place;
@@ -150,6 +151,7 @@ fn element_integer(active: &Activation, left: &mut u32, base: &Node, place: &Nod
 #[cycle(integer)]
 #[inline(always)]
 fn list_of<'a>(active: &'a Activation, left: &mut u32, base: &Node) -> Option<&'a MooList>
+    ensures value { IfSome result (λ list. Gives (variables_of active.now.variables) left.old (source base.now) (list_of list.now) left.new) }
     ensures ticks { left.new ≤ left.old }
 {
     match base {
@@ -161,6 +163,7 @@ fn list_of<'a>(active: &'a Activation, left: &mut u32, base: &Node) -> Option<&'
 
 #[inline(always)]
 fn held_list<'a>(active: &'a Activation, left: &mut u32, name: &Name) -> Option<&'a MooList>
+    ensures value { IfSome result (λ list. Gives (variables_of active.now.variables) left.old (variable name.now) (list_of list.now) left.new) }
     ensures ticks { left.new ≤ left.old }
 {
     take(left)?;
@@ -175,6 +178,7 @@ fn inner_list<'a>(
     outer: &Node,
     place: &Node,
 ) -> Option<&'a MooList>
+    ensures value { IfSome result (λ list. Gives (variables_of active.now.variables) left.old (index (source outer.now) (source place.now)) (list_of list.now) left.new) }
     ensures ticks { left.new ≤ left.old }
 {
     take(left)?;
@@ -186,7 +190,9 @@ fn inner_list<'a>(
 
 // Returns the list that a value is.
 #[inline(always)]
-fn list_in(value: Option<&Value>) -> Option<&MooList> {
+fn list_in(value: Option<&Value>) -> Option<&MooList>
+    ensures { IfSome result (λ list. indexed_of value.entry ≡ Some (list_of list.now)) }
+{
     match value {
         Some(Value::List(list)) => Some(list),
         _ => None,
@@ -228,10 +234,12 @@ fn as_variable(node: &Node) -> Option<&Name>
 
 // Returns the length of a string or of a list.
 #[inline(always)]
-fn length_in(value: Option<&Value>) -> Option<i32> {
+fn length_in(value: Option<&Value>) -> Option<i32>
+    ensures { IfSome result (λ n. (t : Tree) × (indexed_of value.entry ≡ Some t) × (length_of t ≡ Ok (integer n))) }
+{
     match value {
         Some(Value::Str(string)) => Some(string.len() as i32),
-        Some(Value::List(list)) => Some(list.len() as i32),
+        Some(Value::List(list)) => Some(list.elements().len() as i32),
         _ => None,
     }
 }

@@ -1,7 +1,7 @@
 //! The verbs of an object, in order, with a filter by the first letter of names.
-ghost use Rattle.std.specs.Prelude.{◌≡◌, ◌<◌, OnOk, OnErr, IfOk, [], ◌⊎◌, ◌∷◌, ◌++◌, length, position, slice_index_or};
+ghost use Rattle.std.specs.Prelude.{◌≡◌, ◌≢◌, ◌<◌, OnOk, OnErr, IfOk, [], ◌⊎◌, ◌∷◌, ◌++◌, length, position, slice_index_or};
 ghost use Rattle.std.specs.List.{list_any, remove, slice_split};
-ghost use Rattle.moo_world_object.specs.Patterns.{is_blank};
+ghost use Rattle.moo_world_object.specs.Patterns.{is_blank, fits_names};
 ghost use Rattle.moo_world_object.specs.Verbs.{fits_verb, changed_at, with_verb_info, with_args, with_program};
 ghost use Rattle.moo_world_object.specs.declared.verb.Verb.{Verb};
 ghost use Rattle.moo_syntax_ast.specs.NameHash.{first_letter};
@@ -106,26 +106,16 @@ impl VerbList {
         None
     }
 
-    /// Returns the first verb that a name matches. For a call only executable verbs count.
-    #[inline]
-    pub fn named(&self, need: Need, name: &NameKey<'_>) -> Option<&Verb>
-        ensures { option_copied result ≡ option_and_then (slice_get self.now) (position (fits_verb need name.now) self.now) }
-    {
-        let index = self.position_named(need, name)?;
-        Some(&self.verbs[index])
-    }
-
     // Returns whether a name matches the verb at a place. Compares numbers alone if both are known.
     #[inline(always)]
     fn fits(&self, index: usize, need: Need, name: &NameKey<'_>) -> bool
         requires { index < length self.now }
-        ensures { result ≡ fits_verb need name (slice_index self.now index) }
+        ensures { (v : Verb) → v ≡ slice_index_or self.now index v → result ≡ fits_verb need name.now v }
     {
         let verb = &self.verbs[index];
         let number = self.number(index);
         if number == 0 {
-            let first = first_letter(name.bytes());
-            return may_begin(self.letter(index), first) && verb.fits(need, name.bytes());
+            return fits_by_letter(verb, self.letter(index), need, name.bytes());
         }
         verb.is_needed(need) && has_name(verb, number, name)
     }
@@ -207,6 +197,16 @@ impl VerbList {
     }
 }
 
+// Returns whether a name matches a verb with this filter letter, which it compares first.
+#[tactic(auto, using(crate::proofs::Letters::letter_first))]
+#[inline(always)]
+fn fits_by_letter(verb: &Verb, letter: u8, need: Need, name: &[u8]) -> bool
+    requires { IsLetter letter verb.now.names }
+    ensures { result ≡ fits_verb need name.now verb.now }
+{
+    may_begin(letter, first_letter(name)) && verb.fits(need, name)
+}
+
 // Returns whether a name is the only name of a verb, which has this number. Compares numbers alone if both are known.
 #[inline(always)]
 fn has_name(verb: &Verb, number: u64, name: &NameKey<'_>) -> bool
@@ -214,8 +214,9 @@ fn has_name(verb: &Verb, number: u64, name: &NameKey<'_>) -> bool
     requires number { IsNumberOf number verb.now.names }
     ensures { result ≡ fits_names verb.now.names name.now }
 {
-    if name.number() != 0 {
-        return number == name.number();
+    let sought = name.number();
+    if sought != 0 {
+        return number == sought;
     }
     same_hashed_name(verb.names.as_bytes(), name.bytes())
 }

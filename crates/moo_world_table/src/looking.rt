@@ -1,14 +1,15 @@
 //! Look-ups along the ancestors of an object: verbs whose names match, and values through clear cells.
 
 ghost use Rattle.std.specs.Prelude.{◌≡◌, ◌<◌, ◌∷◌, length, slice_get, None, Some, IfSome};
-ghost use Rattle.std.specs.Option.{option_map, option_copied, unwrap_or};
+ghost use Rattle.std.specs.Option.{option_map, option_copied, option_and_then, unwrap_or};
 ghost use Rattle.std.specs.List.{filter_map, position};
 ghost use Rattle.moo_value.specs.Compare.{folded};
 ghost use Rattle.moo_value.specs.View.{tree};
 ghost use Rattle.moo_world_tree.specs.Forest.{ancestors};
 ghost use Rattle.moo_world_object.specs.Verbs.{fits_verb};
+ghost use Rattle.moo_world_object.specs.declared.verb.Need.TheVariants as need;
 ghost use Rattle.moo_world_table.specs.World.{nothing};
-ghost use Rattle.moo_world_table.specs.Verbs.{verb_at};
+ghost use Rattle.moo_world_table.specs.Verbs.{verb_at, verb_at_place};
 ghost use Rattle.moo_world_table.specs.Properties.{value_in, value_at};
 
 use moo_syntax_ast::NameKey;
@@ -46,6 +47,7 @@ pub fn nearest_verb(
 }
 
 /// Returns the nearest verb that can be called by a name, and the object that has it.
+#[tactic(auto, using(crate::proofs::Called::verb_placed))]
 pub fn nearest_called<'a>(
     objects: &'a [Option<Object>],
     tree: &Forest,
@@ -57,29 +59,18 @@ pub fn nearest_called<'a>(
     ensures value { option_map (λ found. (found.0, found.1.now)) result ≡ option_and_then (verb_at_place objects.now) (slice_get (filter_map (verb_at objects.now need.Call name.now) (x ∷ ancestors tree.now x)) 0) }
     ensures low { IfSome result (λ found. found.0 < length objects.now) }
 {
-    let mut at = x;
-    if let Some(verb) = called_in(&objects[x], name) {
-        return Some((x, verb));
-    }
-    for _ in 0..objects.len() {
-        match tree.above(at) {
-            Some(up) => at = up,
-            None => return None,
-        }
-        if let Some(verb) = called_in(&objects[at], name) {
-            return Some((at, verb));
-        }
-    }
-    None
+    let (definer, index) = nearest_verb(objects, tree, x, name, Need::Call)?;
+    let verb = verb_of(&objects[definer], index)?;
+    Some((definer, verb))
 }
 
-// Returns the first verb of the object at a number that can be called by a name.
+// Returns the verb at a place among those of the object at a number.
 #[inline]
-fn called_in<'a>(slot: &'a Option<Object>, name: &NameKey<'_>) -> Option<&'a Verb>
-    ensures { option_copied result ≡ option_and_then (slice_get (unwrap_or slot.now nothing).verbs) (position (fits_verb need.Call name.now) (unwrap_or slot.now nothing).verbs) }
+fn verb_of(slot: &Option<Object>, index: usize) -> Option<&Verb>
+    ensures { option_copied result ≡ slice_get (unwrap_or slot.now nothing).verbs index }
 {
     match slot {
-        Some(object) => object.verb_named(Need::Call, name),
+        Some(object) => object.verb(index),
         None => None,
     }
 }

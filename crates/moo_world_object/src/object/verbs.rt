@@ -42,14 +42,6 @@ impl Object {
         self.verbs.position_named(need, name)
     }
 
-    /// Returns the first verb that a name matches. For a call only executable verbs count.
-    #[inline]
-    pub fn verb_named(&self, need: Need, name: &NameKey<'_>) -> Option<&Verb>
-        ensures { option_copied result ≡ option_and_then (slice_get self.now.verbs) (position (fits_verb need name.now) self.now.verbs) }
-    {
-        self.verbs.named(need, name)
-    }
-
     /// Appends a verb. Out of memory nothing changes.
     pub fn add_verb(&mut self, verb: Verb) -> Result<(), AllocError>
         ensures ok { OnOk result (self.new ≡ record self.old { verbs = self.old.verbs ++ verb ∷ [] }) }

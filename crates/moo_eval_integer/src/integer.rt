@@ -7,9 +7,9 @@ ghost use Rattle.moo_syntax_ast.specs.Tree.{literal, variable, binary, call, ind
 ghost use Rattle.moo_syntax_lower.specs.Source.{source, source_items};
 ghost use Rattle.moo_builtin_operator.specs.Truth.{is_true};
 ghost use Rattle.moo_eval_frame.specs.Seen.{indexed_of, variables_of};
-ghost use Rattle.moo_eval_integer.specs.Integers.{GivesInteger, IsLeaf};
+ghost use Rattle.moo_eval_integer.specs.Integers.{GivesInteger, IsLeaf, IsOfLeaves};
 
-use crate::ticks::{take, take_three};
+use crate::ticks::{take, take_many};
 use moo_builtin_operator::before_place;
 use moo_eval_access::number_of;
 use moo_eval_frame::Activation;
@@ -34,13 +34,29 @@ pub fn arithmetic_integer(
     ensures value { IfSome result (λ n. GivesInteger (variables_of active.now.variables) left.old (binary operator (source a.now) (source b.now)) n left.new) }
     ensures ticks { left.new ≤ left.old }
 {
-    match leaves(active, a, b) {
-        Some((a, b)) => {
-            take_three(left)?;
-            number_of(operator, a, b)
-        }
-        None => nested_integer(active, left, operator, a, b),
+    if let Some((a, b)) = leaves(active, a, b) {
+        take_many(left, 3)?;
+        return number_of(operator, a, b);
     }
+    if let Some((a, b)) = operator_and_leaf(active, a, b) {
+        take_many(left, 5)?;
+        return number_of(operator, a, b);
+    }
+    nested_integer(active, left, operator, a, b)
+}
+
+// Returns the integers of an operator between leaves and of a leaf. They have four nodes together.
+#[inline(always)]
+fn operator_and_leaf(active: &Activation, a: &Node, b: &Node) -> Option<(i32, i32)>
+    ensures { IfSome result (λ p. IsOfLeaves (variables_of active.now.variables) (source a.now) p.0 × IsLeaf (variables_of active.now.variables) (source b.now) p.1) }
+{
+    let Node::Arithmetic(operator, x, y) = a else {
+        return None;
+    };
+    let (x, y) = leaves(active, x, y)?;
+    let b = leaf_integer(active, b)?;
+    let a = number_of(*operator, x, y)?;
+    Some((a, b))
 }
 
 // Returns the integer of an operator between any two nodes, likewise. It is a separate function, so that operators
@@ -73,9 +89,9 @@ fn leaves(active: &Activation, a: &Node, b: &Node) -> Option<(i32, i32)>
     Some((a, b))
 }
 
-// Returns the integer of a node, if it is an integer or a variable that holds one and whose slot is known.
+/// Returns the integer of a node, if it is an integer or a variable that holds one and whose slot is known.
 #[inline(always)]
-fn leaf_integer(active: &Activation, node: &Node) -> Option<i32>
+pub fn leaf_integer(active: &Activation, node: &Node) -> Option<i32>
     ensures { IfSome result (λ n. IsLeaf (variables_of active.now.variables) (source node.now) n) }
 {
     if let Node::Variable(name) = node {
@@ -262,9 +278,9 @@ fn held_integer(active: &Activation, name: &Name) -> Option<i32>
     integer_in(active.variables.get(name))
 }
 
-// Returns the integer that a value is.
+/// Returns the integer that a value is.
 #[inline(always)]
-fn integer_in(value: Option<&Value>) -> Option<i32>
+pub fn integer_in(value: Option<&Value>) -> Option<i32>
     ensures { IfSome result (λ n. indexed_of value.entry ≡ Some (integer n)) }
 {
     match value {

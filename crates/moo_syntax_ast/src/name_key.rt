@@ -1,5 +1,8 @@
 //! Names by which verbs are sought.
-ghost use Rattle.std.specs.Prelude.{◌≡◌};
+ghost use Rattle.std.specs.Prelude.{◌≡◌, ◌≢◌};
+ghost use Rattle.moo_value.specs.Compare.{folded};
+ghost use Rattle.moo_syntax_ast.specs.NameNumber.{name_number, IsCode};
+ghost use Rattle.moo_syntax_ast.specs.NameHash.{hash_of};
 
 use crate::name_hash::hash_of;
 use std::marker::Model;
@@ -41,6 +44,8 @@ impl<'a> NameKey<'a> {
     /// Returns the key of these parts.
     #[inline(always)]
     pub(crate) fn from_parts(bytes: &'a [u8], hash: usize, number: u64) -> NameKey<'a>
+        requires hash { hash ≡ hash_of bytes.now }
+        requires number { number ≢ 0 → (number ≡ name_number (folded bytes.now)) × IsCode number }
         ensures { result ≡ bytes.now }
     {
         NameKey {

@@ -26,12 +26,13 @@ impl Model for Text {
     ghost use Rattle.std.specs.Prelude.{◌≡◌, ℕ, List};
     ghost use Rattle.moo_value.specs.Compare.{folded};
     ghost use Rattle.moo_syntax_ast.specs.NameNumber.{name_number};
+    ghost use Rattle.moo_syntax_ast.specs.NameHash.{hash_of};
 
     ghost Value = { List ℕ };
 
     ghost view = { λ text. text.string };
 
-    ghost invariant = { λ text. text.number ≡ name_number (folded text.string) };
+    ghost invariant = { λ text. (text.number ≡ name_number (folded text.string)) × (text.hash ≡ hash_of text.string) };
 }
 
 impl Text {

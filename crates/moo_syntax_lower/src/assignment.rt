@@ -3,8 +3,8 @@ ghost use Rattle.std.specs.Prelude.{◌≡◌, ◌∷◌, [], IfOk, IfSome};
 ghost use Rattle.moo_syntax_ast.specs.declared.operator.BinaryOperator.TheVariants.{Add};
 ghost use Rattle.moo_syntax_ast.specs.Tree as source_tree;
 ghost use Rattle.moo_syntax_ast.specs.Tree.{Items};
-ghost use Rattle.moo_syntax_ast.specs.View.{tree, with_item};
-ghost use Rattle.moo_syntax_lower.specs.Blocks.{source_statement};
+ghost use Rattle.moo_syntax_ast.specs.View.{tree, with_item, items_of};
+ghost use Rattle.moo_syntax_lower.specs.Blocks.{source_statement, named_items};
 
 use crate::expression::{copied_name, lower_boxed};
 use crate::item::lower_items;

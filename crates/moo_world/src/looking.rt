@@ -1,12 +1,13 @@
 //! Look-ups along the ancestors of an object: verbs whose names match, and values through clear cells.
 
-ghost use Rattle.std.specs.Prelude.{◌≡◌, ◌<◌, Some, IsSome, IfSome};
+ghost use Rattle.std.specs.Prelude.{◌≡◌, ◌<◌, Some, IsSome, IfSome, pos};
 ghost use Rattle.std.specs.Option.{option_map, option_and_then};
 ghost use Rattle.moo_world_tree.specs.Forest.{ancestors};
-ghost use Rattle.moo_world_table.specs.Verbs.{verb_found};
+ghost use Rattle.moo_world_table.specs.Verbs.{verb_found, verb_at_place};
 ghost use Rattle.moo_world.specs.VerbCalls.{verb_place};
 ghost use Rattle.moo_world.specs.Calls.{number_of};
 ghost use Rattle.moo_world_table.specs.World.{object_of, most};
+ghost use Rattle.moo_world_object.specs.declared.verb.Need.TheVariants as need;
 
 use crate::World;
 use moo_syntax_ast::NameKey;
@@ -26,16 +27,8 @@ impl World {
     pub fn find_verb(&self, o: i32, name: &[u8], need: Need) -> Option<VerbAt>
         ensures { result ≡ option_map verb_place (option_and_then (verb_found self.now need name.now) (number_of self.now.objects o)) }
     {
-        self.find_named_verb(o, &NameKey::new(name), need)
-    }
-
-    /// Returns the first verb that a name matches, on the nearest of the object and its ancestors that has one. For a
-    /// call only executable verbs count.
-    pub fn find_named_verb(&self, o: i32, name: &NameKey<'_>, need: Need) -> Option<VerbAt>
-        ensures { result ≡ option_map verb_place (option_and_then (verb_found self.now need name.now) (number_of self.now.objects o)) }
-    {
         let x = self.number(o)?;
-        let (definer, index) = self.verb_from(x, name, need)?;
+        let (definer, index) = self.verb_from(x, &NameKey::new(name), need)?;
         Some(VerbAt {
             definer: definer as i32,
             index,
@@ -45,7 +38,7 @@ impl World {
     /// Returns the first executable verb that a name matches, on the nearest of the object and its ancestors that has
     /// one, and the number of the object that has it.
     pub fn called_verb(&self, o: i32, name: &NameKey<'_>) -> Option<(i32, &Verb)>
-        ensures { option_map (λ found. (found.0, found.1.now)) result ≡ option_and_then (verb_in_place self.now) (option_map verb_place (option_and_then (verb_found self.now need.Call name.now) (number_of self.now.objects o))) }
+        ensures { option_map (λ found. (found.0, found.1.now)) result ≡ option_map (λ found. (pos found.0, found.1)) (option_and_then (verb_at_place self.now.objects) (option_and_then (verb_found self.now need.Call name.now) (number_of self.now.objects o))) }
     {
         let x = self.number(o)?;
         let (definer, verb) = nearest_called(&self.objects, &self.inheritance, x, name)?;

@@ -2,7 +2,6 @@
 ghost use Rattle.std.specs.Prelude.{◌≡◌, ◌<◌, ◌≤◌, ◌%◌, ◌++◌, ◌∷◌, ℕ, List, [], false, length, IsTrue, OnOk, IfOk, min, max};
 ghost use Rattle.moo_world_object.specs.Patterns.{base, ends_in_star};
 ghost use Rattle.moo_world_object.specs.declared.verb.Verb.{Verb};
-ghost use Rattle.moo_syntax_ast.specs.NameHash.{class_of, hash_of};
 ghost use Rattle.moo_world_object.specs.Index.{bucket_of, Holds, Grows, CoversPattern, Covers, AreIndexed};
 
 use crate::pattern::{ends_in_star, is_blank, is_star, least_length};

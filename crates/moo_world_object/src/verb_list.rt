@@ -1,12 +1,13 @@
 //! The verbs of an object, in order, with a filter by the first letter of names.
-ghost use Rattle.std.specs.Prelude.{◌≡◌, ◌<◌, OnOk, OnErr, IfOk, [], ◌⊎◌, ◌∷◌, ◌++◌, length, position, slice_index_or};
+ghost use Rattle.std.specs.Prelude.{◌≡◌, ◌<◌, OnOk, OnErr, IfOk, [], ◌⊎◌, ◌∷◌, ◌++◌, length, position, slice_index_or, Some, slice_get};
 ghost use Rattle.std.specs.List.{list_any, remove, slice_split};
-ghost use Rattle.moo_world_object.specs.Patterns.{is_blank};
+ghost use Rattle.moo_world_object.specs.Patterns.{is_blank, fits_names};
 ghost use Rattle.moo_world_object.specs.Verbs.{fits_verb, changed_at, with_verb_info, with_args, with_program};
 ghost use Rattle.moo_world_object.specs.declared.verb.Verb.{Verb};
 ghost use Rattle.moo_syntax_ast.specs.NameHash.{first_letter};
 ghost use Rattle.moo_world_object.specs.Letters.{begins_otherwise, may_begin, IsLetter, AreLetters, IsNumberOf, AreNumbers};
 ghost use Rattle.moo_world_object.specs.Index.{AreIndexed};
+ghost use Rattle.std.specs.Option.{option_and_then, option_copied};
 
 use crate::name::same_hashed_name;
 use crate::pattern::{is_blank, is_star};
@@ -90,7 +91,7 @@ impl VerbList {
     }
 
     /// Returns the place of the first verb that a name matches. For a call only executable verbs count.
-    #[inline]
+    #[inline(always)]
     pub fn position_named(&self, need: Need, name: &NameKey<'_>) -> Option<usize>
         ensures { result ≡ position (fits_verb need name.now) self.now }
     {
@@ -107,7 +108,7 @@ impl VerbList {
     }
 
     /// Returns the first verb that a name matches. For a call only executable verbs count.
-    #[inline]
+    #[inline(always)]
     pub fn named(&self, need: Need, name: &NameKey<'_>) -> Option<&Verb>
         ensures { option_copied result ≡ option_and_then (slice_get self.now) (position (fits_verb need name.now) self.now) }
     {
@@ -119,7 +120,7 @@ impl VerbList {
     #[inline(always)]
     fn fits(&self, index: usize, need: Need, name: &NameKey<'_>) -> bool
         requires { index < length self.now }
-        ensures { result ≡ fits_verb need name (slice_index self.now index) }
+        ensures { (verb : Verb) → slice_get self.now index ≡ Some verb → result ≡ fits_verb need name.now verb }
     {
         let verb = &self.verbs[index];
         let number = self.number(index);

@@ -1,15 +1,16 @@
 //! Look-ups along the ancestors of an object: verbs whose names match, and values through clear cells.
 
 ghost use Rattle.std.specs.Prelude.{◌≡◌, ◌<◌, ◌∷◌, length, slice_get, None, Some, IfSome};
-ghost use Rattle.std.specs.Option.{option_map, option_copied, unwrap_or};
+ghost use Rattle.std.specs.Option.{option_map, option_copied, unwrap_or, option_and_then};
 ghost use Rattle.std.specs.List.{filter_map, position};
 ghost use Rattle.moo_value.specs.Compare.{folded};
 ghost use Rattle.moo_value.specs.View.{tree};
 ghost use Rattle.moo_world_tree.specs.Forest.{ancestors};
 ghost use Rattle.moo_world_object.specs.Verbs.{fits_verb};
 ghost use Rattle.moo_world_table.specs.World.{nothing};
-ghost use Rattle.moo_world_table.specs.Verbs.{verb_at};
+ghost use Rattle.moo_world_table.specs.Verbs.{verb_at, verb_at_place};
 ghost use Rattle.moo_world_table.specs.Properties.{value_in, value_at};
+ghost use Rattle.moo_world_object.specs.declared.verb.Need.TheVariants as need;
 
 use moo_syntax_ast::NameKey;
 use moo_value::Value;
@@ -58,23 +59,17 @@ pub fn nearest_called<'a>(
     ensures low { IfSome result (λ found. found.0 < length objects.now) }
 {
     let mut at = x;
-    if let Some(verb) = called_in(&objects[x], name) {
-        return Some((x, verb));
-    }
     for _ in 0..objects.len() {
-        match tree.above(at) {
-            Some(up) => at = up,
-            None => return None,
-        }
         if let Some(verb) = called_in(&objects[at], name) {
             return Some((at, verb));
         }
+        at = tree.above(at)?;
     }
     None
 }
 
 // Returns the first verb of the object at a number that can be called by a name.
-#[inline]
+#[inline(always)]
 fn called_in<'a>(slot: &'a Option<Object>, name: &NameKey<'_>) -> Option<&'a Verb>
     ensures { option_copied result ≡ option_and_then (slice_get (unwrap_or slot.now nothing).verbs) (position (fits_verb need.Call name.now) (unwrap_or slot.now nothing).verbs) }
 {

@@ -1,6 +1,6 @@
 //! The verbs of an object.
 ghost use Rattle.std.specs.Prelude.{◌≡◌, ◌<◌, OnOk, OnErr, [], ◌∷◌, ◌++◌, length, position, slice_get};
-ghost use Rattle.std.specs.Option.{option_copied};
+ghost use Rattle.std.specs.Option.{option_copied, option_and_then};
 ghost use Rattle.std.specs.List.{remove};
 ghost use Rattle.moo_world_object.specs.Verbs.{fits_verb, changed_at, with_verb_info, with_args, with_program};
 
@@ -43,7 +43,7 @@ impl Object {
     }
 
     /// Returns the first verb that a name matches. For a call only executable verbs count.
-    #[inline]
+    #[inline(always)]
     pub fn verb_named(&self, need: Need, name: &NameKey<'_>) -> Option<&Verb>
         ensures { option_copied result ≡ option_and_then (slice_get self.now.verbs) (position (fits_verb need name.now) self.now.verbs) }
     {

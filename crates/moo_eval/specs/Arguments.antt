@@ -1,13 +1,13 @@
 -- For private clauses: the arguments of a call of a verb, which make a list.
-use Rattle.std.specs.Prelude.{◌≡◌, ◌++◌, List, Result, Ok, Err}
-use Rattle.moo_value.specs.Tree.{Tree, string}
+use Rattle.std.specs.Prelude.{◌≡◌, ◌++◌, List, [], Result, Ok, Err}
+use Rattle.moo_value.specs.Tree.{Tree}
 use Rattle.moo_syntax_ast.specs.Tree.{Expr, Items}
 use Rattle.moo_builtin_operator.specs.Places.{made_list}
 use Rattle.moo_builtin.specs.Telling.{Telling}
 use Rattle.moo_eval_frame.specs.Outcome.{Stop, Failure, answers, settled}
 use Rattle.moo_eval_frame.specs.State.{Context}
 use Rattle.moo_eval_access.specs.State.{State, trace}
-use Rattle.moo_eval_semantics.specs.Meaning.{Computes, EvaluatesAll}
+use Rattle.moo_eval_semantics.specs.Meaning.{Applies, Computes, EvaluatesAll}
 
 -- these values, if they make a list
 abbrev pub listed : List Tree → Result Tree Failure → Result (List Tree) Failure
@@ -34,3 +34,7 @@ EvaluatesFurther T c vs xs s r s' = (o : Result (List Tree) Failure) × Evaluate
 -- an expression is computed, after its tick, and its outcome is settled
 abbrev pub Settles : (T : Telling) → Context → Expr → State → Result Tree Stop → State → Type 0
 Settles T c e s r s' = (o : Result Tree Failure) × Computes T c e s o s' × (settled c.frame.d (trace c s') o ≡ r)
+
+-- a call is applied to the values of its operands, and its outcome is settled
+abbrev pub SettlesCall : (T : Telling) → Context → Expr → List Tree → State → Result Tree Stop → State → Type 0
+SettlesCall T c e vs s r s' = (o : Result Tree Failure) × Applies T c e vs [] s o s' × (settled c.frame.d (trace c s') o ≡ r)

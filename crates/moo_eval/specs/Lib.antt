@@ -5,3 +5,4 @@ pub mod Growth
 pub mod Element
 pub mod Simple
 pub mod Arguments
+pub mod Functions

@@ -1,9 +1,11 @@
 //! Evaluates the arguments of calls of verbs.
 ghost use Rattle.std.specs.Prelude.{◌≡◌, ◌≤◌, []};
+ghost use Rattle.moo_value.specs.View.{trees};
 ghost use Rattle.moo_syntax_lower.specs.Source.{source_items};
-ghost use Rattle.moo_eval_frame.specs.Seen.{context_of, IsKnownFailure};
+ghost use Rattle.moo_eval_frame.specs.Seen.{context_of, seen_by, IsKnownFailure};
 ghost use Rattle.moo_builtin.specs.Telling.{Faults};
 ghost use Rattle.moo_eval.specs.Seen.{state_of};
+ghost use Rattle.moo_eval.specs.Arguments.{EvaluatesArguments, EvaluatesFurther};
 
 use crate::interpreter::Task;
 use moo_eval_access::arguments;
@@ -11,7 +13,6 @@ use moo_eval_frame::{Activation, CallStack, Failure, Gathered, push};
 use moo_syntax_lower::NodeItem;
 use moo_value::{MooList, Value};
 use moo_world::World;
-use std::alloc::AllocError;
 
 impl Task {
     // Evaluates the arguments of a verb: E_QUOTA if they make no list. They take the memory of a list that is spare.
@@ -28,11 +29,15 @@ impl Task {
         ensures meaning { IsKnownFailure result → EvaluatesArguments Faults (context_of stack.now indexed.entry) (source_items items.now) (state_of self.old world.old active.old) (seen_by (λ list. list) result) (state_of self.new world.new active.new) }
         ensures ticks { self.new.ticks_left ≤ self.old.ticks_left }
     {
-        let spare = self.take_spare_list()?;
-        if items.is_empty() {
-            return Ok(spare);
+        let spare = self.spare.take_list()?;
+        match items {
+            [] => Ok(spare),
+            [NodeItem::Splice(_), ..] => {
+                let values = Vec::new(self.alloc());
+                self.evaluate_rest(world, active, stack, indexed, items, values, spare)
+            }
+            _ => self.evaluate_arguments(world, active, stack, indexed, items, spare),
         }
-        self.evaluate_arguments(world, active, stack, indexed, items, spare)
     }
 
     // Evaluates arguments into a spare list, which is empty.
@@ -83,16 +88,5 @@ impl Task {
         self.evaluate_items(world, active, stack, indexed, items, &mut values)?;
         let values = values.into_arguments(self.alloc())?;
         arguments(self.alloc(), spare, values)
-    }
-
-    // Returns a list without elements, whose memory may be that of a call that has ended.
-    #[inline(always)]
-    fn take_spare_list(&mut self) -> Result<MooList, AllocError>
-        ensures { IfOk result (λ list. list ≡ []) }
-    {
-        match self.spare_lists.pop() {
-            Some(list) => Ok(list),
-            None => MooList::empty(self.alloc()),
-        }
     }
 }

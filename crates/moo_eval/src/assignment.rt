@@ -1,16 +1,15 @@
 //! Runs assignments.
-ghost use Rattle.std.specs.Prelude.{◌≡◌, ◌≤◌, None, Ok, IsTrue, IsFalse, Result, Err, IfOk, IfErr, OnOk, map};
-ghost use Rattle.moo_syntax_ast.specs.Tree.{variable, assign, performs, list};
-ghost use Rattle.moo_syntax_lower.specs.Source.{source, source_items};
+ghost use Rattle.std.specs.Prelude.{◌≡◌, ◌≤◌, None, Ok, IsTrue, IsFalse};
+ghost use Rattle.moo_syntax_ast.specs.Tree.{variable, assign, performs};
+ghost use Rattle.moo_syntax_lower.specs.Source.{source};
 ghost use Rattle.moo_value.specs.View.{tree as value_tree};
 ghost use Rattle.moo_eval_access.specs.Target.{Path, named};
 ghost use Rattle.moo_eval_semantics.specs.Meaning.{Evaluates, Computes, Does, Locates, Finds, Steps, Stores};
-ghost use Rattle.moo_eval_frame.specs.Seen.{context_of, failure_of, seen_answer, seen_by, seen_done, seen_flow, seen_value, HadMemoryIn, IsKnown, IsKnownFailure};
+ghost use Rattle.moo_eval_frame.specs.Seen.{context_of, seen_answer, seen_by, seen_done, seen_flow, seen_value, IsKnown, IsKnownFailure};
 ghost use Rattle.moo_eval_frame.specs.State.{Context};
-ghost use Rattle.moo_eval_frame.specs.Held.{IsHeld};
+ghost use Rattle.moo_eval_frame.specs.Held.{IsSlot};
 ghost use Rattle.moo_eval_frame.specs.Outcome.{next};
 ghost use Rattle.moo_world_table.specs.World.{World as WorldModel};
-ghost use Rattle.moo_eval_access.specs.State.{State};
 ghost use Rattle.moo_builtin.specs.Telling.{Faults};
 ghost use Rattle.moo_eval.specs.Seen.{state_of};
 ghost use Rattle.moo_eval_access.specs.SeenTarget.{root_seen, step_of, steps_of, path_of, spot_of};
@@ -27,11 +26,13 @@ use moo_syntax_ast::Name;
 use moo_syntax_lower::{Node, NodeItem};
 use moo_value::Value;
 use moo_world::World;
+use std::alloc::Global;
 
 impl Task {
-    /// Evaluates an assignment, which takes a tick.
+    /// Evaluates an assignment, which takes a tick. Inlined, so that nested assignments need stack space only for their own
+    /// kinds.
     #[cycle(evaluation)]
-    #[inline(never)]
+    #[inline(always)]
     pub(crate) fn assign(
         &mut self,
         world: &mut World,
@@ -42,27 +43,6 @@ impl Task {
         value: &Node,
     ) -> Result<Value, Stop>
         ensures meaning { IsKnown result → Evaluates Faults (context_of stack.now indexed.entry) (assign (source target.now) (source value.now)) (state_of self.old world.old active.old) (seen_value result) (state_of self.new world.new active.new) }
-        ensures ticks { self.new.ticks_left ≤ self.old.ticks_left }
-    {
-        self.take_tick(active, stack)?;
-        match self.compute_assign(world, active, stack, indexed, target, value) {
-            Ok(value) => Ok(value),
-            Err(failure) => self.settled(active, stack, failure),
-        }
-    }
-
-    #[cycle(evaluation)]
-    #[inline(always)]
-    fn compute_assign(
-        &mut self,
-        world: &mut World,
-        active: &mut Activation,
-        stack: &CallStack<'_>,
-        indexed: Option<&Value>,
-        target: &Node,
-        value: &Node,
-    ) -> Result<Value, Failure>
-        ensures meaning { IsKnownFailure result → Computes Faults (context_of stack.now indexed.entry) (assign (source target.now) (source value.now)) (state_of self.old world.old active.old) (seen_answer result) (state_of self.new world.new active.new) }
         ensures ticks { self.new.ticks_left ≤ self.old.ticks_left }
     {
         match target {
@@ -77,6 +57,27 @@ impl Task {
     #[cycle(evaluation)]
     #[inline(never)]
     fn assign_path(
+        &mut self,
+        world: &mut World,
+        active: &mut Activation,
+        stack: &CallStack<'_>,
+        indexed: Option<&Value>,
+        target: &Node,
+        value: &Node,
+    ) -> Result<Value, Stop>
+        ensures meaning { IsKnown result → Evaluates Faults (context_of stack.now indexed.entry) (assign (source target.now) (source value.now)) (state_of self.old world.old active.old) (seen_value result) (state_of self.new world.new active.new) }
+        ensures ticks { self.new.ticks_left ≤ self.old.ticks_left }
+    {
+        self.take_tick(active, stack)?;
+        match self.compute_assign_path(world, active, stack, indexed, target, value) {
+            Ok(value) => Ok(value),
+            Err(failure) => self.settled(active, stack, failure),
+        }
+    }
+
+    #[cycle(evaluation)]
+    #[inline(always)]
+    fn compute_assign_path(
         &mut self,
         world: &mut World,
         active: &mut Activation,
@@ -105,6 +106,27 @@ impl Task {
         indexed: Option<&Value>,
         name: &Name,
         value: &Node,
+    ) -> Result<Value, Stop>
+        ensures meaning { IsKnown result → Evaluates Faults (context_of stack.now indexed.entry) (assign (variable name.now) (source value.now)) (state_of self.old world.old active.old) (seen_value result) (state_of self.new world.new active.new) }
+        ensures ticks { self.new.ticks_left ≤ self.old.ticks_left }
+    {
+        self.take_tick(active, stack)?;
+        match self.compute_assign_variable(world, active, stack, indexed, name, value) {
+            Ok(value) => Ok(value),
+            Err(failure) => self.settled(active, stack, failure),
+        }
+    }
+
+    #[cycle(evaluation)]
+    #[inline(always)]
+    fn compute_assign_variable(
+        &mut self,
+        world: &mut World,
+        active: &mut Activation,
+        stack: &CallStack<'_>,
+        indexed: Option<&Value>,
+        name: &Name,
+        value: &Node,
     ) -> Result<Value, Failure>
         ensures meaning { IsKnownFailure result → Computes Faults (context_of stack.now indexed.entry) (assign (variable name.now) (source value.now)) (state_of self.old world.old active.old) (seen_answer result) (state_of self.new world.new active.new) }
         ensures ticks { self.new.ticks_left ≤ self.old.ticks_left }
@@ -115,7 +137,7 @@ impl Task {
         Ok(value)
     }
 
-    /// Assigns to a variable that is set a value that is simple, and returns whether it did. If not, nothing has changed.
+    /// Assigns to a variable a value that is simple, and returns whether it did. If not, nothing has changed.
     #[inline(never)]
     pub(crate) fn try_set(
         &mut self,
@@ -140,7 +162,7 @@ impl Task {
         if take(&mut left).is_none() {
             return false;
         }
-        if !set_simple(world, active, &mut left, slot, value) {
+        if !set_simple(self.alloc(), world, active, &mut left, slot, value) {
             return false;
         }
         self.ticks_left.leave(left);
@@ -302,13 +324,14 @@ impl Task {
 // Sets the variable in a slot to a value that is simple, and returns whether it did.
 #[inline(always)]
 fn set_simple(
+    alloc: Global,
     world: &World,
     active: &mut Activation,
     left: &mut u32,
     slot: usize,
     value: &Node,
 ) -> bool
-    requires { IsHeld active.old.variables.own slot }
+    requires { IsSlot active.old.variables.own slot }
     ensures ticks { left.new ≤ left.old }
     ensures kept { IsFalse result → active.new ≡ active.old }
 {
@@ -319,7 +342,7 @@ fn set_simple(
         active.variables.put_standing_integer(slot, number);
         return true;
     }
-    let Some(value) = part_value(world, active, left, value) else {
+    let Some(value) = part_value(alloc, world, active, left, value) else {
         return false;
     };
     active.variables.put_standing(slot, value);

@@ -7,11 +7,12 @@ ghost use Rattle.moo_syntax_lower.specs.Source.{source, source_items, source_cod
 ghost use Rattle.moo_eval_frame.specs.Catching.{guards};
 ghost use Rattle.moo_eval_call.specs.VerbCalls.{caller_of};
 ghost use Rattle.moo_eval_call.specs.SeenByHooks.{progress_of};
-ghost use Rattle.moo_eval_semantics.specs.Meaning.{Applies, Computes, EvaluatesAll, Proceeds};
+ghost use Rattle.moo_eval_semantics.specs.Meaning.{Applies, Evaluates, Computes, EvaluatesAll, Proceeds};
 ghost use Rattle.moo_eval_frame.specs.Seen.{context_of, seen_answer, seen_answers, seen_value, catch_of, IsKnown, IsKnownFailure};
 ghost use Rattle.moo_builtin.specs.Telling.{Faults};
 ghost use Rattle.moo_eval.specs.Seen.{state_of};
 
+use crate::functions::is_simple_call;
 use crate::hooks::Pending;
 use crate::interpreter::Task;
 use moo_eval_call::{Progress, start_call, verb_caller};
@@ -24,8 +25,52 @@ use moo_world::World;
 impl Task {
     /// Evaluates a call of a built-in function, which takes a tick as it begins.
     #[cycle(evaluation)]
-    #[inline(never)]
+    #[inline(always)]
     pub(crate) fn call(
+        &mut self,
+        world: &mut World,
+        active: &mut Activation,
+        stack: &CallStack<'_>,
+        indexed: Option<&Value>,
+        name: &FunctionName,
+        items: &[NodeItem],
+    ) -> Result<Value, Stop>
+        ensures meaning { IsKnown result → Evaluates Faults (context_of stack.now indexed.entry) (call name.now (source_items items.now)) (state_of self.old world.old active.old) (seen_value result) (state_of self.new world.new active.new) }
+        ensures ticks { self.new.ticks_left ≤ self.old.ticks_left }
+    {
+        if let Some(Function::Pass) = name.function() {
+            return self.evaluate_pass(world, active, stack, indexed, items);
+        }
+        if is_simple_call(name, items) {
+            return self.call_simple(world, active, stack, indexed, name, items);
+        }
+        self.call_node(world, active, stack, indexed, name, items)
+    }
+
+    // Evaluates a call of a function whose arguments may be simple.
+    #[cycle(evaluation)]
+    #[inline(never)]
+    fn call_simple(
+        &mut self,
+        world: &mut World,
+        active: &mut Activation,
+        stack: &CallStack<'_>,
+        indexed: Option<&Value>,
+        name: &FunctionName,
+        items: &[NodeItem],
+    ) -> Result<Value, Stop>
+        ensures meaning { IsKnown result → Evaluates Faults (context_of stack.now indexed.entry) (call name.now (source_items items.now)) (state_of self.old world.old active.old) (seen_value result) (state_of self.new world.new active.new) }
+        ensures ticks { self.new.ticks_left ≤ self.old.ticks_left }
+    {
+        if let Some(value) = self.try_call(world, active, name, items) {
+            return Ok(value);
+        }
+        self.call_node(world, active, stack, indexed, name, items)
+    }
+
+    #[cycle(evaluation)]
+    #[inline(never)]
+    fn call_node(
         &mut self,
         world: &mut World,
         active: &mut Activation,
@@ -59,15 +104,11 @@ impl Task {
         ensures ticks { self.new.ticks_left ≤ self.old.ticks_left }
     {
         let function = name.function();
-        if let Some(Function::Pass) = function {
-            let args = self.arguments(world, active, stack, indexed, items)?;
-            return Ok(self.pass(world, active, stack, args)?);
-        }
-        let mut values = Gathered::begun(self.alloc(), self.take_spare_values());
+        let mut values = Gathered::begun(self.alloc(), self.spare.take_values());
         self.evaluate_items(world, active, stack, indexed, items, &mut values)?;
         let Some(caller) = verb_caller(function) else {
             let outcome = self.call_function(world, active, stack, function, &mut values);
-            self.keep_values(values);
+            self.spare.keep_values(values.into_room());
             return outcome;
         };
         self.call_caller(world, active, stack, caller, values)

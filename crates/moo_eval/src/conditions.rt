@@ -307,7 +307,8 @@ fn simple_test(
             take(left)?;
             Some(is_true(active.variables.get(name)?))
         }
-        _ => place_test(world, active, left, test),
+        Node::Property(..) | Node::Index(..) => place_test(world, active, left, test),
+        _ => None,
     }
 }
 

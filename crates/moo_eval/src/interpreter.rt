@@ -1,6 +1,7 @@
 //! Evaluates expressions.
 ghost use Rattle.std.specs.Prelude.{◌≡◌, ◌-◌, ◌<◌, ◌≤◌, ℕ, List, [], ◌++◌, None, Ok, Err, IfOk, IfErr, IfSome, IfNone, OnOk, OnErr};
 ghost use Rattle.moo_syntax_lower.specs.Source.{source, source_items};
+ghost use Rattle.moo_value.specs.Tree.{Tree};
 ghost use Rattle.moo_value.specs.View.{tree as tree_of};
 ghost use Rattle.moo_eval_frame.specs.Outcome.{fails, out_of_ticks, settled};
 ghost use Rattle.moo_eval_frame.specs.State.{Context};
@@ -16,11 +17,12 @@ ghost use Rattle.moo_eval_call.specs.Turns.{stage_turns, progress_turns};
 ghost use Rattle.moo_eval.specs.Seen.{state_of};
 
 use crate::simple::{part_value, simple_value};
+use crate::spare::SpareMemory;
 use moo_eval_call::{Progress, Stage, Ticks, call_function, resume_call};
-use moo_eval_frame::{Activation, CallStack, Failure, Gathered, Notice, SlotRoom, Stop, settle};
+use moo_eval_frame::{Activation, CallStack, Failure, Gathered, Notice, Stop, settle};
 use moo_syntax_function::Function;
 use moo_syntax_lower::{Node, NodeItem};
-use moo_value::{ErrorCode, MooList, Value};
+use moo_value::{ErrorCode, Value};
 use moo_world::World;
 use std::alloc::{AllocError, Global};
 
@@ -29,12 +31,7 @@ use std::alloc::{AllocError, Global};
 pub struct Task {
     pub(crate) ticks_left: Ticks,
     notices: Vec<Notice>,
-    /// Memory of calls that have ended, for the next ones.
-    pub(crate) rooms: Vec<SlotRoom>,
-    /// Lists without elements, for the arguments of the next calls.
-    pub(crate) spare_lists: Vec<MooList>,
-    /// Memory for the arguments of the next calls of functions.
-    pub(crate) spare_values: Vec<Vec<Value>>,
+    pub(crate) spare: SpareMemory,
     alloc: Global,
 }
 
@@ -47,9 +44,7 @@ impl Task {
         Task {
             ticks_left: Ticks::full(),
             notices: Vec::new(alloc),
-            rooms: Vec::new(alloc),
-            spare_lists: Vec::new(alloc),
-            spare_values: Vec::new(alloc),
+            spare: SpareMemory::new(alloc),
             alloc,
         }
     }
@@ -152,7 +147,7 @@ impl Task {
         ensures ticks { self.new.ticks_left ≤ self.old.ticks_left }
     {
         let mut left = self.ticks_left.left() as u32;
-        let value = simple_value(world, active, &mut left, node)?;
+        let value = simple_value(self.alloc, world, active, &mut left, node)?;
         self.ticks_left.leave(left);
         Some(value)
     }
@@ -170,7 +165,7 @@ impl Task {
         ensures ticks { self.new.ticks_left ≤ self.old.ticks_left }
     {
         let mut left = self.ticks_left.left() as u32;
-        let value = part_value(world, active, &mut left, node)?;
+        let value = part_value(self.alloc, world, active, &mut left, node)?;
         self.ticks_left.leave(left);
         Some(value)
     }
@@ -348,6 +343,8 @@ impl Task {
         items: &[NodeItem],
         values: &mut Gathered,
     ) -> Result<(), Failure>
+        ensures ok { OnOk result ((vs : List Tree) × EvaluatesAll Faults (context_of stack.now indexed.entry) (source_items items.now) (state_of self.old world.old active.old) (Ok vs) (state_of self.new world.new active.new) × (values.new ≡ values.old ++ vs)) }
+        ensures err { IfErr result (λ failure. HadMemoryIn failure → EvaluatesAll Faults (context_of stack.now indexed.entry) (source_items items.now) (state_of self.old world.old active.old) (Err (failure_of failure)) (state_of self.new world.new active.new)) }
         ensures ticks { self.new.ticks_left ≤ self.old.ticks_left }
     {
         for item in items {

@@ -2,7 +2,7 @@
 ghost use Rattle.std.specs.Prelude.{◌≡◌, ◌≤◌, None, Ok, Err, IsTrue, IsFalse, IfErr, OnOk};
 ghost use Rattle.moo_syntax_ast.specs.Tree.{variable, assign, call, performs, list, splice, element, no_items};
 ghost use Rattle.moo_syntax_lower.specs.Source.{source, source_items};
-ghost use Rattle.moo_eval_frame.specs.Held.{IsHeld};
+ghost use Rattle.moo_eval_frame.specs.Held.{IsSlot};
 ghost use Rattle.moo_eval_frame.specs.State.{Context};
 ghost use Rattle.moo_eval_frame.specs.Outcome.{next};
 ghost use Rattle.moo_eval_frame.specs.Seen.{context_of, failure_of, seen_flow, HadMemoryIn, IsKnown};
@@ -15,12 +15,13 @@ use crate::interpreter::Task;
 use crate::simple::simple_value;
 use moo_eval_access::set_longer;
 use moo_eval_frame::{Activation, CallStack, Failure, Flow, Stop};
-use moo_eval_integer::take_three;
+use moo_eval_integer::take_many;
 use moo_syntax_ast::Name;
 use moo_syntax_function::Function;
 use moo_syntax_lower::{FunctionName, Node, NodeItem};
 use moo_value::{ErrorCode, Value};
 use moo_world::World;
+use std::alloc::Global;
 
 impl Task {
     /// Appends a value that is simple to the list of a variable in place, and returns whether it did. If not, nothing has
@@ -41,7 +42,7 @@ impl Task {
             return false;
         };
         let mut left = self.ticks_left.left() as u32;
-        let Some(last) = last_value(world, active, &mut left, slot, last) else {
+        let Some(last) = last_value(self.alloc(), world, active, &mut left, slot, last) else {
             return false;
         };
         if !active.variables.push_standing(slot, last) {
@@ -128,20 +129,21 @@ impl Task {
 // the ticks of the assignment, of the list and of its items.
 #[inline(always)]
 fn last_value(
+    alloc: Global,
     world: &World,
     active: &Activation,
     left: &mut u32,
     slot: usize,
     last: &Node,
 ) -> Option<Value>
-    requires { IsHeld active.now.variables.own slot }
+    requires { IsSlot active.now.variables.own slot }
     ensures ticks { left.new ≤ left.old }
 {
-    let Value::List(_) = active.variables.standing_value(slot) else {
+    let Some(Value::List(_)) = active.variables.standing_value(slot) else {
         return None;
     };
-    take_three(left)?;
-    simple_value(world, active, left, last)
+    take_many(left, 3)?;
+    simple_value(alloc, world, active, left, last)
 }
 
 // Returns the value that a call appends to this variable, if it is a call of `listappend` that does so.

@@ -9,6 +9,7 @@ mod conditions;
 mod deciding;
 mod element;
 mod extension;
+mod functions;
 mod hooks;
 mod interpreter;
 pub mod laws;

@@ -12,10 +12,9 @@ ghost use Rattle.moo_eval_semantics.specs.Meaning.{Evaluates, Computes};
 ghost use Rattle.moo_eval.specs.Seen.{state_of};
 
 use crate::interpreter::Task;
-use crate::place::{is_place, place_integer, place_value, text_of};
+use crate::place::{is_place, place_integer, place_value};
 use crate::simple::made_value;
 use moo_builtin_operator as operation;
-use moo_builtin_operator::before_place;
 use moo_eval_access::binary;
 use moo_eval_frame::{Activation, CallStack, Failure, Gathered, Stop};
 use moo_eval_integer::take;
@@ -189,50 +188,6 @@ impl Task {
         ensures meaning { IsKnown result → Evaluates Faults (context_of stack.now indexed.entry) (index (source base.now) (source place.now)) (state_of self.old world.old active.old) (seen_value result) (state_of self.new world.new active.new) }
         ensures ticks { self.new.ticks_left ≤ self.old.ticks_left }
     {
-        if let Some(letter) = self.try_letter(world, active, base, place) {
-            return Ok(letter);
-        }
-        self.index_node(world, active, stack, indexed, base, place)
-    }
-
-    // Returns a letter of the string of a variable or of a property, and takes the ticks. `None` if the place isn't computed
-    // from integers alone, or for another base; then nothing has changed.
-    #[inline(always)]
-    fn try_letter(
-        &mut self,
-        world: &World,
-        active: &Activation,
-        base: &Node,
-        place: &Node,
-    ) -> Option<Value>
-        ensures some { IfSome result (λ v. (c : Context) → Evaluates Faults c (index (source base.now) (source place.now)) (state_of self.old world.now active.now) (Ok (tree v)) (state_of self.new world.now active.now)) }
-        ensures none { IfNone result (self.new ≡ self.old) }
-        ensures ticks { self.new.ticks_left ≤ self.old.ticks_left }
-    {
-        let mut left = self.ticks_left.left() as u32;
-        take(&mut left)?;
-        let text = text_of(world, active, &mut left, base)?;
-        let place = place_integer(active, &mut left, place, text.len())?;
-        let before = before_place(place, text.len())?;
-        let letter = text.part(self.alloc(), before, before + 1).ok()?;
-        self.ticks_left.leave(left);
-        Some(Value::Str(letter))
-    }
-
-    #[cycle(evaluation)]
-    #[inline(never)]
-    fn index_node(
-        &mut self,
-        world: &mut World,
-        active: &mut Activation,
-        stack: &CallStack<'_>,
-        indexed: Option<&Value>,
-        base: &Node,
-        place: &Node,
-    ) -> Result<Value, Stop>
-        ensures meaning { IsKnown result → Evaluates Faults (context_of stack.now indexed.entry) (index (source base.now) (source place.now)) (state_of self.old world.old active.old) (seen_value result) (state_of self.new world.new active.new) }
-        ensures ticks { self.new.ticks_left ≤ self.old.ticks_left }
-    {
         self.take_tick(active, stack)?;
         match self.compute_index(world, active, stack, indexed, base, place) {
             Ok(value) => Ok(value),
@@ -262,6 +217,48 @@ impl Task {
     #[cycle(evaluation)]
     #[inline(never)]
     pub(crate) fn range(
+        &mut self,
+        world: &mut World,
+        active: &mut Activation,
+        stack: &CallStack<'_>,
+        indexed: Option<&Value>,
+        base: &Node,
+        low: &Node,
+        high: &Node,
+    ) -> Result<Value, Stop>
+        ensures meaning { IsKnown result → Evaluates Faults (context_of stack.now indexed.entry) (range (source base.now) (source low.now) (source high.now)) (state_of self.old world.old active.old) (seen_value result) (state_of self.new world.new active.new) }
+        ensures ticks { self.new.ticks_left ≤ self.old.ticks_left }
+    {
+        if let Some(value) = self.try_range(world, active, base, low, high) {
+            return Ok(value);
+        }
+        self.range_node(world, active, stack, indexed, base, low, high)
+    }
+
+    // Returns the part of what a variable, a property or an element holds, and takes the ticks. `None` if a place isn't
+    // computed from integers alone, or if there is no such part; then nothing has changed.
+    #[inline(always)]
+    fn try_range(
+        &mut self,
+        world: &World,
+        active: &Activation,
+        base: &Node,
+        low: &Node,
+        high: &Node,
+    ) -> Option<Value>
+        ensures some { IfSome result (λ v. (c : Context) → Evaluates Faults c (range (source base.now) (source low.now) (source high.now)) (state_of self.old world.now active.now) (Ok (tree v)) (state_of self.new world.now active.now)) }
+        ensures none { IfNone result (self.new ≡ self.old) }
+        ensures ticks { self.new.ticks_left ≤ self.old.ticks_left }
+    {
+        let mut left = self.ticks_left.left() as u32;
+        let value = simple_range(self.alloc(), world, active, &mut left, base, low, high)?;
+        self.ticks_left.leave(left);
+        Some(value)
+    }
+
+    #[cycle(evaluation)]
+    #[inline(never)]
+    fn range_node(
         &mut self,
         world: &mut World,
         active: &mut Activation,
@@ -359,6 +356,37 @@ fn operated(
     }
     let b = made_value(active, left, b)?;
     binary(alloc, operator, a, &b).ok()
+}
+
+// Returns the part of what a place holds, likewise.
+#[inline(always)]
+fn simple_range(
+    alloc: Global,
+    world: &World,
+    active: &Activation,
+    left: &mut u32,
+    base: &Node,
+    low: &Node,
+    high: &Node,
+) -> Option<Value>
+    ensures ticks { left.new ≤ left.old }
+{
+    take(left)?;
+    let base = place_value(world, active, left, base)?;
+    let length = length_in(base)?;
+    let low = place_integer(active, left, low, length)?;
+    let high = place_integer(active, left, high, length)?;
+    operation::range(alloc, base, &Value::Int(low), &Value::Int(high)).ok()
+}
+
+// Returns the length of a string or of a list.
+#[inline(always)]
+fn length_in(value: &Value) -> Option<usize> {
+    match value {
+        Value::Str(string) => Some(string.len()),
+        Value::List(list) => Some(list.len()),
+        _ => None,
+    }
 }
 
 // Returns the list of values. Not inlined, so that nested lists need no stack space for it.

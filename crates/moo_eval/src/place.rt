@@ -6,12 +6,15 @@ ghost use Rattle.moo_value.specs.View.{tree};
 ghost use Rattle.moo_syntax_ast.specs.declared.tree.Literal.TheVariants.{Str};
 ghost use Rattle.moo_syntax_ast.specs.Tree.{literal, variable, property, index};
 ghost use Rattle.moo_syntax_lower.specs.Source.{source};
+ghost use Rattle.moo_world_table.specs.World.{World as WorldModel};
 ghost use Rattle.moo_eval.specs.Simple.{GivesValue};
 
 use crate::property::as_text;
 use moo_builtin_operator::before_place;
+use moo_eval_access::number_of;
 use moo_eval_frame::Activation;
 use moo_eval_integer::{flat_integer, take};
+use moo_syntax_ast::operator::BinaryOperator;
 use moo_syntax_ast::{Name, Text};
 use moo_syntax_lower::Node;
 use moo_value::{MooList, MooStr, Value};
@@ -46,17 +49,23 @@ pub(crate) fn place_value<'a>(
     }
 }
 
+/// Returns the value of a variable, likewise.
 #[inline(always)]
-fn variable_value<'a>(active: &'a Activation, left: &mut u32, name: &Name) -> Option<&'a Value>
+pub(crate) fn variable_value<'a>(
+    active: &'a Activation,
+    left: &mut u32,
+    name: &Name,
+) -> Option<&'a Value>
+    ensures value { IfSome result (λ v. (world : WorldModel) → GivesValue world active.now left.old (variable name.now) (tree v.now) left.new) }
     ensures ticks { left.new ≤ left.old }
 {
     take(left)?;
     active.variables.get(name)
 }
 
-// Returns the value of a property whose name is a literal, likewise.
+/// Returns the value of a property whose name is a literal, likewise.
 #[inline(never)]
-fn property_value<'a>(
+pub(crate) fn property_value<'a>(
     world: &'a World,
     active: &'a Activation,
     left: &mut u32,
@@ -135,9 +144,9 @@ fn object_in(value: Option<&Value>) -> Option<i32> {
     }
 }
 
-// Returns the value of an element of the list of a place, likewise.
+/// Returns the value of an element of the list of a place, likewise.
 #[inline(never)]
-fn element_value<'a>(
+pub(crate) fn element_value<'a>(
     world: &'a World,
     active: &'a Activation,
     left: &mut u32,
@@ -246,9 +255,33 @@ pub(crate) fn place_integer(
 ) -> Option<i32>
     ensures ticks { left.new ≤ left.old }
 {
-    if let Node::Length = place {
-        take(left)?;
-        return Some(length as i32);
+    match place {
+        Node::Length => {
+            take(left)?;
+            Some(length as i32)
+        }
+        Node::Binary(operator, a, b) => counted_back(active, left, *operator, a, b, length),
+        _ => flat_integer(active, left, place),
     }
-    flat_integer(active, left, place)
+}
+
+// Returns the integer of an operator whose first operand is `$`, likewise.
+#[inline(never)]
+fn counted_back(
+    active: &Activation,
+    left: &mut u32,
+    operator: BinaryOperator,
+    a: &Node,
+    b: &Node,
+    length: usize,
+) -> Option<i32>
+    ensures ticks { left.new ≤ left.old }
+{
+    let Node::Length = a else {
+        return None;
+    };
+    take(left)?;
+    take(left)?;
+    let b = flat_integer(active, left, b)?;
+    number_of(operator, length as i32, b)
 }

@@ -1,17 +1,19 @@
 //! Runs statements.
-ghost use Rattle.std.specs.Prelude.{◌≡◌, ◌≢◌, ◌≤◌, ◌<◌, None, Result, Err, IfOk, IfErr, OnOk};
+ghost use Rattle.std.specs.Prelude.{◌≡◌, ◌≢◌, ◌≤◌, ◌<◌, None, Result, Ok, Err, IsTrue, IsFalse, IfOk, IfErr, OnOk};
 ghost use Rattle.moo_syntax_ast.specs.Tree.{assign, performs, returns, branches, no_statement};
 ghost use Rattle.moo_syntax_lower.specs.Source.{source};
 ghost use Rattle.moo_syntax_lower.specs.Blocks.{source_statement, source_block, source_arm_list};
 ghost use Rattle.moo_eval_semantics.specs.Meaning.{Runs, Does, RunsAll, Selects};
 ghost use Rattle.moo_eval_access.specs.State.{State};
-ghost use Rattle.moo_eval_frame.specs.Outcome.{broken, continued, Flow as Flowing, Stop as Stopped};
+ghost use Rattle.moo_eval_frame.specs.State.{Context};
+ghost use Rattle.moo_eval_frame.specs.Outcome.{broken, continued, next, Flow as Flowing, Stop as Stopped};
 ghost use Rattle.moo_eval_frame.specs.declared.outcome.Stop.TheVariants.{Memory};
 ghost use Rattle.moo_eval_frame.specs.Seen.{context_of, flow_of, seen_flow, stop_of, HadMemory, IsKnown};
 ghost use Rattle.moo_builtin.specs.Telling.{Faults};
 ghost use Rattle.moo_eval.specs.Seen.{state_of};
 
 use crate::interpreter::Task;
+use crate::simple::{is_leaf, may_be_simple};
 use moo_eval_frame::{Activation, CallStack, Flow, Stop, copied_name};
 use moo_syntax_lower::{Node, NodeArm, NodeStmt};
 use moo_value::{MooStr, Value};
@@ -33,7 +35,38 @@ impl Task {
         ensures fewer { OnOk result (self.new.ticks_left < self.old.ticks_left) }
     {
         self.take_tick(active, stack)?;
+        if self.try_perform(world, active, statement) {
+            return Ok(Flow::Next);
+        }
         self.perform(world, active, stack, statement)
+    }
+
+    // Runs a statement that sets a variable, after its tick, if the value is simple, and returns whether it did. If not,
+    // nothing has changed. No result in memory is made.
+    #[inline(always)]
+    fn try_perform(&mut self, world: &World, active: &mut Activation, statement: &NodeStmt) -> bool
+        ensures done { IsTrue result → (c : Context) → Does Faults c (source_statement statement.now) (state_of self.old world.now active.old) (Ok next) (state_of self.new world.now active.new) }
+        ensures kept { IsFalse result → (self.new ≡ self.old) × (active.new ≡ active.old) }
+        ensures ticks { self.new.ticks_left ≤ self.old.ticks_left }
+    {
+        match statement {
+            NodeStmt::Set(name, value) => {
+                may_be_simple(value) && self.try_set(world, active, name, value)
+            }
+            NodeStmt::Lengthen(name, last) => {
+                may_be_simple(last) && self.try_lengthen(world, active, name, last)
+            }
+            NodeStmt::Extend(name, last) if is_leaf(last) => {
+                self.try_extend_leaf(world, active, name, last)
+            }
+            NodeStmt::Extend(name, last) => {
+                may_be_simple(last) && self.try_extend(world, active, name, last)
+            }
+            NodeStmt::Put(name, place, value) => {
+                may_be_simple(value) && self.try_put(world, active, name, place, value)
+            }
+            _ => false,
+        }
     }
 
     #[cycle(evaluation)]
@@ -52,28 +85,10 @@ impl Task {
             NodeStmt::Return(Some(value)) => self.give(world, active, stack, value),
             NodeStmt::Return(None) => Ok(Flow::Return(Value::Int(0))),
             NodeStmt::Expression(node) => self.evaluate_alone(world, active, stack, node),
-            NodeStmt::Set(name, value) => {
-                if self.try_set(world, active, name, value) {
-                    return Ok(Flow::Next);
-                }
-                self.assign_alone(world, active, stack, name, value)
-            }
-            NodeStmt::Lengthen(name, last) => {
-                if self.try_lengthen(world, active, name, last) {
-                    return Ok(Flow::Next);
-                }
-                self.lengthen(world, active, stack, name, last)
-            }
-            NodeStmt::Extend(name, last) => {
-                if self.try_extend(world, active, name, last) {
-                    return Ok(Flow::Next);
-                }
-                self.extend(world, active, stack, name, last)
-            }
+            NodeStmt::Set(name, value) => self.assign_alone(world, active, stack, name, value),
+            NodeStmt::Lengthen(name, last) => self.lengthen(world, active, stack, name, last),
+            NodeStmt::Extend(name, last) => self.extend(world, active, stack, name, last),
             NodeStmt::Put(name, place, value) => {
-                if self.try_put(world, active, name, place, value) {
-                    return Ok(Flow::Next);
-                }
                 self.set_place(world, active, stack, name, place, value)
             }
             NodeStmt::ScatterNames(names, value) => {
@@ -158,6 +173,12 @@ impl Task {
         match target {
             Node::Property(base, name) => {
                 self.assign_property_alone(world, active, stack, base, name, value)
+            }
+            Node::Index(base, place) => {
+                if self.try_put_inner(active, base, place, value) {
+                    return Ok(Flow::Next);
+                }
+                self.assign_other_alone(world, active, stack, target, value)
             }
             _ => self.assign_other_alone(world, active, stack, target, value),
         }

@@ -1,12 +1,14 @@
 //! Runs whole tasks: 'MOO Tasks' of the LambdaMOO Programmer's Manual, 'Tracebacks' and 'Limits' of
 //! docs/reference/language.md.
 ghost use Rattle.std.specs.Prelude.{◌≡◌};
-ghost use Rattle.moo_eval_frame.specs.Seen.{seen_flow, IsKnown};
+ghost use Rattle.moo_eval_frame.specs.Seen.{seen_flow, IsKnown, slot_value};
 ghost use Rattle.moo_eval_frame.specs.Variables.{first_bindings, value_of_name};
-ghost use Rattle.moo_eval_frame.specs.Seen.{surroundings_of, variables_of};
+ghost use Rattle.moo_eval_frame.specs.Seen.{surroundings_of};
 ghost use Rattle.moo_builtin.specs.Telling.{Faults};
 ghost use Rattle.moo_eval_semantics.specs.Task.{TaskEnds, end_of};
 ghost use Rattle.moo_eval.specs.Ends.{IfEnded, LeavesNotices, IsBegunBy};
+ghost use Rattle.moo_syntax_ast.specs.Given.{given_names};
+ghost use Rattle.moo_eval_frame.specs.GivenValues.{given_values};
 
 use crate::interpreter::Task;
 use moo_eval_frame::{

@@ -1,16 +1,24 @@
 //! Evaluates calls of verbs.
-ghost use Rattle.std.specs.Prelude.{◌≡◌, ◌≢◌, ◌≤◌, ◌<◌, ◌∷◌, ℕ, List, [], Option, Some, OnOk, is_ok, IsTrue};
+ghost use Rattle.std.specs.Prelude.{◌≡◌, ◌≢◌, ◌≤◌, ◌<◌, ◌∷◌, ℕ, List, Option, Some, Ok, IfSome, IfNone, OnOk, is_ok, IsTrue};
 ghost use Rattle.std.specs.Borrow.{Bor};
 ghost use Rattle.moo_value.specs.declared.value.Value.{Value as ValueModel};
+ghost use Rattle.moo_value.specs.Tree.{object, string, list_of};
 ghost use Rattle.moo_value.specs.View.{tree as tree_of};
 ghost use Rattle.moo_syntax_ast.specs.Tree.{Expr, Items, no_statement, verb_call, call};
+ghost use Rattle.moo_syntax_function.specs.Names.{function_of};
 ghost use Rattle.moo_syntax_lower.specs.Source.{source, source_items};
+ghost use Rattle.moo_builtin_operator.specs.Places.{made_list};
+ghost use Rattle.moo_world_table.specs.World.{World as WorldModel};
 ghost use Rattle.moo_eval_frame.specs.declared.frame.Activation.{Activation};
+ghost use Rattle.moo_eval_frame.specs.Outcome.{passes};
+ghost use Rattle.moo_eval_frame.specs.State.{Context};
+ghost use Rattle.moo_eval_access.specs.State.{State};
 ghost use Rattle.moo_eval_access.specs.SeenCalled.{entered_of};
 ghost use Rattle.moo_eval_call.specs.VerbCalls.{caller_of};
 ghost use Rattle.moo_eval.specs.Hooks.{RunsCalled};
-ghost use Rattle.moo_eval_semantics.specs.Meaning.{Applies};
-ghost use Rattle.moo_eval_frame.specs.Seen.{context_of, seen_flow, seen_value, IsKnown};
+ghost use Rattle.moo_eval.specs.Arguments.{Settles, SettlesCall};
+ghost use Rattle.moo_eval_semantics.specs.Meaning.{Evaluates};
+ghost use Rattle.moo_eval_frame.specs.Seen.{context_of, indexed_of, seen_flow, seen_value, IsKnown};
 ghost use Rattle.moo_eval_semantics.specs.Operands.{answered};
 ghost use Rattle.moo_builtin.specs.Telling.{Faults};
 ghost use Rattle.moo_eval.specs.Seen.{state_of};
@@ -60,21 +68,42 @@ impl Task {
         ensures meaning { IsKnown result → Settles Faults (context_of stack.now indexed.entry) (verb_call (source base.now) (source name.now) (source_items items.now)) (state_of self.old world.old active.old) (seen_value result) (state_of self.new world.new active.new) }
         ensures ticks { self.new.ticks_left ≤ self.old.ticks_left }
     {
-        let base = match self.try_object(active, base) {
-            Some(object) => Value::Obj(object),
-            None => self.evaluate(world, active, stack, indexed, base)?,
+        let Some(this) = self.try_object(active, base) else {
+            return self.call_on_value(world, active, stack, indexed, base, name, items);
         };
         let Node::Str(text) = name else {
+            let base = Value::Obj(this);
             return self.call_computed(world, active, stack, indexed, &base, name, items);
         };
         self.take_tick(active, stack)?;
         match self.arguments(world, active, stack, indexed, items) {
-            Ok(args) => self.call_verb(world, active, stack, &base, &VerbName::of(text), args),
+            Ok(args) => self.call_verb(world, active, stack, this, &VerbName::of(text), args),
             Err(failure) => self.settled(active, stack, failure),
         }
     }
 
-    // Calls a verb by a name that is computed. Not inlined, so that other calls need no stack space for it.
+    // Calls a verb on what an expression gives that is no object at once. Not inlined, so that other calls need no stack
+    // space for it.
+    #[cycle(evaluation)]
+    #[inline(never)]
+    fn call_on_value(
+        &mut self,
+        world: &mut World,
+        active: &mut Activation,
+        stack: &CallStack<'_>,
+        indexed: Option<&Value>,
+        base: &Node,
+        name: &Node,
+        items: &[NodeItem],
+    ) -> Result<Value, Stop>
+        ensures meaning { IsKnown result → Settles Faults (context_of stack.now indexed.entry) (verb_call (source base.now) (source name.now) (source_items items.now)) (state_of self.old world.old active.old) (seen_value result) (state_of self.new world.new active.new) }
+        ensures ticks { self.new.ticks_left ≤ self.old.ticks_left }
+    {
+        let base = self.evaluate(world, active, stack, indexed, base)?;
+        self.call_computed(world, active, stack, indexed, &base, name, items)
+    }
+
+    // Calls a verb on a value, by a name that is evaluated. Not inlined, so that other calls need no stack space for it.
     #[cycle(evaluation)]
     #[inline(never)]
     fn call_computed(
@@ -97,7 +126,7 @@ impl Task {
         }
     }
 
-    // Calls a verb by a value: E_TYPE if it is no string.
+    // Calls a verb of a value by a value: E_TYPE unless they are an object and a string.
     #[cycle(evaluation)]
     #[inline(always)]
     fn call_by(
@@ -109,11 +138,12 @@ impl Task {
         name: &Value,
         args: MooList,
     ) -> Result<Value, Stop>
+        ensures meaning { (indexed : Option (Bor ValueModel)) (a b : Expr) (items : Items) → made_list args ≡ Ok (list_of args) → IsKnown result → SettlesCall Faults (context_of stack.now indexed) (verb_call a b items) (tree_of base.now ∷ tree_of name.now ∷ args) (state_of self.old world.old active.now) (seen_value result) (state_of self.new world.new active.now) }
         ensures ticks { self.new.ticks_left ≤ self.old.ticks_left }
     {
-        match name {
-            Value::Str(name) => {
-                self.call_verb(world, active, stack, base, &VerbName::new(name), args)
+        match (base, name) {
+            (Value::Obj(this), Value::Str(name)) => {
+                self.call_verb(world, active, stack, *this, &VerbName::new(name), args)
             }
             _ => self.settled(active, stack, Failure::Fails(ErrorCode::TypeMismatch)),
         }
@@ -148,15 +178,36 @@ impl Task {
         world: &mut World,
         active: &Activation,
         stack: &CallStack<'_>,
-        base: &Value,
+        this: i32,
         name: &VerbName<'_>,
         args: MooList,
     ) -> Result<Value, Stop>
-        ensures meaning { (indexed : Option (Bor ValueModel)) (a b : Expr) (items : Items) → made_list args ≡ Ok (list_of args) → IsKnown result → Applies Faults (context_of stack.now indexed) (verb_call a b items) (tree_of base.now ∷ string name.now ∷ args) [] (state_of self.old world.old active.now) (seen_value result) (state_of self.new world.new active.now) }
+        ensures meaning { (indexed : Option (Bor ValueModel)) (a b : Expr) (items : Items) → made_list args ≡ Ok (list_of args) → IsKnown result → SettlesCall Faults (context_of stack.now indexed) (verb_call a b items) (object this ∷ string name.now ∷ args) (state_of self.old world.old active.now) (seen_value result) (state_of self.new world.new active.now) }
         ensures ticks { self.new.ticks_left ≤ self.old.ticks_left }
     {
-        match enter_verb(self.alloc(), world, stack, active, base, name, args) {
+        match enter_verb(self.alloc(), world, stack, active, this, name, args) {
             Ok(called) => self.run_called(world, called),
+            Err(failure) => self.settled(active, stack, failure),
+        }
+    }
+
+    /// Evaluates a call of `pass`, which takes a tick as it begins.
+    #[cycle(evaluation)]
+    #[inline(never)]
+    pub(crate) fn evaluate_pass(
+        &mut self,
+        world: &mut World,
+        active: &mut Activation,
+        stack: &CallStack<'_>,
+        indexed: Option<&Value>,
+        items: &[NodeItem],
+    ) -> Result<Value, Stop>
+        ensures meaning { (name : List ℕ) → function_of name ≡ Some Function.Pass → IsKnown result → Evaluates Faults (context_of stack.now indexed.entry) (call name (source_items items.now)) (state_of self.old world.old active.old) (seen_value result) (state_of self.new world.new active.new) }
+        ensures ticks { self.new.ticks_left ≤ self.old.ticks_left }
+    {
+        self.take_tick(active, stack)?;
+        match self.arguments(world, active, stack, indexed, items) {
+            Ok(args) => self.pass(world, active, stack, args),
             Err(failure) => self.settled(active, stack, failure),
         }
     }
@@ -165,14 +216,14 @@ impl Task {
     // of calls need no stack space for it.
     #[cycle(evaluation)]
     #[inline(never)]
-    pub(crate) fn pass(
+    fn pass(
         &mut self,
         world: &mut World,
         active: &Activation,
         stack: &CallStack<'_>,
         args: MooList,
     ) -> Result<Value, Stop>
-        ensures meaning { (indexed : Option (Bor ValueModel)) (name : List ℕ) (items : Items) → caller_of name ≡ Some Function.Pass → made_list args ≡ Ok (list_of args) → IsKnown result → Applies Faults (context_of stack.now indexed) (call name items) args [] (state_of self.old world.old active.now) (seen_value result) (state_of self.new world.new active.now) }
+        ensures meaning { (indexed : Option (Bor ValueModel)) (name : List ℕ) (items : Items) → caller_of name ≡ Some Function.Pass → made_list args ≡ Ok (list_of args) → IsKnown result → SettlesCall Faults (context_of stack.now indexed) (call name items) args (state_of self.old world.old active.now) (seen_value result) (state_of self.new world.new active.now) }
         ensures ticks { self.new.ticks_left ≤ self.old.ticks_left }
     {
         match enter_passed(self.alloc(), world, stack, active, args) {
@@ -190,7 +241,7 @@ impl Task {
         world: &mut World,
         called: Called<'_>,
     ) -> Result<Value, Stop>
-        ensures meaning { (caller : Activation) → IsKnown result → RunsCalled Faults (entered_of called.entry) (state_of self.old world.old caller) (seen_value result) (state_of self.new world.new caller) }
+        ensures meaning { (caller : Activation) → IsKnown result → RunsCalled Faults (entered_of called.entry) (state_of self.old world.old caller) (passes (seen_value result)) (state_of self.new world.new caller) }
         ensures ticks { self.new.ticks_left ≤ self.old.ticks_left }
         ensures fewer { called.entry.stack.running.program ≢ no_statement → OnOk result (self.new.ticks_left < self.old.ticks_left) }
     {
@@ -198,14 +249,18 @@ impl Task {
             stack: callee,
             given,
         } = called;
-        let room = self.take_room();
+        let room = self.spare.take_room();
         let program = &callee.running.program;
         let mut running = Activation {
             variables: Variables::begun(self.alloc(), program, given, room)?,
             programmer: callee.running.programmer,
         };
         let outcome = self.run_all(world, &mut running, &callee, program.code());
-        self.keep_room(running);
+        let (room, list) = running.variables.into_room();
+        self.spare.keep_room(room);
+        if let Some(list) = list {
+            self.spare.keep_list(list);
+        }
         answered(outcome)
     }
 }
@@ -223,7 +278,7 @@ fn object_in(value: Option<&Value>) -> Option<i32>
 
 // Returns the value of a called verb: the one that it returns, or 0 if it comes to its end.
 fn answered(outcome: Result<Flow, Stop>) -> Result<Value, Stop>
-    ensures answer { answered (seen_flow outcome) ≡ seen_value result }
+    ensures answer { answered (seen_flow outcome) ≡ passes (seen_value result) }
     ensures known { IsKnown result → IsKnown outcome }
     ensures comes { OnOk result (IsTrue (is_ok outcome)) }
 {

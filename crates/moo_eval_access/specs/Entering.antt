@@ -1,5 +1,5 @@
 -- How a call enters a verb.
-use Rattle.std.specs.Prelude.{ℕ, suc, ℤ, List, [], ◌∷◌, codes, Option, None, Some, Result, Ok, Err, Bool, nat_lt, is_some, if◌then◌else◌}
+use Rattle.std.specs.Prelude.{ℕ, suc, ℤ, List, codes, Option, None, Some, Result, Ok, Err, Bool, nat_lt, is_some, if◌then◌else◌}
 use Rattle.std.specs.Option.{unwrap_or, option_map, option_and_then}
 use Rattle.moo_value.specs.declared.error_code.ErrorCode.{ErrorCode}
 use Rattle.moo_value.specs.declared.error_code.ErrorCode.TheVariants.{TypeMismatch, InvalidIndirection, VerbNotFound, MaximumRecursion}

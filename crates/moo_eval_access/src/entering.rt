@@ -1,26 +1,24 @@
 //! Enters the verbs of calls: 'Calling Built-in Functions and Other Verbs' of the LambdaMOO Programmer's Manual,
 //! 'Expressions' and 'Limits' of docs/reference/language.md.
-ghost use Rattle.std.specs.Prelude.{◌≡◌, if◌then◌else◌, is_some, ◌∷◌, [], None, Some, Ok, Err, codes, option_map, IfOk, IfErr, OnOk, IsTrue};
+ghost use Rattle.std.specs.Prelude.{◌≡◌, if◌then◌else◌, is_some, None, Ok, Err, option_map, IfOk, IfErr, OnOk, IsTrue};
 ghost use Rattle.std.specs.Option.{unwrap_or};
-ghost use Rattle.moo_value.specs.Tree.{Tree, object, string, list_of};
+ghost use Rattle.moo_value.specs.Tree.{object, string, list_of};
 ghost use Rattle.moo_value.specs.View.{tree, trees};
 ghost use Rattle.moo_value.specs.declared.error_code.ErrorCode.TheVariants.{InvalidIndirection, VerbNotFound};
 ghost use Rattle.moo_syntax_ast.specs.Tree.{no_statement};
 ghost use Rattle.moo_world.specs.Numbered.{object_numbered};
 ghost use Rattle.moo_builtin_operator.specs.Places.{made_list};
-ghost use Rattle.moo_eval_access.specs.Entering.{entered_verb, entered_from, entered_found, found_verb, verb_there, called_verb, has_frame_left, object_or, player_of_call, verb_frame, called_frame, called_variables, entered};
+ghost use Rattle.moo_eval_access.specs.Entering.{entered_found, found_verb, verb_there, called_verb, has_frame_left, player_of_call, verb_frame, called_frame, entered_by};
 ghost use Rattle.moo_eval_access.specs.SeenCalled.{entered_of, found_of};
-ghost use Rattle.moo_eval_access.specs.Sought.{IsSought};
 ghost use Rattle.moo_eval_frame.specs.Outcome.{answers};
 ghost use Rattle.moo_eval_frame.specs.Seen.{context_of, variables_of, failure_of, seen_by, IsKnownFailure, HadMemoryIn};
 
 use crate::verb_name::VerbName;
 use moo_eval_frame::{Activation, CallStack, Failure, Frame, GivenValues, Running, Stop};
-use moo_syntax_ast::NameKey;
 use moo_syntax_grammar::Program;
 use moo_value::{ErrorCode, ListLimit, MooList, MooStr, Value};
 use moo_world::{Rights, VerbAt, World};
-use moo_world_object::Verb;
+use moo_world_object::{Need, Verb};
 use std::alloc::{AllocError, Global};
 
 /// The largest number of frames of a task.
@@ -57,26 +55,23 @@ pub struct Call {
     pub args: MooList,
 }
 
-/// Enters the verb of a name that is called on a value, with its owner's rights. E_TYPE for a value that is no object;
-/// E_INVIND if the object isn't valid, E_VERBNF if it has no such executable verb, E_MAXREC if no frame is left.
-/// Inlined, so that the entered verb is built in the caller's frame.
+/// Enters the verb of a name that is called on an object, with its owner's rights: E_INVIND if the object isn't valid,
+/// E_VERBNF if it has no such executable verb, E_MAXREC if no frame is left. Inlined, so that the entered verb is built in
+/// the caller's frame.
 #[inline(always)]
 pub fn enter_verb<'a>(
     alloc: Global,
     world: &World,
     stack: &'a CallStack<'_>,
     active: &Activation,
-    base: &Value,
+    this: i32,
     name: &VerbName<'_>,
     args: MooList,
 ) -> Result<Called<'a>, Failure>
-    ensures { IsKnownFailure result → answers (entered_by world.now (context_of stack.now None) (variables_of active.now.variables) active.now.programmer (tree base.now) (string name.now) args) ≡ seen_by entered_of result }
+    ensures { IsKnownFailure result → answers (entered_by world.now (context_of stack.now None) (variables_of active.now.variables) active.now.programmer (object this) (string name.now) args) ≡ seen_by entered_of result }
 {
-    let Value::Obj(this) = base else {
-        return Err(Failure::Fails(ErrorCode::TypeMismatch));
-    };
-    let found = found_verb(world, *this, name)?;
-    enter_found(alloc, world, stack, active, *this, found, name.text(), args)
+    let found = found_verb(world, this, name)?;
+    enter_found(alloc, world, stack, active, this, found, name.text(), args)
 }
 
 /// Enters the verb of a name that is found from one object on, to run on another object, with its owner's rights.
@@ -180,8 +175,8 @@ fn nothing_found(world: &World, this: i32) -> ErrorCode
 pub fn called_verb<'a>(world: &'a World, object: i32, name: &[u8]) -> Option<Found<'a>>
     ensures { option_map found_of result ≡ called_verb world.now object name.now }
 {
-    let (definer, verb) = world.called_verb(object, &NameKey::new(name))?;
-    Some(Found { definer, verb })
+    let place = world.find_verb(object, name, Need::Call)?;
+    verb_there(world, place)
 }
 
 // Returns the executable verb that a call of this name on an object runs.

@@ -1,11 +1,10 @@
 -- What the functions that inspect the running task give, and what they change.
-use Rattle.std.specs.Prelude.{ℕ, ℤ, pos, negsuc, Bool, List, [], ◌∷◌, Result, Ok, Err, if◌then◌else◌}
+use Rattle.std.specs.Prelude.{ℕ, pos, Bool, List, [], ◌∷◌, Result, Ok, Err, if◌then◌else◌}
 use Rattle.moo_value.specs.declared.error_code.ErrorCode.TheVariants.{TypeMismatch, Permission}
 use Rattle.moo_value.specs.Tree.{Tree, integer, object, error}
 use Rattle.moo_world.specs.Rights.{controls}
 use Rattle.moo_builtin_value.specs.Calls.{Raised}
 use Rattle.moo_eval_frame.specs.declared.frame.TraceEntry.{TraceEntry}
-use Rattle.moo_eval_frame.specs.declared.frame.TraceEntry.TheVariants.{Verb, BuiltIn}
 use Rattle.moo_eval_frame.specs.Outcome.{raised, Failure, fails, stops}
 use Rattle.moo_eval_access.specs.State.{State}
 

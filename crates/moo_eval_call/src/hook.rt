@@ -1,12 +1,10 @@
 //! Verbs that a function calls.
-ghost use Rattle.std.specs.Prelude.{◌≡◌, ◌∷◌, [], IfOk, is_some};
-ghost use Rattle.moo_value.specs.Tree.{object};
-ghost use Rattle.moo_value.specs.View.{tree, trees};
+ghost use Rattle.std.specs.Prelude.{◌≡◌, IfOk, Ok};
 ghost use Rattle.moo_eval_frame.specs.Seen.{IsKnownFailure};
-ghost use Rattle.moo_eval_access.specs.Entering.{called_verb};
-ghost use Rattle.moo_eval_access.specs.SeenCalled.{entered_of};
-ghost use Rattle.moo_eval_call.specs.Progressing.{hook, through, is_missing, or_passed_over};
+ghost use Rattle.moo_eval_access.specs.SeenCalled.{entered_of, found_of};
+ghost use Rattle.moo_eval_call.specs.Progressing.{hook, through};
 ghost use Rattle.moo_eval_call.specs.SeenByHooks.{calling_of, seen_progress, arguments_of};
+ghost use Rattle.moo_eval_access.specs.Entering.{found_verb};
 
 use crate::progress::{Progress, Stage};
 use moo_eval_access::{Called, Found, called_verb, enter_found};

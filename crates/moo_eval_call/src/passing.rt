@@ -2,9 +2,11 @@
 //! docs/reference/language.md.
 ghost use Rattle.std.specs.Prelude.{◌≡◌};
 ghost use Rattle.moo_value.specs.View.{trees};
-ghost use Rattle.moo_eval_frame.specs.Seen.{IsKnownFailure};
-ghost use Rattle.moo_eval_call.specs.Passing.{passing};
+ghost use Rattle.moo_eval_frame.specs.Seen.{IsKnownFailure, seen_by};
+ghost use Rattle.moo_eval_call.specs.Passing.{passing, entered_passed};
 ghost use Rattle.moo_eval_call.specs.SeenByHooks.{calling_of, seen_progress};
+ghost use Rattle.moo_eval_frame.specs.Outcome.{answers};
+ghost use Rattle.moo_eval_access.specs.SeenCalled.{entered_of};
 
 use crate::objects::parent;
 use crate::progress::{Progress, Stage};

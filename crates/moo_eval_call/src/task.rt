@@ -5,7 +5,7 @@ ghost use Rattle.moo_eval_frame.specs.declared.notice.Notice.{Notice};
 ghost use Rattle.moo_eval_frame.specs.Handling.{frame_lists, listed};
 ghost use Rattle.moo_eval_frame.specs.Outcome.{answers};
 ghost use Rattle.moo_eval_frame.specs.Seen.{context_of, seen_answer, IsKnownFailure};
-ghost use Rattle.moo_eval_call.specs.Tasks.{nearest_programmer, set_task_perms};
+ghost use Rattle.moo_eval_call.specs.Tasks.{set_task_perms};
 ghost use Rattle.moo_eval_call.specs.Calls.{is_of_task, task_reply};
 ghost use Rattle.moo_eval_call.specs.Seen.{state_at};
 

@@ -1,5 +1,5 @@
 //! Begins calls of functions that call verbs.
-ghost use Rattle.std.specs.Prelude.{◌≡◌, ℕ, List, Err, IfOk, IfErr};
+ghost use Rattle.std.specs.Prelude.{◌≡◌, ℕ, List, Err, IfOk, IfErr, None};
 ghost use Rattle.moo_builtin_operator.specs.Places.{made_list};
 ghost use Rattle.moo_eval_frame.specs.Outcome.{answers};
 ghost use Rattle.moo_syntax_function.specs.declared.function.Function.TheVariants.{Pass};

@@ -2,6 +2,7 @@ pub mod Variables
 pub mod GivenValues
 pub mod Held
 pub mod Standing
+pub mod Inner
 pub mod Surroundings
 pub mod State
 pub mod Frames

@@ -1,5 +1,5 @@
 //! The values of the variables that every frame has.
-ghost use Rattle.std.specs.Prelude.{◌≡◌, Some, None, get_or, set, IsTrue, IsFalse, [], IfOk, OnOk, IfSome};
+ghost use Rattle.std.specs.Prelude.{◌≡◌, Some, None, get_or, set, [], IfOk, OnOk, IfSome};
 ghost use Rattle.moo_syntax_ast.specs.Given.{given_slot};
 ghost use Rattle.moo_eval_frame.specs.GivenValues.{given_values, values_with, types_of, types, command_of, command_in};
 ghost use Rattle.moo_eval_frame.specs.State.{running_of};

@@ -4,6 +4,7 @@ ghost use Rattle.moo_value.specs.Tree.{Tree, list_of};
 ghost use Rattle.moo_value.specs.Size.{IsString, IsWithinLimits};
 ghost use Rattle.moo_value.specs.View.{tree};
 ghost use Rattle.moo_value.specs.declared.value.Value.TheVariants.{List as ListOf, Str as StrOf};
+ghost use Rattle.moo_eval_frame.specs.Inner.{IsInnerPut};
 
 use moo_value::{MooStr, Value};
 
@@ -42,6 +43,24 @@ pub(crate) fn put_in(place: &mut Option<Value>, index: usize, value: Value) -> b
 {
     match place {
         Some(Value::List(list)) => list.put_in_place(index, value),
+        _ => false,
+    }
+}
+
+/// Replaces an integer at `inner` of the list at `index` of the list in a slot by another, and returns whether it did. Nothing
+/// else may share the two lists.
+#[inline(always)]
+pub(crate) fn put_inner_in(
+    place: &mut Option<Value>,
+    index: usize,
+    inner: usize,
+    number: i32,
+) -> bool
+    ensures put { IsTrue result → (ts us : List Tree) × (place.old ≡ Some (ListOf ts)) × IsInnerPut ts index inner number us × (place.new ≡ Some (ListOf us)) }
+    ensures kept { IsFalse result → place.new ≡ place.old }
+{
+    match place {
+        Some(Value::List(list)) => list.put_inner_integer(index, inner, number),
         _ => false,
     }
 }

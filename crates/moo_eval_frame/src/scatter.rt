@@ -1,12 +1,16 @@
 //! Scatters: how the values of a list are assigned to names.
-ghost use Rattle.std.specs.Prelude.{◌≡◌, ◌+◌, ◌||◌, ◌++◌, ◌∷◌, [], ◌≤◌, cond, Ok, Err, map, drop, length, IfOk, IfErr, OnOk, IfSome, IfNone};
-ghost use Rattle.moo_value.specs.View.{tree};
+ghost use Rattle.std.specs.Prelude.{◌≡◌, ◌+◌, ◌||◌, ◌++◌, ◌∷◌, [], ◌≤◌, cond, Ok, Err, map, drop, length, IfOk, IfErr, OnOk, IfSome, IfNone, List};
+ghost use Rattle.moo_value.specs.View.{tree, trees};
 ghost use Rattle.moo_syntax_ast.specs.Tree.{Items, element, splice, optional};
 ghost use Rattle.moo_syntax_lower.specs.Source.{source, source_items, with_source};
 ghost use Rattle.moo_eval_frame.specs.Variables.{with_all};
 ghost use Rattle.moo_eval_frame.specs.Scatter.{required, optionals, takes_rest, fits, dealt, binds, shares, lacking, given, missing};
-ghost use Rattle.moo_eval_frame.specs.Seen.{variables_of};
+ghost use Rattle.moo_eval_frame.specs.Seen.{variables_of, failure_of, HadMemoryIn};
 ghost use Rattle.moo_eval_frame.specs.SeenScatter.{left_out_of, left_out_by, share_of};
+ghost use Rattle.moo_value.specs.Tree.{Tree};
+ghost use Rattle.moo_value.specs.declared.error_code.ErrorCode.{ErrorCode as ErrorCodeModel};
+ghost use Rattle.moo_syntax_lower.specs.Blocks.{named_items};
+ghost use Rattle.moo_eval_frame.specs.Outcome.{fails};
 
 use crate::frame::Activation;
 use crate::outcome::Failure;
@@ -42,7 +46,7 @@ pub fn dealt<'a>(items: &[NodeItem], value: &'a Value) -> Result<&'a MooList, Er
 #[inline(always)]
 pub fn set_names(active: &mut Activation, names: &[Name], value: &Value) -> Result<(), Failure>
     ensures ok { OnOk result ((list : List Tree) × (dealt (named_items names.now) (tree value.now) ≡ Ok list) × (variables_of active.new.variables ≡ with_all (variables_of active.old.variables) (given (named_items names.now) list))) }
-    ensures err { IfErr result (λ failure. HadMemoryIn failure → (code : ErrorCode) × (dealt (named_items names.now) (tree value.now) ≡ Err code) × (failure_of failure ≡ fails code) × (active.new ≡ active.old)) }
+    ensures err { IfErr result (λ failure. HadMemoryIn failure → (code : ErrorCodeModel) × (dealt (named_items names.now) (tree value.now) ≡ Err code) × (failure_of failure ≡ fails code) × (active.new ≡ active.old)) }
     ensures programmer { OnOk result (active.new.programmer ≡ active.old.programmer) }
 {
     let Value::List(list) = value else {
@@ -60,7 +64,7 @@ pub fn set_names(active: &mut Activation, names: &[Name], value: &Value) -> Resu
 #[inline(always)]
 fn set_each(active: &mut Activation, names: &[Name], elements: &[Value]) -> Result<(), AllocError>
     requires { length names.now ≡ length elements.now }
-    ensures variables { OnOk result (variables_of active.new.variables ≡ with_all (variables_of active.old.variables) (bound_in_turn names.now (trees elements.now))) }
+    ensures variables { OnOk result (variables_of active.new.variables ≡ with_all (variables_of active.old.variables) (given (named_items names.now) (trees elements.now))) }
     ensures programmer { OnOk result (active.new.programmer ≡ active.old.programmer) }
 {
     for i in 0..names.len() {

@@ -1,6 +1,8 @@
 //! The values of variables that a called verb has from its caller: the names of types, and the parts of the command.
 ghost use Rattle.std.specs.Prelude.{◌≡◌, IsTrue, IsFalse, IfOk, OnOk};
 ghost use Rattle.moo_eval_frame.specs.GivenValues.{with_shared, types_of, types, command_of, command_in};
+ghost use Rattle.moo_value.specs.declared.value.Value.{Value as ValueModel};
+ghost use Rattle.moo_eval_frame.specs.declared.shared_values.SharedValues.{SharedValues as Shared};
 
 use crate::frame::Frame;
 use moo_syntax_ast::Given;
@@ -131,7 +133,7 @@ impl SharedValues {
 
 // Returns whether a variable is the name of a type.
 fn is_type(given: Given) -> bool
-    ensures { IsFalse result → (shared : SharedValues) (value : Value) → types_of (with_shared shared given value) ≡ types_of shared }
+    ensures { IsFalse result → (shared : Shared) (value : ValueModel) → types_of (with_shared shared given value) ≡ types_of shared }
 {
     matches!(
         given,

@@ -9,10 +9,11 @@ ghost use Rattle.moo_value.specs.declared.value.Value.TheVariants.{Int, List as 
 ghost use Rattle.moo_syntax_ast.specs.Given.{given_of};
 ghost use Rattle.moo_syntax_ast.specs.Slots.{slots};
 ghost use Rattle.moo_eval_frame.specs.Variables.{value_of_name};
-ghost use Rattle.moo_eval_frame.specs.Held.{with_held, IsHeld};
+ghost use Rattle.moo_eval_frame.specs.Held.{with_held, IsSlot};
+ghost use Rattle.moo_eval_frame.specs.Inner.{IsInnerPut};
 ghost use Rattle.moo_eval_frame.specs.Seen.{slot_value};
 
-use crate::growing::{extend_in, push_in, put_in};
+use crate::growing::{extend_in, push_in, put_in, put_inner_in};
 use crate::integers::{put_element_in, set_integer};
 use moo_syntax_ast::Name;
 use moo_syntax_grammar::Program;
@@ -110,6 +111,7 @@ impl<'p> Slots<'p> {
     #[inline(always)]
     pub(crate) fn known_slot(&self, name: &Name) -> Option<usize>
         ensures there { IfSome result (λ i. position (λ own. bytes_eq (folded own) (folded name.now)) self.now.names ≡ Some i) }
+        ensures within { IfSome result (λ i. IsSlot self.now i) }
         ensures own { IfSome result (λ _. given_of name.now ≡ None) }
     {
         let hint = name.hint();
@@ -119,21 +121,6 @@ impl<'p> Slots<'p> {
         let own = &self.names[hint];
         if own.is_known_as(name) {
             Some(hint)
-        } else {
-            None
-        }
-    }
-
-    /// Returns the hint at the slot of a name, likewise, if a value is set in it.
-    #[inline(always)]
-    pub(crate) fn held_slot(&self, name: &Name) -> Option<usize>
-        ensures there { IfSome result (λ i. position (λ own. bytes_eq (folded own) (folded name.now)) self.now.names ≡ Some i) }
-        ensures held { IfSome result (λ i. IsHeld self.now i) }
-        ensures own { IfSome result (λ _. given_of name.now ≡ None) }
-    {
-        let slot = self.known_slot(name)?;
-        if self.values[slot].is_some() {
-            Some(slot)
         } else {
             None
         }
@@ -150,7 +137,7 @@ impl<'p> Slots<'p> {
     /// Returns the value in a slot, if one is set.
     #[inline(always)]
     pub(crate) fn get(&self, slot: usize) -> Option<&Value>
-        requires { slot < length self.now.values }
+        requires { IsSlot self.now slot }
         ensures { option_map (λ v. tree v.now) result ≡ option_map (λ v. tree v) (get_or self.now.values slot None) }
     {
         match &self.values[slot] {
@@ -159,22 +146,10 @@ impl<'p> Slots<'p> {
         }
     }
 
-    /// Returns the value in a slot that is set.
-    #[inline(always)]
-    pub(crate) fn held(&self, slot: usize) -> &Value
-        requires { IsHeld self.now slot }
-        ensures { get_or self.now.values slot None ≡ Some result.now }
-    {
-        let Some(value) = &self.values[slot] else {
-            unreachable!()
-        };
-        value
-    }
-
     /// Sets a slot.
     #[inline(always)]
     pub(crate) fn set(&mut self, slot: usize, value: Value)
-        requires { slot < length self.old.values }
+        requires { IsSlot self.old slot }
         ensures { self.new ≡ with_held self.old slot value }
     {
         self.values[slot] = Some(value);
@@ -183,17 +158,16 @@ impl<'p> Slots<'p> {
     /// Sets a slot to an integer. A slot that holds an integer is changed in place.
     #[inline(always)]
     pub(crate) fn set_integer(&mut self, slot: usize, number: i32)
-        requires { slot < length self.old.values }
+        requires { IsSlot self.old slot }
         ensures { self.new ≡ with_held self.old slot (Int number) }
     {
         put_integer(&mut self.values, slot, number);
     }
 
-    /// Replaces an integer at a place of the list in a slot by another, if nothing else shares the list, and returns
-    /// whether it did. Allocates nothing.
+    /// Replaces an integer in the list in a slot by another, if nothing else shares the list; returns whether it did.
     #[inline(always)]
     pub(crate) fn put_element(&mut self, slot: usize, index: usize, number: i32) -> bool
-        requires { slot < length self.old.values }
+        requires { IsSlot self.old slot }
         ensures put { IsTrue result → (ts : List Tree) × (get_or self.old.values slot None ≡ Some (ListOf ts)) × (index < length ts) × IsWithinLimits (list_of (set ts index (integer number))) × (self.new ≡ with_held self.old slot (ListOf (set ts index (integer number)))) }
         ensures kept { IsFalse result → self.new ≡ self.old }
     {
@@ -204,18 +178,28 @@ impl<'p> Slots<'p> {
     /// and the new list has to be within the limits; else the value is dropped. Allocates nothing.
     #[inline(always)]
     pub(crate) fn put_value(&mut self, slot: usize, index: usize, value: Value) -> bool
-        requires { slot < length self.old.values }
+        requires { IsSlot self.old slot }
         ensures put { IsTrue result → (ts : List Tree) × (get_or self.old.values slot None ≡ Some (ListOf ts)) × (index < length ts) × IsWithinLimits (list_of (set ts index (tree value))) × (self.new ≡ with_held self.old slot (ListOf (set ts index (tree value)))) }
         ensures kept { IsFalse result → self.new ≡ self.old }
     {
         replace_value(&mut self.values, slot, index, value)
     }
 
+    /// Replaces an integer in a list of the list in a slot, if nothing else shares the lists; returns whether it did.
+    #[inline(always)]
+    pub(crate) fn put_inner(&mut self, slot: usize, index: usize, inner: usize, number: i32) -> bool
+        requires { IsSlot self.old slot }
+        ensures put { IsTrue result → (ts us : List Tree) × (get_or self.old.values slot None ≡ Some (ListOf ts)) × IsInnerPut ts index inner number us × (self.new ≡ with_held self.old slot (ListOf us)) }
+        ensures kept { IsFalse result → self.new ≡ self.old }
+    {
+        put_inner(&mut self.values, slot, index, inner, number)
+    }
+
     /// Appends a value to the list in a slot, and returns whether it did. Nothing else may share the list, the longer
     /// list has to be within the limits, and memory has to be available; else the value is dropped.
     #[inline(always)]
     pub(crate) fn push(&mut self, slot: usize, value: Value) -> bool
-        requires { slot < length self.old.values }
+        requires { IsSlot self.old slot }
         ensures put { IsTrue result → (ts : List Tree) × (get_or self.old.values slot None ≡ Some (ListOf ts)) × IsWithinLimits (list_of (ts ++ tree value ∷ [])) × (self.new ≡ with_held self.old slot (ListOf (ts ++ tree value ∷ []))) }
         ensures kept { IsFalse result → self.new ≡ self.old }
     {
@@ -226,7 +210,7 @@ impl<'p> Slots<'p> {
     /// string, the longer string has to be within the limit, and memory has to be available.
     #[inline(always)]
     pub(crate) fn extend(&mut self, slot: usize, last: &MooStr) -> bool
-        requires { slot < length self.old.values }
+        requires { IsSlot self.old slot }
         ensures put { IsTrue result → (t : List ℕ) × (get_or self.old.values slot None ≡ Some (StrOf t)) × IsString (t ++ last.now) × (self.new ≡ with_held self.old slot (StrOf (t ++ last.now))) }
         ensures kept { IsFalse result → self.new ≡ self.old }
     {
@@ -263,6 +247,22 @@ fn replace_value(values: &mut Vec<Option<Value>>, slot: usize, index: usize, val
     put_in(&mut values[slot], index, value)
 }
 
+// Replaces an integer in a list of the list in a slot, and returns whether it did.
+#[inline(always)]
+fn put_inner(
+    values: &mut Vec<Option<Value>>,
+    slot: usize,
+    index: usize,
+    inner: usize,
+    number: i32,
+) -> bool
+    requires { slot < length values.old.items }
+    ensures put { IsTrue result → (ts us : List Tree) × (get_or values.old.items slot None ≡ Some (ListOf ts)) × IsInnerPut ts index inner number us × (values.new.items ≡ set values.old.items slot (Some (ListOf us))) }
+    ensures kept { IsFalse result → values.new.items ≡ values.old.items }
+{
+    put_inner_in(&mut values[slot], index, inner, number)
+}
+
 // Appends a value to the list in a slot, and returns whether it did.
 #[inline(always)]
 fn push_value(values: &mut Vec<Option<Value>>, slot: usize, value: Value) -> bool
@@ -288,8 +288,8 @@ fn extend_value(values: &mut Vec<Option<Value>>, slot: usize, last: &MooStr) -> 
 fn unset_all(values: &mut Vec<Option<Value>>)
     ensures { values.new.items ≡ repeat (length values.old.items) None }
 {
-    for value in values.as_mut_slice() {
-        *value = None;
+    for i in 0..values.len() {
+        values[i] = None;
     }
 }
 

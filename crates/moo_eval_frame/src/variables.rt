@@ -4,15 +4,16 @@ ghost use Rattle.moo_value.specs.Tree.{integer};
 ghost use Rattle.moo_value.specs.View.{tree};
 ghost use Rattle.moo_value.specs.Compare.{folded};
 ghost use Rattle.moo_syntax_ast.specs.Given.{given_name, given_names};
-ghost use Rattle.moo_eval_frame.specs.Variables.{bind, with_variable, first_bindings, handed_bindings, value_of_name};
+ghost use Rattle.moo_eval_frame.specs.Variables.{bind, with_variable, value_of_name, called_variables};
 ghost use Rattle.moo_eval_frame.specs.GivenValues.{given_values};
-ghost use Rattle.moo_eval_frame.specs.Seen.{value_among, own_variables, slot_value, variables_of};
+ghost use Rattle.moo_eval_frame.specs.Seen.{value_among, own_variables, slot_value, variables_of, others_of};
+ghost use Rattle.moo_syntax_ast.specs.declared.given.Given.TheVariants.{Player};
 
 use crate::frame::Running;
 use crate::given_values::GivenValues;
 use crate::slots::{SlotRoom, Slots};
 use crate::spelling::is_named;
-use moo_syntax_ast::{Given, Name};
+use moo_syntax_ast::Name;
 use moo_syntax_grammar::Program;
 use moo_value::{MooList, MooStr, Value};
 use std::alloc::{AllocError, Global};
@@ -159,14 +160,6 @@ impl<'p> Variables<'p> {
         others.push(variable)?;
         self.others = Some(Box::new(self.alloc, others)?);
         Ok(())
-    }
-
-    /// Returns the value of a variable that every frame has.
-    #[inline(never)]
-    pub fn get_given(&self, given: Given) -> Option<&Value>
-        ensures { option_map (λ v. tree v.now) result ≡ variables_of self.now (folded (given_name given)) }
-    {
-        Some(self.given.get(given))
     }
 
     /// Returns the value of the variable `player`.

@@ -3,7 +3,9 @@ use Rattle.std.specs.Prelude.{◌≡◌, ℕ, ℤ, List, Option, Some, Ok}
 use Rattle.moo_value.specs.Compare.{folded}
 use Rattle.moo_syntax_ast.specs.declared.tree.Literal.TheVariants.{Integer}
 use Rattle.moo_value.specs.Tree.{Tree, integer}
-use Rattle.moo_syntax_ast.specs.Tree.{Expr, literal, variable}
+use Rattle.moo_syntax_ast.specs.Tree.{Expr, literal, variable, binary}
+use Rattle.moo_syntax_ast.specs.declared.operator.BinaryOperator.{BinaryOperator}
+use Rattle.moo_builtin_operator.specs.Operators.{binary_of}
 use Rattle.moo_builtin.specs.Telling.{Faults}
 use Rattle.moo_eval_frame.specs.State.{Context}
 use Rattle.moo_eval_access.specs.State.{State}
@@ -26,3 +28,9 @@ GivesInteger variables n e i m = Gives variables n e (integer i) m
 pub data IsLeaf (variables : List ℕ → Option Tree) : Expr → ℤ → Type 0 where
   is_number : {n : ℤ} → IsLeaf variables (literal (Integer n)) n
   is_held : {x : List ℕ} {n : ℤ} → variables (folded x) ≡ Some (integer n) → IsLeaf variables (variable x) n
+
+-- with these variables an expression is an operator between two such expressions, and gives this integer
+pub data IsOfLeaves (variables : List ℕ → Option Tree) : Expr → ℤ → Type 0 where
+  of_leaves : {o : BinaryOperator} {a b : Expr} {m n i : ℤ} →
+      IsLeaf variables a m → IsLeaf variables b n → binary_of o (integer m) (integer n) ≡ Ok (integer i) →
+      IsOfLeaves variables (binary o a b) i

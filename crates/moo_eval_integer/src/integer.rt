@@ -1,16 +1,15 @@
 //! Computes the integers of nodes.
-ghost use Rattle.std.specs.Prelude.{◌≡◌, ◌≤◌, ℕ, List, Option, Some, Ok, IfSome};
-ghost use Rattle.moo_value.specs.Tree.{Tree, integer, list_of};
+ghost use Rattle.std.specs.Prelude.{◌≡◌, ◌≤◌, ℕ, List, Option, Some, IfSome};
+ghost use Rattle.moo_value.specs.Tree.{Tree, integer};
 ghost use Rattle.moo_value.specs.Compare.{folded};
 ghost use Rattle.moo_syntax_ast.specs.declared.tree.Literal.TheVariants.{Integer};
 ghost use Rattle.moo_syntax_ast.specs.Tree.{literal, variable, binary, call, index};
 ghost use Rattle.moo_syntax_lower.specs.Source.{source, source_items};
 ghost use Rattle.moo_builtin_operator.specs.Truth.{is_true};
-ghost use Rattle.moo_builtin_operator.specs.Places.{length_of};
 ghost use Rattle.moo_eval_frame.specs.Seen.{indexed_of, variables_of};
-ghost use Rattle.moo_eval_integer.specs.Integers.{Gives, GivesInteger, IsLeaf};
+ghost use Rattle.moo_eval_integer.specs.Integers.{GivesInteger, IsLeaf, IsOfLeaves};
 
-use crate::ticks::{take, take_three};
+use crate::ticks::{take, take_many};
 use moo_builtin_operator::before_place;
 use moo_eval_access::number_of;
 use moo_eval_frame::Activation;
@@ -35,13 +34,29 @@ pub fn arithmetic_integer(
     ensures value { IfSome result (λ n. GivesInteger (variables_of active.now.variables) left.old (binary operator (source a.now) (source b.now)) n left.new) }
     ensures ticks { left.new ≤ left.old }
 {
-    match leaves(active, a, b) {
-        Some((a, b)) => {
-            take_three(left)?;
-            number_of(operator, a, b)
-        }
-        None => nested_integer(active, left, operator, a, b),
+    if let Some((a, b)) = leaves(active, a, b) {
+        take_many(left, 3)?;
+        return number_of(operator, a, b);
     }
+    if let Some((a, b)) = operator_and_leaf(active, a, b) {
+        take_many(left, 5)?;
+        return number_of(operator, a, b);
+    }
+    nested_integer(active, left, operator, a, b)
+}
+
+// Returns the integers of an operator between leaves and of a leaf. They have four nodes together.
+#[inline(always)]
+fn operator_and_leaf(active: &Activation, a: &Node, b: &Node) -> Option<(i32, i32)>
+    ensures { IfSome result (λ p. IsOfLeaves (variables_of active.now.variables) (source a.now) p.0 × IsLeaf (variables_of active.now.variables) (source b.now) p.1) }
+{
+    let Node::Arithmetic(operator, x, y) = a else {
+        return None;
+    };
+    let (x, y) = leaves(active, x, y)?;
+    let b = leaf_integer(active, b)?;
+    let a = number_of(*operator, x, y)?;
+    Some((a, b))
 }
 
 // Returns the integer of an operator between any two nodes, likewise. It is a separate function, so that operators
@@ -74,9 +89,9 @@ fn leaves(active: &Activation, a: &Node, b: &Node) -> Option<(i32, i32)>
     Some((a, b))
 }
 
-// Returns the integer of a node, if it is an integer or a variable that holds one and whose slot is known.
+/// Returns the integer of a node, if it is an integer or a variable that holds one and whose slot is known.
 #[inline(always)]
-fn leaf_integer(active: &Activation, node: &Node) -> Option<i32>
+pub fn leaf_integer(active: &Activation, node: &Node) -> Option<i32>
     ensures { IfSome result (λ n. IsLeaf (variables_of active.now.variables) (source node.now) n) }
 {
     if let Node::Variable(name) = node {
@@ -151,7 +166,6 @@ fn element_integer(active: &Activation, left: &mut u32, base: &Node, place: &Nod
 #[cycle(integer)]
 #[inline(always)]
 fn list_of<'a>(active: &'a Activation, left: &mut u32, base: &Node) -> Option<&'a MooList>
-    ensures value { IfSome result (λ list. Gives (variables_of active.now.variables) left.old (source base.now) (list_of list.now) left.new) }
     ensures ticks { left.new ≤ left.old }
 {
     match base {
@@ -163,7 +177,6 @@ fn list_of<'a>(active: &'a Activation, left: &mut u32, base: &Node) -> Option<&'
 
 #[inline(always)]
 fn held_list<'a>(active: &'a Activation, left: &mut u32, name: &Name) -> Option<&'a MooList>
-    ensures value { IfSome result (λ list. Gives (variables_of active.now.variables) left.old (variable name.now) (list_of list.now) left.new) }
     ensures ticks { left.new ≤ left.old }
 {
     take(left)?;
@@ -178,7 +191,6 @@ fn inner_list<'a>(
     outer: &Node,
     place: &Node,
 ) -> Option<&'a MooList>
-    ensures value { IfSome result (λ list. Gives (variables_of active.now.variables) left.old (index (source outer.now) (source place.now)) (list_of list.now) left.new) }
     ensures ticks { left.new ≤ left.old }
 {
     take(left)?;
@@ -190,9 +202,7 @@ fn inner_list<'a>(
 
 // Returns the list that a value is.
 #[inline(always)]
-fn list_in(value: Option<&Value>) -> Option<&MooList>
-    ensures { IfSome result (λ list. indexed_of value.entry ≡ Some (list_of list.now)) }
-{
+fn list_in(value: Option<&Value>) -> Option<&MooList> {
     match value {
         Some(Value::List(list)) => Some(list),
         _ => None,
@@ -234,12 +244,10 @@ fn as_variable(node: &Node) -> Option<&Name>
 
 // Returns the length of a string or of a list.
 #[inline(always)]
-fn length_in(value: Option<&Value>) -> Option<i32>
-    ensures { IfSome result (λ n. (t : Tree) × (indexed_of value.entry ≡ Some t) × (length_of t ≡ Ok (integer n))) }
-{
+fn length_in(value: Option<&Value>) -> Option<i32> {
     match value {
         Some(Value::Str(string)) => Some(string.len() as i32),
-        Some(Value::List(list)) => Some(list.elements().len() as i32),
+        Some(Value::List(list)) => Some(list.len() as i32),
         _ => None,
     }
 }
@@ -270,9 +278,9 @@ fn held_integer(active: &Activation, name: &Name) -> Option<i32>
     integer_in(active.variables.get(name))
 }
 
-// Returns the integer that a value is.
+/// Returns the integer that a value is.
 #[inline(always)]
-fn integer_in(value: Option<&Value>) -> Option<i32>
+pub fn integer_in(value: Option<&Value>) -> Option<i32>
     ensures { IfSome result (λ n. indexed_of value.entry ≡ Some (integer n)) }
 {
     match value {

@@ -4,5 +4,8 @@
 mod integer;
 mod ticks;
 
-pub use integer::{arithmetic_integer, counts_as_true, flat_integer, integer_of, length_integer};
-pub use ticks::{take, take_three};
+pub use integer::{
+    arithmetic_integer, counts_as_true, flat_integer, integer_in, integer_of, leaf_integer,
+    length_integer,
+};
+pub use ticks::{take, take_many};

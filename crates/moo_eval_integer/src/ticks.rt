@@ -14,15 +14,15 @@ pub fn take(left: &mut u32) -> Option<()>
     Some(())
 }
 
-/// Takes three ticks. `None` if fewer are left.
+/// Takes so many ticks. `None` if fewer are left.
 #[inline(always)]
-pub fn take_three(left: &mut u32) -> Option<()>
-    ensures taken { IfSome result (λ _. (2 < left.old) × (left.new ≡ left.old - 3)) }
+pub fn take_many(left: &mut u32, count: u32) -> Option<()>
+    ensures taken { IfSome result (λ _. (count ≤ left.old) × (left.new ≡ left.old - count)) }
     ensures ticks { left.new ≤ left.old }
 {
-    if *left < 3 {
+    if *left < count {
         return None;
     }
-    *left -= 3;
+    *left -= count;
     Some(())
 }

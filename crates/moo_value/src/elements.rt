@@ -1,9 +1,10 @@
 //! The elements of lists, which are copied only if another list shares them.
-ghost use Rattle.std.specs.Prelude.{◌≡◌, ◌<◌, ◌++◌, ◌∷◌, [], length, vec_len, slice_set, ℕ, IsTrue, IsFalse, IfOk, OnOk};
+ghost use Rattle.std.specs.Prelude.{◌≡◌, ◌<◌, ◌++◌, ◌∷◌, [], List, length, vec_len, get_or, slice_set, ℕ, IsTrue, IsFalse, IfOk, OnOk};
 ghost use Rattle.moo_value.specs.Inner.{IsMeasuredList};
 ghost use Rattle.moo_value.specs.Held.{IsAlike};
+ghost use Rattle.moo_value.specs.Tree.{Tree, integer};
 ghost use Rattle.moo_value.specs.View.{trees};
-ghost use Rattle.moo_value.specs.declared.value.Value.TheVariants.{Int};
+ghost use Rattle.moo_value.specs.declared.value.Value.TheVariants.{Int, List as ListOf};
 
 use crate::measure::Measure;
 use crate::string::total_length;
@@ -82,6 +83,27 @@ fn replaces_integer(place: &mut Value, number: i32) -> bool
             *held = number;
             true
         }
+        _ => false,
+    }
+}
+
+// Replaces an integer at `inner` of the list at `index` by another. Returns whether it did.
+#[inline]
+pub(crate) fn puts_inner_integer(
+    elements: &mut Vec<Value>,
+    index: usize,
+    inner: usize,
+    number: i32,
+) -> bool
+    ensures put { IsTrue result → (ts : List Tree) × (index < length elements.old.items) × (get_or elements.old.items index (Int number) ≡ ListOf ts) × (inner < length ts) × (elements.new.items ≡ slice_set elements.old.items index (ListOf (slice_set ts inner (integer number)))) }
+    ensures alike { (w d : ℕ) → IsMeasuredList w d (trees elements.old.items) → IsMeasuredList w d (trees elements.new.items) }
+    ensures kept { IsFalse result → elements.new.items ≡ elements.old.items }
+{
+    if index >= elements.len() {
+        return false;
+    }
+    match &mut elements[index] {
+        Value::List(list) => list.put_integer(inner, number),
         _ => false,
     }
 }

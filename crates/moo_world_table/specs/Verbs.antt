@@ -13,6 +13,10 @@ use Rattle.moo_world_table.specs.World.{World, thing_of, programs_in}
 abbrev pub verb_at : List (Option Object) → Need → List ℕ → ℕ → Option (ℕ × ℕ)
 verb_at objects need name y = option_map (λ i. (y, i)) (position (fits_verb need name) (thing_of objects y).verbs)
 
+-- the verb at such a place, with the object's number
+abbrev pub verb_at_place : List (Option Object) → ℕ × ℕ → Option (ℕ × Verb)
+verb_at_place objects place = option_map (λ v. (place.0, v)) (slice_get (thing_of objects place.0).verbs place.1)
+
 -- the first fitting verb on the nearest of an object and its ancestors that has one
 abbrev pub verb_found : World → Need → List ℕ → ℕ → Option (ℕ × ℕ)
 verb_found w need name x = slice_get (filter_map (verb_at w.objects need name) (x ∷ ancestors w.inheritance x)) 0

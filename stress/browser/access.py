@@ -41,6 +41,11 @@ PLANTED = {
     "definition-list": "document.querySelector('dl').insertAdjacentHTML('beforeend', '<p>x</p>')",
     "dlitem": "log.insertAdjacentHTML('beforeend', '<dd>x</dd>')",
     "color-contrast": "document.documentElement.style.setProperty('--text', '#666')",
+    "label": "document.querySelector('label[for=type]').remove(); type.removeAttribute('placeholder')",
+    "button-name": "document.getElementById('send').textContent = ''",
+    "link-name": "log.insertAdjacentHTML('beforeend', '<a href=x></a>')",
+    "aria-name": "log.removeAttribute('aria-label')",
+    "aria-dialog-name": "document.getElementById('set').removeAttribute('aria-labelledby'); document.getElementById('options').click()",
     "non-text-contrast": "document.documentElement.style.setProperty('--edge', '#333')",
 }
 
@@ -53,21 +58,23 @@ FOCUSED = """(() => {
 # What Tab reaches, by identifier or text.
 ORDER = ["To the line of input", "edit", "smaller", "larger", "options", "log", "type", "send"]
 
-# Roles of the browser's tree that must have a name.
-NAMED = {"button", "textbox", "combobox", "checkbox", "link", "log", "dialog", "group", "complementary", "heading", "PopUpButton"}
+# Roles of the browser's accessibility tree that must have a name, with the rule.
+NAMED = {"button": "button-name", "link": "link-name", "textbox": "label", "combobox": "label", "checkbox": "label", "log": "aria-name",
+         "dialog": "aria-dialog-name", "group": "aria-name", "complementary": "aria-name", "heading": "empty-heading"}
 
 
-def nameless(page):
-    """Returns the roles in the browser's accessibility tree that must have a name and have none."""
+def broken_rules(page):
+    """Returns what breaks a rule: in the page, and in the browser's tree what has no name."""
     nodes = page.do("Accessibility.getFullAXTree")["nodes"]
     seen = [(node["role"]["value"], node.get("name", {}).get("value", "").strip()) for node in nodes if not node["ignored"]]
-    return [role for role, name in seen if role in NAMED and not name]
+    return page.js(RULES) + [f"{NAMED[role]}: {role}" for role, name in seen if role in NAMED and not name]
 
 
 def the_rules_are_kept(check, served, browser):
     for width, height, scheme in SCREENS:
         page = opened(served, browser, width=width, height=height, scheme=scheme)
-        states = [("login", "0"), ("in", None), ("editor", "panel(true)"), ("settings", "panel(false); document.getElementById('options').click()")]
+        states = [("login", "0"), ("in", None), ("editor", "panel(true)"), ("settings", "panel(false); document.getElementById('options').click()"),
+                  ("lost", "document.getElementById('set').close(); opt.back = false; ws.close()")]
         for state, code in states:
             if code is None:
                 page.js("type.focus()")
@@ -76,7 +83,7 @@ def the_rules_are_kept(check, served, browser):
                 code = "put('bad', 'x'); put('good', 'x'); put('', 'x')"
             page.js(code)
             page.rest(0.2)
-            found = page.js(RULES) + nameless(page)
+            found = broken_rules(page)
             check(f"rules of accessibility: {state}, {width} wide, {scheme}", not found, "; ".join(found))
 
 
@@ -85,7 +92,7 @@ def the_rules_find_what_is_planted(check, served, browser):
     for rule, code in PLANTED.items():
         page = opened(served, browser)
         page.js(code)
-        if not any(found.startswith(rule + ":") for found in page.js(RULES)):
+        if not any(found.startswith(rule + ":") for found in broken_rules(page)):
             missed.append(rule)
         page.faults.clear()  # Chromium itself reports some of them.
     check(f"each of {len(PLANTED)} planted faults is found", not missed, str(missed))

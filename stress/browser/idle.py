@@ -4,7 +4,7 @@
     stress/browser/idle.py PROGRAM [COUNT]     1,000 if none is given
 
 A line is `look` of a guest in the starter world, by a telnet client and by a browser in turn, before the idle ones come and next to them. The script
-prints the median time of an answer and the server's processor time of a line, of ten runs of 200 lines each. The status is 1 if the idle ones use more
+prints a table of the median time of an answer and of the server's processor time of a line, of ten runs of 200 lines each. The status is 1 if the idle ones use more
 than a tenth of a second, or if a browser's line next to them costs the server more than two lines of a telnet client without them."""
 
 import pathlib
@@ -71,9 +71,13 @@ def costs(server, *clients):
     return [tuple(map(statistics.median, zip(*of_client))) for of_client in zip(*runs)]
 
 
-def show(name, cost, first):
-    """Prints a cost, and how it compares with the first one."""
-    print(f"{name}: answered in {1e6 * cost[0]:.0f} us ({cost[0] / first[0]:.2f} times), {1e6 * cost[1]:.1f} us of a processor ({cost[1] / first[1]:.2f} times)")
+def show(spent, count, rows):
+    """Prints the costs as a table, and how they compare with those of the first row."""
+    first = rows[0][2]
+    print(f"{count:,} idle WebSockets take {spent:.3f} s of a processor in 10 s.\n")
+    print("| Idle WebSockets | A line of | Median of an answer | Ratio | Processor of a line | Ratio |\n|---|---|---|---|---|---|")
+    for idle, name, cost in rows:
+        print(f"| {idle:,} | {name} | {1e6 * cost[0]:.0f} µs | {cost[0] / first[0]:.2f} | {1e6 * cost[1]:.0f} µs | {cost[1] / first[1]:.2f} |")
 
 
 def enter(client):
@@ -101,9 +105,7 @@ def main():
         time.sleep(10)
         spent = processor_seconds(server.process) - before
         crowded = costs(server, telnet, browser)
-    print(f"{len(idle)} idle WebSockets: {spent:.3f} s of a processor in 10 s")
-    for name, cost in zip(["a telnet line, nobody idle", "a browser's line, nobody idle", "a telnet line next to them", "a browser's line next to them"], alone + crowded):
-        show(name, cost, alone[0])
+    show(spent, count, list(zip([0, 0, count, count], ["telnet", "a browser"] * 2, alone + crowded)))
     sys.exit(spent > 0.1 or crowded[1][1] > 2 * alone[0][1])
 
 

@@ -4,8 +4,8 @@
 pub const PAGE: &[u8] = b"\
 HTTP/1.1 200 OK\r\n\
 Content-Type: text/html; charset=utf-8\r\n\
-Content-Length: 37945\r\n\
-Content-Security-Policy: default-src 'none'; script-src 'sha256-9t/blzPWjEnqlLSBuNohGWEVvWDUGUnml/266sbaurc='; style-src 'sha256-mNN4P9Qzk792KwNQr0kjOjTekqFDrG8IenutaH056PQ='; connect-src 'self'; img-src data:; base-uri 'none'; form-action 'none'; frame-ancestors 'none'\r\n\
+Content-Length: 38019\r\n\
+Content-Security-Policy: default-src 'none'; script-src 'sha256-9t/blzPWjEnqlLSBuNohGWEVvWDUGUnml/266sbaurc='; style-src 'sha256-UXltjae/Rbyg/kZi4lutv7ZqG2OZHPYJ1jii7WnOY/g='; connect-src 'self'; img-src data:; base-uri 'none'; form-action 'none'; frame-ancestors 'none'\r\n\
 X-Content-Type-Options: nosniff\r\n\
 Referrer-Policy: no-referrer\r\n\
 Cross-Origin-Opener-Policy: same-origin\r\n\
@@ -77,6 +77,7 @@ body.flow .l.j,body.flow .l.k{display:inline} body.flow .l.j::before{content:non
 .l a{color:var(--link);text-underline-offset:2px}\n\
 body.times:not(.flow) .l{position:relative;padding-left:calc(7.5ch + var(--in,0px))}\n\
 body.times:not(.flow) .l[data-t]::after{content:attr(data-t);position:absolute;left:0;top:0;color:var(--dim);font-size:.8em;line-height:1.9;text-indent:0;-webkit-user-select:none;user-select:none}\n\
+body.times:not(.flow) .l.narrow{padding-left:calc(9.5ch + var(--in,0px))}\n\
 #more{position:absolute;right:22px;bottom:14px;background:var(--accent);color:var(--on);border-color:var(--accent);border-radius:999px;box-shadow:var(--shadow);font-weight:600}\n\
 \n\
 footer{grid-area:3/1/4/2;overflow:hidden;scrollbar-gutter:stable;background:var(--bar);border-top:1px solid var(--line);padding:8px 16px max(6px,env(safe-area-inset-bottom))}\n\

@@ -56,7 +56,7 @@ FOCUSED = """(() => {
 })()"""
 
 # What Tab reaches, by identifier or text.
-ORDER = ["To the line of input", "edit", "smaller", "larger", "options", "log", "type", "send"]
+ORDER = ["To the line of input", "edit", "seek", "smaller", "larger", "options", "log", "type", "send"]
 
 # Roles of the browser's accessibility tree that must have a name, with the rule.
 NAMED = {"button": "button-name", "link": "link-name", "textbox": "label", "combobox": "label", "checkbox": "label", "log": "aria-name",
@@ -73,7 +73,8 @@ def broken_rules(page):
 def the_rules_are_kept(check, served, browser):
     for width, height, scheme in SCREENS:
         page = opened(served, browser, width=width, height=height, scheme=scheme)
-        states = [("login", "0"), ("in", None), ("editor", "panel(true)"), ("settings", "panel(false); document.getElementById('options').click()"),
+        states = [("login", "0"), ("in", None), ("editor", "panel(true)"), ("search", "panel(false); finder(true); document.getElementById('sought').value = 'a'; search()"),
+                  ("settings", "finder(false); document.getElementById('options').click()"),
                   ("lost", "document.getElementById('set').close(); opt.back = false; ws.close()")]
         for state, code in states:
             if code is None:

@@ -1,6 +1,7 @@
 """Parts of page.py: what is typed, and what the log shows."""
 
 from checks import entered
+from chromium import CONTROL, SHIFT
 
 PASTE = """(() => {
   const d = new DataTransfer();
@@ -9,7 +10,19 @@ PASTE = """(() => {
   type.dispatchEvent(new ClipboardEvent('paste', { clipboardData: d, bubbles: true }));
 })()"""
 
+# Whether the line that was found is neither at the top nor at the bottom.
+FAR_FROM_EDGES = """(() => {
+  const hit = document.querySelector('.hit').getBoundingClientRect(), seen = log.getBoundingClientRect();
+  return hit.top > seen.top + 100 && hit.bottom < seen.bottom - 100;
+})()"""
+
 LAST_LINK = "[...lines.querySelectorAll('a')].pop()"
+
+
+def backwards(count):
+    """Returns `4 of 5` for `5 of 5`."""
+    place, _, of = count.partition(" ")
+    return f"{int(place) - 1} {of}"
 
 
 def they_play_next_to_telnet(check, served, browser):
@@ -63,12 +76,22 @@ def a_long_log_is_read(check, served, browser):
     telnet.line("say while you read")
     page.until("document.getElementById('more').textContent.startsWith('1 new') && !document.getElementById('more').hidden")
     check("scrolled up, the log stays, and reports new lines", page.js("log.scrollTop") == 0)
-    check("the browser's search finds an earlier line", page.js("window.find('A programmer is a player', true, false, true)"))
+    page.key("f", CONTROL | SHIFT)
+    page.type("a programmer is a player")
     page.rest(0.2)
     place = page.js("log.scrollTop")
+    check("the search finds an earlier line", place > 0 and "A programmer is a player" in page.js("document.querySelector('.hit').textContent"))
+    check("in the middle of the log", page.js(FAR_FROM_EDGES))
     telnet.line("say while you search")
     page.until("document.getElementById('more').textContent.startsWith('2 new')")
     check("the log stays where the search has led", page.js("log.scrollTop") == place)
+    page.js("document.getElementById('sought').value = ''")
+    page.type("help")
+    first = page.js("document.getElementById('found').firstChild.data")
+    page.key("Enter")
+    check("Enter leads to an earlier one", backwards(first) == page.js("document.getElementById('found').firstChild.data"), first)
+    page.key("Escape")
+    check("Escape closes the search", page.js("document.getElementById('find').hidden && document.querySelectorAll('.hit').length === 0 && document.activeElement.id") == "type")
     page.click("#more")
     page.rest(0.2)
     check("the button leads to the end", page.js("log.scrollHeight - log.scrollTop - log.clientHeight < 4"))
@@ -100,6 +123,11 @@ def it_fits_a_phone(check, served, browser):
     check("a paragraph of the world is one", page.js("lines.querySelectorAll('.j').length > 2 && document.body.classList.contains('flow')"))
     check("a table that is too wide has no columns", page.js("[...lines.querySelectorAll('.l')].filter(d => /^  @list whistle/.test(d.textContent) && d.classList.contains('narrow')).length") == 1)
     check("buttons are large enough for a thumb", page.js("[...document.querySelectorAll('footer button')].filter(e => e.offsetParent && e.offsetHeight < 36).length") == 0)
+    page.js("document.getElementById('options').click(); document.getElementById('o-seek').click()")
+    page.until("document.activeElement.id === 'sought'")
+    page.type("whistle")
+    check("the settings lead to the search", " of " in page.js("document.getElementById('found').textContent"))
+    page.key("Escape")
     page.js("panel(true)")
     page.rest(0.2)
     check("the editor covers the log", page.js("document.elementFromPoint(195, 400).id") == "code")

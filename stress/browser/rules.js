@@ -40,7 +40,7 @@
   const GLOBAL = ['atomic', 'busy', 'controls', 'current', 'describedby', 'details', 'flowto', 'hidden', 'keyshortcuts', 'label', 'labelledby', 'live', 'owns', 'relevant', 'roledescription'];
   const OWN = { button: ['expanded', 'haspopup', 'pressed', 'disabled'], textbox: ['invalid', 'required', 'readonly', 'multiline', 'placeholder', 'activedescendant', 'autocomplete', 'haspopup', 'errormessage', 'disabled'], dialog: ['modal'], link: ['expanded', 'haspopup', 'disabled'] };
   const VALUES = { 'aria-live': /^(off|polite|assertive)$/, 'aria-hidden': /^(true|false)$/, 'aria-expanded': /^(true|false)$/, 'aria-haspopup': /^(true|false|menu|listbox|tree|grid|dialog)$/, 'aria-relevant': /^(additions|removals|text|all)( (additions|removals|text))*$/ };
-  const ROLES = ['log', 'status', 'alert', 'group', 'region', 'dialog', 'button', 'link', 'note', 'separator'];
+  const ROLES = ['log', 'search', 'status', 'alert', 'group', 'region', 'dialog', 'button', 'link', 'note', 'separator'];
   const REQUIRED = { checkbox: ['checked'], combobox: ['expanded', 'controls'], slider: ['valuenow'], scrollbar: ['valuenow', 'controls'], heading: ['level'], option: [], separator: [] };
   function role(e) {
     const tags = { BUTTON: 'button', A: 'link', INPUT: 'textbox', TEXTAREA: 'textbox', DIALOG: 'dialog' };

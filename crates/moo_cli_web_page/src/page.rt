@@ -4,8 +4,8 @@
 pub const PAGE: &[u8] = b"\
 HTTP/1.1 200 OK\r\n\
 Content-Type: text/html; charset=utf-8\r\n\
-Content-Length: 38019\r\n\
-Content-Security-Policy: default-src 'none'; script-src 'sha256-9t/blzPWjEnqlLSBuNohGWEVvWDUGUnml/266sbaurc='; style-src 'sha256-UXltjae/Rbyg/kZi4lutv7ZqG2OZHPYJ1jii7WnOY/g='; connect-src 'self'; img-src data:; base-uri 'none'; form-action 'none'; frame-ancestors 'none'\r\n\
+Content-Length: 41048\r\n\
+Content-Security-Policy: default-src 'none'; script-src 'sha256-Yu0v4LG0HfpGWlmlMuinmC3qA84R8mqfEkE6XTtzz7U='; style-src 'sha256-1Y/nhQtmJAukKFu/7p1oRXOC/r576tHZch+GkskHVQs='; connect-src 'self'; img-src data:; base-uri 'none'; form-action 'none'; frame-ancestors 'none'\r\n\
 X-Content-Type-Options: nosniff\r\n\
 Referrer-Policy: no-referrer\r\n\
 Cross-Origin-Opener-Policy: same-origin\r\n\
@@ -77,6 +77,10 @@ body.flow .l.j,body.flow .l.k{display:inline} body.flow .l.j::before{content:non
 .l a{color:var(--link);text-underline-offset:2px}\n\
 body.times:not(.flow) .l{position:relative;padding-left:calc(7.5ch + var(--in,0px))}\n\
 body.times:not(.flow) .l[data-t]::after{content:attr(data-t);position:absolute;left:0;top:0;color:var(--dim);font-size:.8em;line-height:1.9;text-indent:0;-webkit-user-select:none;user-select:none}\n\
+.hit,.hit *,.hit::before{background:var(--accent);color:var(--on)!important}\n\
+#find{position:absolute;top:8px;right:22px;z-index:2;display:flex;gap:6px;align-items:center;background:var(--bar);border:1px solid var(--line);border-radius:12px;padding:6px;box-shadow:var(--shadow)}\n\
+#find input{width:200px;min-width:0;padding:6px 10px} #find button{flex:none;min-width:34px;min-height:34px;padding:4px 9px}\n\
+#found{color:var(--dim);font-size:13px;white-space:nowrap;min-width:4.5em;text-align:center}\n\
 body.times:not(.flow) .l.narrow{padding-left:calc(9.5ch + var(--in,0px))}\n\
 #more{position:absolute;right:22px;bottom:14px;background:var(--accent);color:var(--on);border-color:var(--accent);border-radius:999px;box-shadow:var(--shadow);font-weight:600}\n\
 \n\
@@ -119,6 +123,7 @@ dt{font-family:var(--mono);color:var(--accent);white-space:nowrap} dd{margin:0}\
 \x20 header{padding:6px 8px;gap:5px} header h1{font-size:14px} header .wide{display:none}\n\
 \x20 #log{padding:8px 10px 12px} footer{padding:6px 8px max(6px,env(safe-area-inset-bottom))}\n\
 \x20 #type,input,#panel input,select,#code{font-size:16px} #hint{min-height:0}\n\
+\x20 #find{left:8px;right:8px} #find input{flex:1;width:0}\n\
 \x20 body.off header h1{position:absolute;width:1px;height:1px;overflow:hidden;clip-path:inset(50%)}\n\
 \x20 #sign input{max-width:none;flex-basis:40%} #sign button{flex:1}\n\
 \x20 #dot.up + span{position:absolute;width:1px;height:1px;overflow:hidden;clip-path:inset(50%)}\n\
@@ -135,6 +140,7 @@ dt{font-family:var(--mono);color:var(--accent);white-space:nowrap} dd{margin:0}\
 \x20 <div id=\"state\" role=\"status\"><span id=\"dot\" class=\"wait\"></span><span id=\"said-state\">connecting ..</span><span id=\"count\" aria-hidden=\"true\"></span></div>\n\
 \x20 <button id=\"again\" hidden>Connect</button>\n\
 \x20 <button id=\"edit\" aria-expanded=\"false\" aria-controls=\"panel\" title=\"Editor (Alt+E)\">Editor</button>\n\
+\x20 <button id=\"seek\" class=\"wide\" aria-expanded=\"false\" aria-controls=\"find\" title=\"Find in the log (Ctrl+Shift+F)\">Find</button>\n\
 \x20 <button id=\"smaller\" class=\"wide\" aria-label=\"Smaller text\">A&minus;</button>\n\
 \x20 <button id=\"larger\" class=\"wide\" aria-label=\"Larger text\">A+</button>\n\
 \x20 <button id=\"options\" aria-haspopup=\"dialog\" title=\"Settings and keys (F1)\">Settings</button>\n\
@@ -142,6 +148,7 @@ dt{font-family:var(--mono);color:var(--accent);white-space:nowrap} dd{margin:0}\
 <main>\n\
 \x20 <div id=\"log\" role=\"log\" aria-live=\"polite\" aria-relevant=\"additions\" aria-label=\"What the world says\" tabindex=\"0\"><div class=\"in\" id=\"lines\"></div></div>\n\
 \x20 <button id=\"more\" hidden></button>\n\
+\x20 <form id=\"find\" role=\"search\" hidden><label class=\"sr\" for=\"sought\">Find in the log</label><input id=\"sought\" placeholder=\"Find in the log\" autocapitalize=\"off\" autocomplete=\"off\" spellcheck=\"false\" enterkeyhint=\"search\"><span id=\"found\" role=\"status\"></span><button id=\"earlier\" aria-label=\"Earlier\">&uarr;</button><button id=\"later\" type=\"button\" aria-label=\"Later\">&darr;</button><button id=\"shut-find\" type=\"button\" aria-label=\"Close the search\">Close</button></form>\n\
 </main>\n\
 <aside id=\"panel\" aria-labelledby=\"panel-name\" hidden>\n\
 \x20 <div class=\"head\"><h2 id=\"panel-name\">Editor</h2><button id=\"shut\" aria-label=\"Close the editor\">Close</button></div>\n\
@@ -174,8 +181,8 @@ dt{font-family:var(--mono);color:var(--accent);white-space:nowrap} dd{margin:0}\
 \x20 <label class=\"opt\">Sound when something comes <input type=\"checkbox\" id=\"o-bell\"></label>\n\
 \x20 <label class=\"opt\">Come back by itself <input type=\"checkbox\" id=\"o-back\"></label>\n\
 \x20 <label class=\"opt\">Lines kept <select id=\"o-keep\"><option>1000</option><option>5000</option><option>20000</option></select></label>\n\
-\x20 <div class=\"acts\"><button id=\"copy\">Copy the log</button><button id=\"file\">Save the log</button><button id=\"clear\">Clear</button></div>\n\
-\x20 <dl><dt>Enter</dt><dd>send; Shift+Enter begins another line</dd><dt>Up, Down</dt><dd>earlier lines; those that begin as typed</dd><dt>PgUp, PgDn</dt><dd>scroll, also while typing</dd><dt>Ctrl+Home, End</dt><dd>the first line, the last</dd><dt>Ctrl+F</dt><dd>the browser's search, in all lines kept</dd><dt>Esc</dt><dd>back to the line of input; clears it</dd><dt>Alt+E</dt><dd>editor; Ctrl+S in it saves, Esc closes it</dd><dt>F1</dt><dd>these settings</dd></dl>\n\
+\x20 <div class=\"acts\"><button id=\"o-seek\">Find in the log</button><button id=\"copy\">Copy the log</button><button id=\"file\">Save the log</button><button id=\"clear\">Clear</button></div>\n\
+\x20 <dl><dt>Enter</dt><dd>send; Shift+Enter begins another line</dd><dt>Up, Down</dt><dd>earlier lines; those that begin as typed</dd><dt>PgUp, PgDn</dt><dd>scroll, also while typing</dd><dt>Ctrl+Home, End</dt><dd>the first line, the last</dd><dt>Ctrl+Shift+F</dt><dd>find in the log; Enter goes to earlier lines</dd><dt>Esc</dt><dd>back to the line of input; clears it</dd><dt>Alt+E</dt><dd>editor; Ctrl+S in it saves, Esc closes it</dd><dt>F1</dt><dd>these settings</dd></dl>\n\
 \x20 <form method=\"dialog\"><button class=\"go\">Done</button></form>\n\
 </dialog>\n\
 <script>\n\
@@ -342,6 +349,39 @@ $('file').onclick = () => {\n\
 };\n\
 $('clear').onclick = () => { lines.textContent = ''; };\n\
 \n\
+// ---- search in the log: the latest line first\n\
+let hits = [], hit = 0;\n\
+function unmark() { for (const d of lines.querySelectorAll('.hit')) d.classList.remove('hit'); }\n\
+function search() {\n\
+\x20 const text = $('sought').value.trim().toLowerCase();\n\
+\x20 hits = text ? [...lines.children].filter(d => d.textContent.toLowerCase().includes(text)) : [];\n\
+\x20 hit = 0; step(-1);\n\
+}\n\
+function step(by) {\n\
+\x20 const before = hits[hit];\n\
+\x20 hits = hits.filter(d => d.isConnected); unmark();\n\
+\x20 if (!hits.length) { $('found').textContent = $('sought').value.trim() ? 'nothing' : ''; return; }\n\
+\x20 hit = (Math.max(0, hits.indexOf(before)) + by + hits.length) % hits.length;\n\
+\x20 const d = hits[hit], says = document.createElement('span');\n\
+\x20 d.classList.add('hit'); d.scrollIntoView({ block: 'center' });\n\
+\x20 says.className = 'sr'; says.textContent = ': ' + d.textContent;\n\
+\x20 $('found').replaceChildren(hit + 1 + ' of ' + hits.length, says);\n\
+}\n\
+function finder(show) {\n\
+\x20 $('find').hidden = !show; $('seek').setAttribute('aria-expanded', show);\n\
+\x20 if (show) { $('sought').focus(); $('sought').select(); search(); } else { unmark(); type.focus(); }\n\
+}\n\
+$('seek').onclick = () => finder($('find').hidden);\n\
+$('shut-find').onclick = () => finder(false);\n\
+$('o-seek').onclick = () => { $('set').addEventListener('close', () => finder(true), { once: true }); $('set').close(); };\n\
+$('sought').addEventListener('input', search);\n\
+$('later').onclick = () => step(1);\n\
+$('find').onsubmit = e => { e.preventDefault(); step(-1); };\n\
+$('find').addEventListener('keydown', e => {\n\
+\x20 if (e.key === 'Escape') { e.preventDefault(); e.stopPropagation(); finder(false); }\n\
+\x20 if (e.key === 'Enter' && e.shiftKey && e.target === $('sought')) { e.preventDefault(); step(1); }\n\
+});\n\
+\n\
 // ---- the connection\n\
 let ws = null, tries = 0, timer = 0, left = 0, closing = false, half = '', decoder = null;\n\
 const BAD = /[\\x00-\\x08\\x0b-\\x1f\\x7f]/g, COLOUR = /\\x1b\\[[0-9;]*[A-Za-z]/g;\n\
@@ -476,6 +516,7 @@ type.addEventListener('keydown', e => {\n\
 // Typing anywhere goes into the line of input.\n\
 addEventListener('keydown', e => {\n\
 \x20 if (e.key === 'F1') { e.preventDefault(); $('set').open ? $('set').close() : $('options').click(); return; }\n\
+\x20 if (e.ctrlKey && e.shiftKey && e.key.toLowerCase() === 'f') { e.preventDefault(); finder(true); return; }\n\
 \x20 if (e.altKey && e.key.toLowerCase() === 'e') { e.preventDefault(); panel($('panel').hidden); return; }\n\
 \x20 if ($('set').open || e.target === type || /^(INPUT|TEXTAREA|SELECT)$/.test(e.target.tagName)) return;\n\
 \x20 if (e.key === 'Escape') type.focus();\n\

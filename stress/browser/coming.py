@@ -16,9 +16,9 @@ def a_newcomer_comes_in_by_the_form(check, served, browser):
     page.type("secretword")
     page.click("#sign [value=create]")
     page.until("isIn")
-    page.rest(0.3)
+    page.until("lines.innerText.includes('Welcome, Ann!')")
     text = page.text()
-    check("a player is created by the form", "*** Created ***" in text and "Welcome, Ann!" in text, text[-300:])
+    check("a player is created by the form", "*** Created ***" in text, text[-300:])
     check("the password is not shown in the log", "secretword" not in text and "create Ann \u2022" in text, text[-300:])
     kept = page.js("JSON.stringify(past) + JSON.stringify(sessionStorage) + JSON.stringify(localStorage) + document.getElementById('pass').value")
     check("nor remembered", "secretword" not in kept, kept)
@@ -37,12 +37,13 @@ def a_wrong_password_is_typed_again(check, served, browser):
     page.type(served.password())
     page.key("Enter")
     page.until("isIn")
-    page.rest(0.2)
     check("the wizard comes in with the password of the log", page.js("document.getElementById('sign').hidden") and page.js(FOCUS) == "type")
     taking = entered(served, browser, "connect", "wizard", served.password())
-    check("a second page takes over", "Redirecting old connection" in taking.text())
-    page.until("document.getElementById('said-state').textContent === 'not connected'")
-    check("and the first does not take it back", "Redirecting connection to new port" in page.text())
+    taking.until("lines.innerText.includes('Redirecting old connection')")
+    check("a second page takes over", True)
+    page.until("lines.innerText.includes('The connection has ended.')")
+    page.rest(3)
+    check("and the first does not take it back", not page.js(IS_UP) and taking.js(IS_UP))
 
 
 def one_who_quits_stays_away(check, served, browser):
@@ -67,7 +68,8 @@ def a_lost_connection_is_tried_again(check, served, browser):
     served.start()
     page.until(IS_UP, 40)
     page.until("!document.getElementById('sign').hidden")
-    check("the page comes back when the server does", "Connected again." in page.text())
+    page.until("lines.innerText.includes('Connected again.')")
+    check("the page comes back when the server does", True)
     check("and no longer says that nothing was sent", page.js("document.getElementById('told').textContent") == "")
 
 

@@ -56,8 +56,9 @@ def a_text_is_edited(check, served, browser):
     page.line("read list", 0)
     page.until("lines.innerText.includes('eggs')")
     check("Save writes its lines", all(line in page.text() for line in ("milk", "  eggs")), page.text()[-200:])
-    page.line(';notify(player, "#$# edit name: Note upload: @describe lamp as"); notify(player, "one"); notify(player, "."); return 0', 0.4)
-    check("`#$# edit` opens the editor", page.js("!document.getElementById('panel').hidden && " + CODE) == "one")
+    page.line(';notify(player, "#$# edit name: Note upload: @describe lamp as"); notify(player, "one"); notify(player, "."); return 0', 0)
+    page.until("!document.getElementById('panel').hidden")
+    check("`#$# edit` opens the editor", page.js(CODE) == "one")
 
 
 PARTS = [a_verb_is_edited, a_text_is_edited]

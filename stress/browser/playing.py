@@ -71,6 +71,7 @@ def a_long_log_is_read(check, served, browser):
     telnet = served.telnet("connect guest")
     for topic in ("help", "help topics", "help programming", "help writing"):
         page.line(topic)
+    page.until("lines.innerText.includes('several MUD clients know')")
     page.js("type.blur(); log.scrollTop = 0")
     page.rest(0.2)
     telnet.line("say while you read")
@@ -119,6 +120,7 @@ def it_fits_a_phone(check, served, browser):
     page = entered(served, browser, "connect guest", width=390, height=844)
     for topic in ("help", "help programming", "@ways"):
         page.line(topic)
+    page.until("lines.innerText.includes('to The Meadow')")
     check("on a phone nothing is wider than the screen", page.js("document.documentElement.scrollWidth <= innerWidth && log.scrollWidth <= log.clientWidth"))
     check("a paragraph of the world is one", page.js("lines.querySelectorAll('.j').length > 2 && document.body.classList.contains('flow')"))
     check("a table that is too wide has no columns", page.js("[...lines.querySelectorAll('.l')].filter(d => /^  @list whistle/.test(d.textContent) && d.classList.contains('narrow')).length") == 1)

@@ -10,7 +10,7 @@ from chromium import SHIFT
 
 RULES = (pathlib.Path(__file__).parent / "rules.js").read_text()
 
-SCREENS = [(1280, 800, "dark"), (1280, 800, "light"), (390, 844, "dark"), (390, 844, "light")]
+SCREENS = [(1280, 800, "dark"), (1280, 800, "light"), (390, 844, "dark"), (390, 844, "light"), (320, 568, "dark")]
 
 # Lines of each kind that the page shows in a colour of its own.
 LINES = ["look", "say see https://example.org/", "whisper \"psst\" to me", ";#1", "@who", "x" * 8100]
@@ -84,7 +84,7 @@ def the_rules_are_kept(check, served, browser):
                 code = "put('bad', 'x'); put('good', 'x'); put('', 'x')"
             page.js(code)
             page.rest(0.2)
-            found = broken_rules(page)
+            found = broken_rules(page) + page.js("document.documentElement.scrollWidth > innerWidth ? ['reflow'] : []")
             check(f"rules of accessibility: {state}, {width} wide, {scheme}", not found, "; ".join(found))
 
 

@@ -4,8 +4,8 @@
 pub const PAGE: &[u8] = b"\
 HTTP/1.1 200 OK\r\n\
 Content-Type: text/html; charset=utf-8\r\n\
-Content-Length: 41048\r\n\
-Content-Security-Policy: default-src 'none'; script-src 'sha256-Yu0v4LG0HfpGWlmlMuinmC3qA84R8mqfEkE6XTtzz7U='; style-src 'sha256-1Y/nhQtmJAukKFu/7p1oRXOC/r576tHZch+GkskHVQs='; connect-src 'self'; img-src data:; base-uri 'none'; form-action 'none'; frame-ancestors 'none'\r\n\
+Content-Length: 41071\r\n\
+Content-Security-Policy: default-src 'none'; script-src 'sha256-Yu0v4LG0HfpGWlmlMuinmC3qA84R8mqfEkE6XTtzz7U='; style-src 'sha256-thrpMf2pGlfBpcIioRODKBZQNqc4Zpb8yzcI5HLetVI='; connect-src 'self'; img-src data:; base-uri 'none'; form-action 'none'; frame-ancestors 'none'\r\n\
 X-Content-Type-Options: nosniff\r\n\
 Referrer-Policy: no-referrer\r\n\
 Cross-Origin-Opener-Policy: same-origin\r\n\
@@ -129,7 +129,7 @@ dt{font-family:var(--mono);color:var(--accent);white-space:nowrap} dd{margin:0}\
 \x20 #dot.up + span{position:absolute;width:1px;height:1px;overflow:hidden;clip-path:inset(50%)}\n\
 }\n\
 @media (prefers-reduced-motion:no-preference){#dot.wait{animation:b 1.2s infinite alternate}@keyframes b{to{opacity:.25}}}\n\
-@media (forced-colors:active){#dot{forced-color-adjust:none}}\n\
+@media (forced-colors:active){#dot{forced-color-adjust:none}.hit{outline:2px solid}}\n\
 @media print{header,footer,#panel,#more{display:none}body,main,#log{display:block;height:auto;overflow:visible}}\n\
 </style>\n\
 </head>\n\

@@ -1,6 +1,6 @@
 """Parts of page.py: what those need who don't see the page, or don't use a mouse.
 
-No Debian package has axe-core. So rules.js has the rules of it that matter here, over the page as the browser has laid it out."""
+Debian 12 has no package of axe-core. So rules.js has the rules of it that matter here, over the page as the browser has laid it out."""
 
 import json
 import pathlib

@@ -142,7 +142,7 @@ def main():
     seed = int(sys.argv[3]) if len(sys.argv) > 3 else random.randrange(1 << 32)
     chance = random.Random(seed)
     print(f"seed {seed}", flush=True)
-    with Page(sys.argv[1]) as server:
+    with Page(str(pathlib.Path(sys.argv[1]).resolve())) as server:
         try_examples(server)
         for made in range(count):
             try_request(chance, server.web)

@@ -4,8 +4,8 @@
 pub const PAGE: &[u8] = b"\
 HTTP/1.1 200 OK\r\n\
 Content-Type: text/html; charset=utf-8\r\n\
-Content-Length: 35980\r\n\
-Content-Security-Policy: default-src 'none'; script-src 'sha256-cwqYqe/Ytp4OM6QOmgF3nlIT/YNIjzlBcV5G16pizs0='; style-src 'sha256-ekENPUU0Zjb96nRar010bW9FR+57UbChvCoS20nKvB0='; connect-src 'self'; img-src data:; base-uri 'none'; form-action 'none'; frame-ancestors 'none'\r\n\
+Content-Length: 41071\r\n\
+Content-Security-Policy: default-src 'none'; script-src 'sha256-Yu0v4LG0HfpGWlmlMuinmC3qA84R8mqfEkE6XTtzz7U='; style-src 'sha256-thrpMf2pGlfBpcIioRODKBZQNqc4Zpb8yzcI5HLetVI='; connect-src 'self'; img-src data:; base-uri 'none'; form-action 'none'; frame-ancestors 'none'\r\n\
 X-Content-Type-Options: nosniff\r\n\
 Referrer-Policy: no-referrer\r\n\
 Cross-Origin-Opener-Policy: same-origin\r\n\
@@ -43,11 +43,12 @@ html,body{height:100%;margin:0}\n\
 body{display:grid;grid-template:auto minmax(0,1fr) auto/minmax(0,1fr);height:100dvh;background:var(--bg);color:var(--text);font:14px/1.45 var(--ui);overflow:hidden}\n\
 body.editing{grid-template-columns:minmax(0,1fr) minmax(340px,44%)}\n\
 button,input,select,textarea{font:inherit;color:inherit}\n\
-button{background:var(--box);border:1px solid var(--line);border-radius:8px;padding:6px 11px;cursor:pointer}\n\
+button{background:var(--box);border:1px solid var(--edge);border-radius:8px;padding:6px 11px;cursor:pointer}\n\
 button:hover{border-color:var(--accent)}\n\
 button.go{background:var(--accent);border-color:var(--accent);color:var(--on);font-weight:600}\n\
 button:disabled{opacity:.5;cursor:default}\n\
 :focus-visible{outline:2px solid var(--accent);outline-offset:2px}\n\
+::selection{background:var(--accent);color:var(--on)}\n\
 [hidden]{display:none!important}\n\
 .sr{position:absolute;width:1px;height:1px;overflow:hidden;clip-path:inset(50%);white-space:nowrap}\n\
 .skip:focus{position:fixed;left:8px;top:8px;width:auto;height:auto;clip-path:none;background:var(--accent);color:var(--on);padding:8px 12px;border-radius:8px;z-index:9}\n\
@@ -59,7 +60,7 @@ header h1{font-size:15px;margin:0;white-space:nowrap;overflow:hidden;text-overfl
 #dot.up{background:var(--good)} #dot.down{background:var(--bad)}\n\
 header button{padding:5px 9px;min-height:32px}\n\
 \n\
-main{position:relative;min-height:0;display:flex}\n\
+main{grid-area:2/1/3/2;position:relative;min-height:0;display:flex}\n\
 #log{flex:1;overflow-y:auto;overflow-anchor:none;padding:12px 16px 18px;font:var(--size)/1.5 var(--mono);scrollbar-gutter:stable;overscroll-behavior:contain}\n\
 #log .in,footer .in{max-width:calc(var(--size)*56);margin:0 auto}\n\
 #log:focus-visible{outline-offset:-3px}\n\
@@ -69,15 +70,21 @@ main{position:relative;min-height:0;display:flex}\n\
 .note.bad{color:var(--bad);border-color:var(--bad)} .note.good{color:var(--good);border-color:var(--good)}\n\
 .mark{border-top:1px dashed var(--accent);margin:6px 0;height:0}\n\
 .rule{white-space:pre;overflow:hidden}\n\
+.l.narrow{padding-left:calc(var(--in,0px) + 2ch);text-indent:calc(-2ch - var(--in,0px))} .narrow .gap{white-space:normal;margin-right:1ch}\n\
 body.flow .l.j,body.flow .l.k{display:inline} body.flow .l.j::before{content:none} body.flow .l.j::after{content:\" \"} body.flow .l.k::after{content:\"\\A\";white-space:pre}\n\
 ::placeholder{color:var(--dim);opacity:1}\n\
 .speech{color:var(--speech)} .private{color:var(--private)} .exits{color:var(--exits)} .number{color:var(--number)}\n\
 .l a{color:var(--link);text-underline-offset:2px}\n\
 body.times:not(.flow) .l{position:relative;padding-left:calc(7.5ch + var(--in,0px))}\n\
 body.times:not(.flow) .l[data-t]::after{content:attr(data-t);position:absolute;left:0;top:0;color:var(--dim);font-size:.8em;line-height:1.9;text-indent:0;-webkit-user-select:none;user-select:none}\n\
+.hit,.hit *,.hit::before{background:var(--accent);color:var(--on)!important}\n\
+#find{position:absolute;top:8px;right:22px;z-index:2;display:flex;gap:6px;align-items:center;background:var(--bar);border:1px solid var(--line);border-radius:12px;padding:6px;box-shadow:var(--shadow)}\n\
+#find input{width:200px;min-width:0;padding:6px 10px} #find button{flex:none;min-width:34px;min-height:34px;padding:4px 9px}\n\
+#found{color:var(--dim);font-size:13px;white-space:nowrap;min-width:4.5em;text-align:center}\n\
+body.times:not(.flow) .l.narrow{padding-left:calc(9.5ch + var(--in,0px))}\n\
 #more{position:absolute;right:22px;bottom:14px;background:var(--accent);color:var(--on);border-color:var(--accent);border-radius:999px;box-shadow:var(--shadow);font-weight:600}\n\
 \n\
-footer{background:var(--bar);border-top:1px solid var(--line);padding:8px 16px max(6px,env(safe-area-inset-bottom))}\n\
+footer{grid-area:3/1/4/2;overflow:hidden;scrollbar-gutter:stable;background:var(--bar);border-top:1px solid var(--line);padding:8px 16px max(6px,env(safe-area-inset-bottom))}\n\
 #sign{display:flex;flex-wrap:wrap;gap:8px;align-items:center;margin-bottom:8px}\n\
 #sign label{display:contents} #sign input{flex:1 1 120px;min-width:0;max-width:240px;padding:8px 10px} #sign button{min-height:38px}\n\
 input,select,textarea{background:var(--box);border:1px solid var(--edge);border-radius:8px}\n\
@@ -87,14 +94,15 @@ input,select,textarea{background:var(--box);border:1px solid var(--edge);border-
 #type{flex:1;min-width:0;resize:none;padding:9px 12px;font:var(--size)/1.4 var(--mono);max-height:38vh;min-height:42px;display:block}\n\
 #send{min-height:42px;padding:0 16px}\n\
 #hint{color:var(--dim);font-size:12.5px;min-height:1.45em;margin-top:4px}\n\
-#hint b{color:var(--warn);font-weight:600}\n\
+#told.bad{color:var(--warn);font-weight:600}\n\
 \n\
 #panel{grid-area:2/2/4/3;border-left:1px solid var(--line);background:var(--bar);display:flex;flex-direction:column;gap:8px;padding:12px;min-height:0;min-width:0}\n\
 #panel h2,dialog h2{font-size:15px;margin:0}\n\
 #panel .head{display:flex;align-items:center;justify-content:space-between}\n\
 #panel .bar{display:flex;flex-wrap:wrap;gap:8px;align-items:center}\n\
-#panel input{padding:7px 10px;font-family:var(--mono);flex:1 1 150px;min-width:0}\n\
+#panel input{padding:6px 10px;font:13.5px/1.6 var(--mono);flex:1 1 150px;min-width:0}\n\
 #code{flex:1;min-height:120px;resize:none;padding:10px;font:13.5px/1.5 var(--mono);white-space:pre;overflow:auto;tab-size:2}\n\
+#code.text{white-space:pre-wrap;overflow-wrap:anywhere}\n\
 #said{white-space:pre-wrap;font:13px/1.45 var(--mono);max-height:24vh;overflow:auto;margin:0;color:var(--dim)}\n\
 #said.bad{color:var(--bad)} #said.good{color:var(--good)}\n\
 \n\
@@ -114,12 +122,14 @@ dt{font-family:var(--mono);color:var(--accent);white-space:nowrap} dd{margin:0}\
 @media (max-width:560px){\n\
 \x20 header{padding:6px 8px;gap:5px} header h1{font-size:14px} header .wide{display:none}\n\
 \x20 #log{padding:8px 10px 12px} footer{padding:6px 8px max(6px,env(safe-area-inset-bottom))}\n\
-\x20 #type,input,select,#code{font-size:16px} #hint:empty{display:none}\n\
+\x20 #type,input,#panel input,select,#code{font-size:16px} #hint{min-height:0}\n\
+\x20 #find{left:8px;right:8px} #find input{flex:1;width:0}\n\
+\x20 body.off header h1{position:absolute;width:1px;height:1px;overflow:hidden;clip-path:inset(50%)}\n\
 \x20 #sign input{max-width:none;flex-basis:40%} #sign button{flex:1}\n\
 \x20 #dot.up + span{position:absolute;width:1px;height:1px;overflow:hidden;clip-path:inset(50%)}\n\
 }\n\
 @media (prefers-reduced-motion:no-preference){#dot.wait{animation:b 1.2s infinite alternate}@keyframes b{to{opacity:.25}}}\n\
-@media (forced-colors:active){#dot{forced-color-adjust:none}}\n\
+@media (forced-colors:active){#dot{forced-color-adjust:none}.hit{outline:2px solid}}\n\
 @media print{header,footer,#panel,#more{display:none}body,main,#log{display:block;height:auto;overflow:visible}}\n\
 </style>\n\
 </head>\n\
@@ -129,7 +139,8 @@ dt{font-family:var(--mono);color:var(--accent);white-space:nowrap} dd{margin:0}\
 \x20 <h1 id=\"name\">MOO</h1>\n\
 \x20 <div id=\"state\" role=\"status\"><span id=\"dot\" class=\"wait\"></span><span id=\"said-state\">connecting ..</span><span id=\"count\" aria-hidden=\"true\"></span></div>\n\
 \x20 <button id=\"again\" hidden>Connect</button>\n\
-\x20 <button id=\"edit\" aria-expanded=\"false\" aria-controls=\"panel\" title=\"Verb editor (Alt+E)\">Editor</button>\n\
+\x20 <button id=\"edit\" aria-expanded=\"false\" aria-controls=\"panel\" title=\"Editor (Alt+E)\">Editor</button>\n\
+\x20 <button id=\"seek\" class=\"wide\" aria-expanded=\"false\" aria-controls=\"find\" title=\"Find in the log (Ctrl+Shift+F)\">Find</button>\n\
 \x20 <button id=\"smaller\" class=\"wide\" aria-label=\"Smaller text\">A&minus;</button>\n\
 \x20 <button id=\"larger\" class=\"wide\" aria-label=\"Larger text\">A+</button>\n\
 \x20 <button id=\"options\" aria-haspopup=\"dialog\" title=\"Settings and keys (F1)\">Settings</button>\n\
@@ -137,12 +148,13 @@ dt{font-family:var(--mono);color:var(--accent);white-space:nowrap} dd{margin:0}\
 <main>\n\
 \x20 <div id=\"log\" role=\"log\" aria-live=\"polite\" aria-relevant=\"additions\" aria-label=\"What the world says\" tabindex=\"0\"><div class=\"in\" id=\"lines\"></div></div>\n\
 \x20 <button id=\"more\" hidden></button>\n\
+\x20 <form id=\"find\" role=\"search\" hidden><label class=\"sr\" for=\"sought\">Find in the log</label><input id=\"sought\" placeholder=\"Find in the log\" autocapitalize=\"off\" autocomplete=\"off\" spellcheck=\"false\" enterkeyhint=\"search\"><span id=\"found\" role=\"status\"></span><button id=\"earlier\" aria-label=\"Earlier\">&uarr;</button><button id=\"later\" type=\"button\" aria-label=\"Later\">&darr;</button><button id=\"shut-find\" type=\"button\" aria-label=\"Close the search\">Close</button></form>\n\
 </main>\n\
-<aside id=\"panel\" aria-label=\"Verb editor\" hidden>\n\
-\x20 <div class=\"head\"><h2 id=\"panel-name\">Verb editor</h2><button id=\"shut\" aria-label=\"Close the editor\">Close</button></div>\n\
-\x20 <form class=\"bar\" id=\"which\"><label class=\"sr\" for=\"verb\">Object and verb</label><input id=\"verb\" placeholder=\"lamp:rub or #12:look_self\" autocapitalize=\"off\" autocomplete=\"off\" spellcheck=\"false\"><button id=\"fetch\">Fetch</button><button id=\"save\" type=\"button\" class=\"go\" title=\"Ctrl+S\">Save</button></form>\n\
+<aside id=\"panel\" aria-labelledby=\"panel-name\" hidden>\n\
+\x20 <div class=\"head\"><h2 id=\"panel-name\">Editor</h2><button id=\"shut\" aria-label=\"Close the editor\">Close</button></div>\n\
+\x20 <form class=\"bar\" id=\"which\"><label class=\"sr\" for=\"verb\">Object and verb</label><input id=\"verb\" placeholder=\"lamp:rub, #12:rub\" autocapitalize=\"off\" autocomplete=\"off\" spellcheck=\"false\"><button id=\"fetch\">Fetch</button><button id=\"save\" type=\"button\" class=\"go\" title=\"Ctrl+S\">Save</button></form>\n\
 \x20 <label class=\"sr\" for=\"code\">Program</label>\n\
-\x20 <textarea id=\"code\" spellcheck=\"false\" autocapitalize=\"off\" autocomplete=\"off\" placeholder=\"The program, line by line. Fetch reads it with @list; Save sends it with .program.\"></textarea>\n\
+\x20 <textarea id=\"code\" spellcheck=\"false\" autocapitalize=\"off\" autocomplete=\"off\" placeholder=\"The lines of the program.&#10;Fetch reads them with @list.&#10;Save sends them with .program.\"></textarea>\n\
 \x20 <pre id=\"said\" role=\"status\"></pre>\n\
 </aside>\n\
 <footer><div class=\"in\">\n\
@@ -154,10 +166,10 @@ dt{font-family:var(--mono);color:var(--accent);white-space:nowrap} dd{margin:0}\
 \x20 <div id=\"pad\" role=\"group\" aria-label=\"Commands\" hidden></div>\n\
 \x20 <form id=\"row\">\n\
 \x20   <label class=\"sr\" for=\"type\">Your command</label>\n\
-\x20   <textarea id=\"type\" rows=\"1\" autocapitalize=\"off\" autocomplete=\"off\" autocorrect=\"off\" spellcheck=\"false\" enterkeyhint=\"send\" aria-describedby=\"hint\" placeholder=\"Type a command\"></textarea>\n\
+\x20   <textarea id=\"type\" rows=\"1\" autocapitalize=\"off\" autocomplete=\"off\" autocorrect=\"off\" spellcheck=\"false\" enterkeyhint=\"send\" aria-describedby=\"keys\" placeholder=\"Type a command\"></textarea>\n\
 \x20   <button id=\"send\" class=\"go\">Send</button>\n\
 \x20 </form>\n\
-\x20 <div id=\"hint\" role=\"status\"></div>\n\
+\x20 <div id=\"hint\"><span id=\"keys\">Enter sends &middot; Up: earlier lines &middot; F1: settings and keys</span><span id=\"told\" role=\"status\"></span></div>\n\
 </div></footer>\n\
 <dialog id=\"set\" aria-labelledby=\"set-name\">\n\
 \x20 <h2 id=\"set-name\">Settings</h2>\n\
@@ -169,14 +181,14 @@ dt{font-family:var(--mono);color:var(--accent);white-space:nowrap} dd{margin:0}\
 \x20 <label class=\"opt\">Sound when something comes <input type=\"checkbox\" id=\"o-bell\"></label>\n\
 \x20 <label class=\"opt\">Come back by itself <input type=\"checkbox\" id=\"o-back\"></label>\n\
 \x20 <label class=\"opt\">Lines kept <select id=\"o-keep\"><option>1000</option><option>5000</option><option>20000</option></select></label>\n\
-\x20 <div class=\"acts\"><button id=\"copy\">Copy the log</button><button id=\"file\">Save the log</button><button id=\"clear\">Clear</button></div>\n\
-\x20 <dl><dt>Enter</dt><dd>send; Shift+Enter begins another line</dd><dt>Up, Down</dt><dd>earlier lines; those that begin as typed</dd><dt>PgUp, PgDn</dt><dd>scroll, also while typing</dd><dt>Ctrl+Home, End</dt><dd>the first line, the last</dd><dt>Esc</dt><dd>back to the line of input; clears it</dd><dt>Alt+E</dt><dd>verb editor; Ctrl+S in it saves</dd><dt>F1</dt><dd>this page</dd></dl>\n\
+\x20 <div class=\"acts\"><button id=\"o-seek\">Find in the log</button><button id=\"copy\">Copy the log</button><button id=\"file\">Save the log</button><button id=\"clear\">Clear</button></div>\n\
+\x20 <dl><dt>Enter</dt><dd>send; Shift+Enter begins another line</dd><dt>Up, Down</dt><dd>earlier lines; those that begin as typed</dd><dt>PgUp, PgDn</dt><dd>scroll, also while typing</dd><dt>Ctrl+Home, End</dt><dd>the first line, the last</dd><dt>Ctrl+Shift+F</dt><dd>find in the log; Enter goes to earlier lines</dd><dt>Esc</dt><dd>back to the line of input; clears it</dd><dt>Alt+E</dt><dd>editor; Ctrl+S in it saves, Esc closes it</dd><dt>F1</dt><dd>these settings</dd></dl>\n\
 \x20 <form method=\"dialog\"><button class=\"go\">Done</button></form>\n\
 </dialog>\n\
 <script>\n\
 'use strict';\n\
 const $ = id => document.getElementById(id);\n\
-const log = $('log'), lines = $('lines'), type = $('type'), hint = $('hint'), root = document.documentElement;\n\
+const log = $('log'), lines = $('lines'), type = $('type'), root = document.documentElement;\n\
 const VISIBLE = () => document.visibilityState === 'visible' && document.hasFocus();\n\
 \n\
 // ---- settings\n\
@@ -204,14 +216,14 @@ $('larger').onclick = $('o-more').onclick = () => resize(1);\n\
 \n\
 // ---- the log\n\
 let stuck = true, unseen = 0, missed = 0, mark = null, pending = [], due = false, moving = 0;\n\
-const LINK = /\\bhttps?:\\/\\/[^\\s<>\"']+|(?<![\\w#])#\\d+\\b/gi;\n\
+const LINK = /\\bhttps?:\\/\\/[^\\s<>\"']+|(?<![\\w#])#-?\\d+\\b/gi;\n\
 // What a line of the world is, by how the starter world words it.\n\
 const KINDS = [['speech', /^(?:You (?:say|ask|exclaim)|.{1,60}? (?:says|asks|exclaims)),? \"/], ['private', /^.{1,60}? (?:pages|whispers to|page|whisper) [^\"]*: /], ['exits', /^Exits: /]];\n\
 function fill(into, text) {\n\
 \x20 let at = 0;\n\
 \x20 for (const m of text.matchAll(LINK)) {\n\
 \x20   if (m[0][0] === '#') {\n\
-\x20     into.append(text.slice(at, m.index));\n\
+\x20     words(into, text.slice(at, m.index));\n\
 \x20     const n = document.createElement('span');\n\
 \x20     n.className = 'number'; n.textContent = m[0]; into.append(n);\n\
 \x20     at = m.index + m[0].length;\n\
@@ -219,13 +231,21 @@ function fill(into, text) {\n\
 \x20   }\n\
 \x20   let url = m[0].replace(/[.,;:!?)\\]}]+$/, '');\n\
 \x20   if (m[0][url.length] === ')' && url.includes('(')) url += ')';\n\
-\x20   into.append(text.slice(at, m.index));\n\
+\x20   words(into, text.slice(at, m.index));\n\
 \x20   const a = document.createElement('a');\n\
 \x20   a.href = url; a.textContent = url; a.target = '_blank'; a.rel = 'noopener noreferrer nofollow';\n\
 \x20   into.append(a);\n\
 \x20   at = m.index + url.length;\n\
 \x20 }\n\
-\x20 into.append(text.slice(at));\n\
+\x20 words(into, text.slice(at));\n\
+}\n\
+// Spaces between columns are a part of their own: a line that is too long loses them.\n\
+function words(into, text) {\n\
+\x20 for (const part of text.split(/( {3,})/)) {\n\
+\x20   if (!part.startsWith('   ')) { into.append(part); continue; }\n\
+\x20   const gap = document.createElement('span');\n\
+\x20   gap.className = 'gap'; gap.textContent = part; into.append(gap);\n\
+\x20 }\n\
 }\n\
 const two = n => String(n).padStart(2, '0');\n\
 function lineOf(item) {\n\
@@ -235,10 +255,12 @@ function lineOf(item) {\n\
 \x20 if (kind) d.classList.add(kind[0]);\n\
 \x20 if (item.kind === 'own') d.setAttribute('aria-live', 'off');\n\
 \x20 if (/^\\s*([-~=_*#+.])\\1{15,}\\s*$/.test(item.text)) d.classList.add('rule');\n\
-\x20 const indent = /^ {1,12}(?=\\S)/.exec(item.text);\n\
-\x20 if (indent) d.style.setProperty('--in', indent[0].length + 'ch');\n\
+\x20 const indent = /^ *\\d+: +|^ {1,12}(?=\\S)/.exec(item.text);\n\
+\x20 if (indent) d.style.setProperty('--in', Math.min(indent[0].length, 12) + 'ch');\n\
 \x20 d.dataset.t = two(item.at.getHours()) + ':' + two(item.at.getMinutes());\n\
-\x20 fill(d, item.text);\n\
+\x20 const head = indent ? indent[0].length : 0;\n\
+\x20 d.append(item.text.slice(0, head)); fill(d, item.text.slice(head));\n\
+\x20 tabulate(d, item.text.length);\n\
 \x20 return d;\n\
 }\n\
 function put(kind, text) {\n\
@@ -270,7 +292,23 @@ function paragraph(item, d) {\n\
 \x20 if (!before || !last || before.text.length < 56 || before.text.length > 80 || before.text.length + item.text.split(' ', 1)[0].length < 76) return;\n\
 \x20 before.d.classList.remove('k'); before.d.classList.add('j'); d.classList.add('k');\n\
 }\n\
-function columns() { document.body.classList.toggle('flow', lines.clientWidth / (opt.size * .602) < 78); }\n\
+// The lines of a table, next to each other, lose their columns together.\n\
+let fit = 80, table = null;\n\
+function tabulate(d, length) {\n\
+\x20 if (!d.querySelector('.gap')) { table = null; return; }\n\
+\x20 if (!table || table.rows.length > 99) table = { n: 0, rows: [] };\n\
+\x20 table.rows.push(d);\n\
+\x20 const grew = length > table.n;\n\
+\x20 table.n = Math.max(table.n, length);\n\
+\x20 for (const row of grew ? table.rows : [d]) { row.dataset.n = table.n; narrow(row); }\n\
+}\n\
+function narrow(d) { d.classList.toggle('narrow', d.dataset.n > fit); }\n\
+function columns() {\n\
+\x20 const before = fit;\n\
+\x20 fit = Math.floor(lines.clientWidth / (opt.size * .602));\n\
+\x20 document.body.classList.toggle('flow', fit < 78);\n\
+\x20 if (fit !== before) lines.querySelectorAll('[data-n]').forEach(narrow);\n\
+}\n\
 function trim() { while (lines.childElementCount > opt.keep) lines.firstElementChild.remove(); }\n\
 function toEnd() { stuck = true; unseen = 0; showMore(); moving++; log.scrollTop = log.scrollHeight; requestAnimationFrame(() => { log.scrollTop = log.scrollHeight; moving--; }); }\n\
 function showMore() { $('more').hidden = stuck; $('more').textContent = unseen ? unseen + (unseen === 1 ? ' new line' : ' new lines') + ' \\u2193' : 'To the end \\u2193'; }\n\
@@ -311,12 +349,47 @@ $('file').onclick = () => {\n\
 };\n\
 $('clear').onclick = () => { lines.textContent = ''; };\n\
 \n\
+// ---- search in the log: the latest line first\n\
+let hits = [], hit = 0;\n\
+function unmark() { for (const d of lines.querySelectorAll('.hit')) d.classList.remove('hit'); }\n\
+function search() {\n\
+\x20 const text = $('sought').value.trim().toLowerCase();\n\
+\x20 hits = text ? [...lines.children].filter(d => d.textContent.toLowerCase().includes(text)) : [];\n\
+\x20 hit = 0; step(-1);\n\
+}\n\
+function step(by) {\n\
+\x20 const before = hits[hit];\n\
+\x20 hits = hits.filter(d => d.isConnected); unmark();\n\
+\x20 if (!hits.length) { $('found').textContent = $('sought').value.trim() ? 'nothing' : ''; return; }\n\
+\x20 hit = (Math.max(0, hits.indexOf(before)) + by + hits.length) % hits.length;\n\
+\x20 const d = hits[hit], says = document.createElement('span');\n\
+\x20 d.classList.add('hit'); d.scrollIntoView({ block: 'center' });\n\
+\x20 says.className = 'sr'; says.textContent = ': ' + d.textContent;\n\
+\x20 $('found').replaceChildren(hit + 1 + ' of ' + hits.length, says);\n\
+}\n\
+function finder(show) {\n\
+\x20 $('find').hidden = !show; $('seek').setAttribute('aria-expanded', show);\n\
+\x20 if (show) { $('sought').focus(); $('sought').select(); search(); } else { unmark(); type.focus(); }\n\
+}\n\
+$('seek').onclick = () => finder($('find').hidden);\n\
+$('shut-find').onclick = () => finder(false);\n\
+$('o-seek').onclick = () => { $('set').addEventListener('close', () => finder(true), { once: true }); $('set').close(); };\n\
+$('sought').addEventListener('input', search);\n\
+$('later').onclick = () => step(1);\n\
+$('find').onsubmit = e => { e.preventDefault(); step(-1); };\n\
+$('find').addEventListener('keydown', e => {\n\
+\x20 if (e.key === 'Escape') { e.preventDefault(); e.stopPropagation(); finder(false); }\n\
+\x20 if (e.key === 'Enter' && e.shiftKey && e.target === $('sought')) { e.preventDefault(); step(1); }\n\
+});\n\
+\n\
 // ---- the connection\n\
 let ws = null, tries = 0, timer = 0, left = 0, closing = false, half = '', decoder = null;\n\
 const BAD = /[\\x00-\\x08\\x0b-\\x1f\\x7f]/g, COLOUR = /\\x1b\\[[0-9;]*[A-Za-z]/g;\n\
 function state(kind, text) {\n\
 \x20 $('dot').className = kind; $('said-state').textContent = text; $('count').textContent = '';\n\
 \x20 $('again').hidden = kind === 'up'; $('send').disabled = kind !== 'up';\n\
+\x20 document.body.classList.toggle('off', kind !== 'up');\n\
+\x20 if (kind === 'up') tell('');\n\
 }\n\
 function connect() {\n\
 \x20 clearInterval(timer);\n\
@@ -361,7 +434,7 @@ function said(line) {\n\
 \x20 if (captured(line)) return;\n\
 \x20 const named = /^\\s+((?:The )?[A-Z][\\w' -]{2,40})\\s*$/.exec(line);\n\
 \x20 if (world === 'MOO' && named && !isIn) { world = named[1].trim(); $('name').textContent = world; title(); }\n\
-\x20 if (/^\\*\\*\\* (Connected|Created|Redirecting connection to new port) \\*\\*\\*$/.test(line)) { isIn = true; sign(false); }\n\
+\x20 if (/^\\*\\*\\* (Connected|Created|Redirecting old connection to this port) \\*\\*\\*$/.test(line)) { isIn = true; sign(false); }\n\
 \x20 if (/^\\*\\*\\* Disconnected \\*\\*\\*$/.test(line)) closing = true;\n\
 \x20 if (local(line)) return;\n\
 \x20 put('said', line);\n\
@@ -397,10 +470,10 @@ function typed(text) {\n\
 \x20 return true;\n\
 }\n\
 let telling = 0;\n\
-const KEYS = touch ? '' : 'Enter sends \\u00b7 Up: earlier lines \\u00b7 F1: settings and keys';\n\
 function tell(text, bad) {\n\
 \x20 clearTimeout(telling);\n\
-\x20 const b = document.createElement(bad ? 'b' : 'span'); b.textContent = text || KEYS; hint.replaceChildren(b);\n\
+\x20 $('told').textContent = text || ''; $('told').className = bad ? 'bad' : '';\n\
+\x20 $('keys').hidden = touch || !!text;\n\
 \x20 if (text) telling = setTimeout(tell, 8000);\n\
 }\n\
 \n\
@@ -443,6 +516,7 @@ type.addEventListener('keydown', e => {\n\
 // Typing anywhere goes into the line of input.\n\
 addEventListener('keydown', e => {\n\
 \x20 if (e.key === 'F1') { e.preventDefault(); $('set').open ? $('set').close() : $('options').click(); return; }\n\
+\x20 if (e.ctrlKey && e.shiftKey && e.key.toLowerCase() === 'f') { e.preventDefault(); finder(true); return; }\n\
 \x20 if (e.altKey && e.key.toLowerCase() === 'e') { e.preventDefault(); panel($('panel').hidden); return; }\n\
 \x20 if ($('set').open || e.target === type || /^(INPUT|TEXTAREA|SELECT)$/.test(e.target.tagName)) return;\n\
 \x20 if (e.key === 'Escape') type.focus();\n\
@@ -452,8 +526,9 @@ log.addEventListener('click', () => { if (!touch && getSelection().isCollapsed) 
 \n\
 // ---- coming in\n\
 function sign(show) {\n\
+\x20 const had = $('sign').contains(document.activeElement);\n\
 \x20 $('sign').hidden = !show || isIn; $('pad').hidden = !opt.pad || !isIn;\n\
-\x20 if (!show || isIn) { $('pass').value = ''; if (document.activeElement === document.body) type.focus(); return; }\n\
+\x20 if (!show || isIn) { $('pass').value = ''; if (had || document.activeElement === document.body) type.focus(); return; }\n\
 \x20 $('who').value = opt.who || '';\n\
 }\n\
 $('sign').onsubmit = e => {\n\
@@ -463,7 +538,7 @@ $('sign').onsubmit = e => {\n\
 \x20 if (!who) { tell('A name is wanted.', true); $('who').focus(); return; }\n\
 \x20 if (/\\s/.test(who)) { tell('A name is one word.', true); $('who').focus(); return; }\n\
 \x20 opt.who = who; keepSettings();\n\
-\x20 typed(how + ' ' + who + (pass ? ' ' + pass : '')); $('pass').value = ''; type.focus();\n\
+\x20 typed(how + ' ' + who + (pass ? ' ' + pass : '')); $('pass').value = ''; $('pass').focus();\n\
 };\n\
 \n\
 // ---- buttons\n\
@@ -479,6 +554,7 @@ $('set').addEventListener('close', () => type.focus());\n\
 // ---- the editor: `@list` between a prefix and a suffix is read, `.program` writes; `#$# edit` opens it\n\
 const captures = [];\n\
 let upload = '', editing = null;\n\
+function uploadBy(command) { upload = command; $('code').classList.toggle('text', command !== '' && !command.startsWith('.program ')); }\n\
 function panel(show) {\n\
 \x20 $('panel').hidden = !show; document.body.classList.toggle('editing', show); $('edit').setAttribute('aria-expanded', show);\n\
 \x20 (show ? ($('verb').value ? $('code') : $('verb')) : type).focus(); if (stuck) toEnd();\n\
@@ -486,7 +562,7 @@ function panel(show) {\n\
 $('edit').onclick = () => panel($('panel').hidden);\n\
 $('shut').onclick = () => panel(false);\n\
 $('panel').addEventListener('keydown', e => {\n\
-\x20 if (e.key === 'Escape') { e.preventDefault(); type.focus(); }\n\
+\x20 if (e.key === 'Escape') { e.preventDefault(); panel(false); }\n\
 \x20 if ((e.ctrlKey || e.metaKey) && e.key.toLowerCase() === 's') { e.preventDefault(); $('save').click(); }\n\
 });\n\
 function tellPanel(kind, text) { $('said').className = kind; $('said').textContent = text; }\n\
@@ -506,12 +582,13 @@ function captured(line) {\n\
 \x20 if (c.on) c.got.push(line);\n\
 \x20 return c.on;\n\
 }\n\
+const NO_VERB = 'Name an object, a colon and a verb, such as lamp:rub. For a text type  @local on  and then  @edit lamp.';\n\
 const NAME = /^\\s*([^:\\s][^:]*):(\\S+)\\s*$/;\n\
 $('which').onsubmit = e => {\n\
 \x20 e.preventDefault();\n\
-\x20 if (!NAME.test($('verb').value)) return tellPanel('bad', 'Say which verb: an object, a colon and a verb, as lamp:rub.');\n\
+\x20 if (!NAME.test($('verb').value)) return tellPanel('bad', NO_VERB);\n\
 \x20 if ($('code').value.trim() && $('code').value !== editing && !confirm('Drop what is in the editor?')) return;\n\
-\x20 tellPanel('', 'reading ..'); upload = '';\n\
+\x20 tellPanel('', 'reading ..'); uploadBy('');\n\
 \x20 ask(['@list ' + plain($('verb').value.trim())], got => {\n\
 \x20   if (!got) return tellPanel('bad', 'No answer.');\n\
 \x20   const head = /^(#\\d+):\"([^\"\\s*]+)/.exec(got[0] || ''), code = [];\n\
@@ -528,7 +605,7 @@ $('save').onclick = () => {\n\
 \x20   for (const l of [upload, ...body.map(l => l === '.' ? '. ' : l), '.']) if (!send(l)) return tellPanel('bad', 'Not connected.');\n\
 \x20   editing = $('code').value; return tellPanel('', 'sent; the answer is in the log.');\n\
 \x20 }\n\
-\x20 if (!name) return tellPanel('bad', 'Say which verb: an object, a colon and a verb, as lamp:rub.');\n\
+\x20 if (!name) return tellPanel('bad', NO_VERB);\n\
 \x20 if (body.some(l => l.trim() === '.')) return tellPanel('bad', 'A line that is a dot alone would end the program.');\n\
 \x20 tellPanel('', 'sending ..');\n\
 \x20 const from = $('code').value;\n\
@@ -557,7 +634,7 @@ function local(line) {\n\
 \x20   }\n\
 \x20 }\n\
 \x20 if (edits) {\n\
-\x20   if (line === '.') { const e = edits; edits = null; upload = e.upload; $('verb').value = e.name; $('code').value = editing = e.got.join('\\n'); tellPanel('', 'Save sends it by: ' + e.upload); panel(true); }\n\
+\x20   if (line === '.') { const e = edits; edits = null; uploadBy(e.upload); $('verb').value = e.name; $('code').value = editing = e.got.join('\\n'); tellPanel('', 'Save sends: ' + e.upload); panel(true); }\n\
 \x20   else edits.got.push(line.replace(/^\\.(?=\\.)/, ''));\n\
 \x20   return true;\n\
 \x20 }\n\
@@ -565,7 +642,7 @@ function local(line) {\n\
 \x20 if (m) { edits = { name: m[1], upload: m[2], got: [] }; return true; }\n\
 \x20 return /^#\\$#/.test(line);\n\
 }\n\
-$('verb').addEventListener('input', () => { upload = ''; });\n\
+$('verb').addEventListener('input', () => uploadBy(''));\n\
 $('code').addEventListener('keydown', e => {\n\
 \x20 if (e.key !== 'Enter' || e.shiftKey || e.ctrlKey || e.altKey || e.isComposing) return;\n\
 \x20 const c = e.target, before = c.value.slice(0, c.selectionStart), line = before.slice(before.lastIndexOf('\\n') + 1), pad = /^\\s*/.exec(line)[0] + (/^\\s*(if|else|elseif|for|while|fork|try|except|finally)\\b(?!.*;\\s*$)/.test(line) ? '  ' : '');\n\

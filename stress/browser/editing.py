@@ -1,0 +1,64 @@
+"""Parts of page.py: the editor of verbs and of texts."""
+
+from checks import entered
+from chromium import ALT, CONTROL
+
+CODE = "document.getElementById('code').value"
+SAID = "document.getElementById('said')"
+
+
+def fill(page, name, code):
+    """Puts a name and lines into the editor, which is open."""
+    page.js(f"document.getElementById('verb').value = {name!r}; {CODE} = {code!r}")
+
+
+def a_verb_is_edited(check, served, browser):
+    page = entered(served, browser, "connect", "wizard", served.password())
+    page.line("@create $thing named brass lamp,lamp", 0.3)
+    page.line("@verb lamp:rub this none none", 0.3)
+    page.key("e", ALT)
+    fill(page, "lamp:rub", 'if (1)\n  player:tell("It glows.");\nendif')
+    page.click("#save")
+    page.until(SAID + ".className === 'good'")
+    check("the editor programs a verb", True)
+    page.js(f"{CODE} = ''; editing = ''")
+    page.click("#fetch")
+    page.until(CODE + ".includes('It glows.')")
+    check("and fetches it", "  player:tell" in page.js(CODE))
+    page.js(CODE + " = 'player:tell(1);\\nfoo('")
+    page.js("document.getElementById('code').focus()")
+    page.key("s", CONTROL)
+    page.until(SAID + ".className === 'bad'")
+    check("Ctrl+S saves, a fault is shown, and its line chosen", page.js("document.getElementById('code').selectionStart") == 16, page.js(SAID + ".textContent"))
+    fill(page, "nothing:x", "say leaked")
+    page.click("#save")
+    page.until(SAID + ".textContent.includes('No such verb')")
+    page.rest(0.3)
+    check("a refused program's lines are not sent as commands", "leaked" not in page.text())
+    page.js("document.getElementById('code').focus()")
+    page.key("Escape")
+    check("Escape closes the editor", page.js("document.getElementById('panel').hidden && document.activeElement.id") == "type")
+    page.line("rub lamp", 0)
+    page.until("lines.innerText.includes('It glows.')")
+    check("the verb runs", True)
+
+
+def a_text_is_edited(check, served, browser):
+    page = entered(served, browser, "connect", "wizard", served.password())
+    for line in ("@create $note named list,list", "@local on", "@edit list"):
+        page.line(line, 0.3)
+    page.until("!document.getElementById('panel').hidden")
+    check("`@edit` opens the editor with a note", page.js("document.getElementById('verb').value") == "list.text" and page.js("document.activeElement.id") == "code")
+    page.type("milk\n.\n  eggs")
+    page.click("#save")
+    page.line("", 0.3)
+    page.js("panel(false)")
+    page.line("read list", 0)
+    page.until("lines.innerText.includes('eggs')")
+    check("Save writes its lines", all(line in page.text() for line in ("milk", "  eggs")), page.text()[-200:])
+    page.line(';notify(player, "#$# edit name: Note upload: @describe lamp as"); notify(player, "one"); notify(player, "."); return 0', 0)
+    page.until("!document.getElementById('panel').hidden")
+    check("`#$# edit` opens the editor", page.js(CODE) == "one")
+
+
+PARTS = [a_verb_is_edited, a_text_is_edited]

@@ -1,11 +1,11 @@
 -- Callers that are accepted, and those that make a step.
 use Rattle.std.proofs.Common.{◌≡◌, ◌≢◌, ◌⊎◌, ℕ, Option, None, Some, inl, inr, refl, sym, ◌∙◌, ap, subst, true}
-use Rattle.std.specs.Prelude.{IfSome, IsSome, Ok, Result}
+use Rattle.std.specs.Prelude.{IfSome, IsSome}
 use Rattle.std.proofs.lemmas.Bool.{cases_eq}
 use Rattle.slab.specs.Slab.{SameValues, Slab, Updates, get, with_value}
 use Rattle.slab.proofs.SlabLemmas.{Updates-with_value}
 use Rattle.moo_cli_web_listener.specs.declared.caller.Caller.{Caller}
-use Rattle.moo_cli_web_listener.specs.Callers.{Accepts, IsStepped, KeepsOne, MakesRoom, is_upgrading}
+use Rattle.moo_cli_web_listener.specs.Callers.{Accepts, IsStepped, MakesRoom, is_upgrading}
 
 pub stepped_same : (was is : Option Caller) → is ≡ was → IsStepped was is
 stepped_same None is same = same

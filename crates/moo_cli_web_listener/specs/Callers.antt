@@ -1,5 +1,5 @@
 -- The callers of a listener: what came of their requests, and how far the responses are.
-use Rattle.std.specs.Prelude.{◌≡◌, ◌≢◌, ◌⊎◌, ℕ, ◌<◌, ◌≤◌, Bool, false, true, List, [], ◌++◌, drop, length, Option, None, Some, IfSome}
+use Rattle.std.specs.Prelude.{◌≡◌, ◌⊎◌, ℕ, ◌<◌, ◌≤◌, Bool, false, true, List, [], ◌++◌, drop, Option, None, Some, IfSome}
 use Rattle.std.specs.Io.{StartsWith}
 use Rattle.slab.specs.Slab.{SameValues, Slab, Updates, get, slab_len}
 use Rattle.moo_cli_web_page.specs.declared.page.TheConstants.{PAGE}

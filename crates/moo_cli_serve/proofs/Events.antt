@@ -116,7 +116,7 @@ module _ {S Application D : Type 0} (l : Layer S Application Saved) (kind : Disk
   course_refused_round cause old moment events after new round = by_place round.refused
     where
       by_place : ((refused : IsRefused l kind cause round.first old.server old.disk after new) × (events ≡ refused.taken))
-          ⊎ ((parted : RefusesParted l kind cause old.clients.most_waiting round.first old.server old.disk round.read old.timeouts.silence after new) × (events ≡ round.first ++ parted.refused.taken))
+          ⊎ ((parted : RefusesParted l kind cause old.clients.most_waiting round.first old.server old.disk round.read.sockets old.timeouts.silence after new) × (events ≡ round.first ++ parted.refused.taken))
           → Course l kind old.server old.disk events after new
       by_place (inl (refused, is)) =
           subst (λ (es : List Event). Course l kind old.server old.disk es after new) (sym is) (course_refusal cause round.first old.server after old.disk new refused)

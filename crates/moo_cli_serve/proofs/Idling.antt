@@ -5,9 +5,12 @@ use Rattle.std.specs.List.{AllPairs}
 use Rattle.std.proofs.lemmas.Bool.{cases_eq, cases_lt, eqb-true, le-ltb, true≢false}
 use Rattle.std.proofs.lemmas.List.{append-nil}
 use Rattle.std.proofs.lemmas.List.Elements.{Contains-append_left, Contains-append_right}
-use Rattle.slab.specs.Slab.{Slab}
+use Rattle.std.specs.Option.{option_map}
+use Rattle.slab.specs.Slab.{Slab, get}
 use Rattle.moo_cli_sockets.specs.declared.socket.Socket.{Socket}
 use Rattle.moo_cli_sockets.specs.Coming.{Follow, held, held_after, held_through}
+use Rattle.moo_cli_sockets.specs.Waiting.{waits_of}
+use Rattle.moo_cli_sockets.proofs.Keeping.{keeps_same}
 use Rattle.moo_dbtext_read.specs.Saved.{Saved}
 use Rattle.moo_server_core.specs.Application.{Layer}
 use Rattle.moo_server_core.specs.Server.{waiting_of}
@@ -21,19 +24,26 @@ use Rattle.moo_cli_serve.specs.Writing.{IsLeft, IsWritten, IsWrittenTo, is_among
 use Rattle.moo_cli_serve.proofs.Carrying.{carried}
 
 -- nothing is written to a socket for which there is no output, and it stays
-rests : (most : ℕ) (waits : List ℕ) (c : ℕ) → length waits ≤ most → IsWritten most false false [] [] (Some waits) (Some waits) c None
-rests most waits c few = (
+rests : (most : ℕ) (socket : Socket) (c : ℕ) → length (waits_of socket) ≤ most → IsWritten most false false [] [] (Some socket) (Some socket) c None
+rests most socket c few = (
   refl,
   record {
-    rest = Some waits;
-    out = ([], append-nil waits);
-    stays = sym (ap (λ (b : Bool). if b then None else Some waits) goes_on);
+    rest = Some (waits_of socket);
+    out = ([], append-nil (waits_of socket));
+    fails = λ no. absurd cc;
+    stays = sym (ap (λ (b : Bool). if b then None else Some (waits_of socket)) goes_on);
+    keeps = keeps_same socket socket (refl, refl, refl, refl);
     parts = sym (ap (λ (b : Bool). if b then Some (the.Hangup c) else None) goes_on);
   },
 )
   where
-    goes_on : is_parted most false false (Some (length waits)) ≡ false
-    goes_on = rw (le-ltb most (length waits) few) refl
+    goes_on : is_parted most false false (Some (length (waits_of socket))) ≡ false
+    goes_on = rw (le-ltb most (length (waits_of socket)) few) refl
+
+-- a connection for which nothing is held has no socket
+pub no_socket : (slot : Option Socket) → option_map (λ (socket : Socket). waits_of socket) slot ≡ None → slot ≡ None
+no_socket None none = refl
+no_socket (Some socket) none = absurd cc
 
 -- what was read or closed leaves room
 room_through : (most c : ℕ) (was : Option (List ℕ)) (event : Event) → length (bytes_held was) ≤ most → length (bytes_held (held_through c was event)) ≤ most
@@ -68,23 +78,23 @@ module _ {S Application : Type 0} (l : Layer S Application Saved) where
       → (settled ≡ true → HaveRoom most old) → IsLeft l c before after old new → IsWrittenTo l most (is_among late c) before after old new c None
   idle_writes most settled late before after old new c below idle room left = by_case idle
     where
-      without : held old c ≡ None → IsWrittenTo l most (is_among late c) before after old new c None
+      without : get old c ≡ None → IsWrittenTo l most (is_among late c) before after old new c None
       without none =
           carried most (is_among late c) (leaves l before c) (leaves l before c) ((waiting_of l before).sent c) ((waiting_of l before).sent c) ((waiting_of l after).sent c) ((waiting_of l after).sent c)
-          None (held old c) None (held new c) c None refl refl refl none (left.socket ∙ none) (left.waiting, refl, refl)
+          None (get old c) None (get new c) c None refl refl refl none (left.socket ∙ none) (left.waiting, refl, refl)
 
-      by_held : (was : Option (List ℕ)) → held old c ≡ was → HaveRoom most old → (waiting_of l before).sent c ≡ [] → leaves l before c ≡ false → is_among late c ≡ false
+      by_slot : (slot : Option Socket) → get old c ≡ slot → HaveRoom most old → (waiting_of l before).sent c ≡ [] → leaves l before c ≡ false → is_among late c ≡ false
           → IsWrittenTo l most (is_among late c) before after old new c None
-      by_held None is fits nothing goes early = without is
-      by_held (Some waits) is fits nothing goes early =
+      by_slot None is fits nothing goes early = without is
+      by_slot (Some socket) is fits nothing goes early =
           subst (λ (b : Bool). IsWrittenTo l most b before after old new c None) (sym early)
           (carried most false false (leaves l before c) [] ((waiting_of l before).sent c) [] ((waiting_of l after).sent c)
-          (Some waits) (held old c) (Some waits) (held new c) c None goes nothing (left.waiting ∙ nothing) is (left.socket ∙ is)
-          (rests most waits c (subst (λ (w : Option (List ℕ)). length (bytes_held w) ≤ most) is (fits c below))))
+          (Some socket) (get old c) (Some socket) (get new c) c None goes nothing (left.waiting ∙ nothing) is (left.socket ∙ is)
+          (rests most socket c (subst (λ (slot : Option Socket). length (bytes_held (option_map (λ (s : Socket). waits_of s) slot)) ≤ most) is (fits c below))))
 
       by_case : IsIdle l settled late before old c → IsWrittenTo l most (is_among late c) before after old new c None
-      by_case (inl none) = without none
-      by_case (inr rest) = by_held (held old c) refl (room rest.0) rest.1 rest.2 rest.3
+      by_case (inl none) = without (no_socket (get old c) none)
+      by_case (inr rest) = by_slot (get old c) refl (room rest.0) rest.1 rest.2 rest.3
 
   -- an idle connection has room
   pub idle_room : (most : ℕ) (settled : Bool) (late : List ℕ) (server : ServerCore S) (old : Slab Socket) (c : ℕ) → c < 65536 → IsIdle l settled late server old c

@@ -1,11 +1,12 @@
 -- A server over a disk, begun and brought to its end.
 use Rattle.std.proofs.Common.{◌≡◌, ◌⊎◌, inl, inr, ℕ, ◌+◌, ◌<◌, List, ◌++◌, Bool, true, false, refl, sym, ◌∙◌, ap, subst, add-one, arith}
 use Rattle.std.specs.Prelude.{◌↔◌, IfErr, IfOk, OnOk, Result, Ok, Err}
-use Rattle.slab.specs.Slab.{Slab}
+use Rattle.slab.specs.Slab.{Slab, get}
 use Rattle.moo_disk.specs.Disk.{DiskKind}
 use Rattle.moo_cli_file_disk.specs.Files.{IsUntouched, file_kind}
 use Rattle.moo_cli_file_disk.specs.declared.file_disk.FileDisk.{FileDisk}
 use Rattle.moo_cli_sockets.specs.declared.socket.Socket.{Socket}
+use Rattle.moo_cli_sockets.proofs.Keeping.{still_same}
 use Rattle.moo_dbtext_read.specs.Saved.{Saved}
 use Rattle.moo_server_core.specs.Application.{Layer, Output, then_out}
 use Rattle.moo_server_core.specs.Server.{Hands}
@@ -33,7 +34,7 @@ pub goes_on : (found : Round) → is_over found ≡ false → found ≡ round.Ov
 goes_on found is over = let no : false ≡ true = sym is ∙ ap is_over over in absurd cc
 
 waits_none : {S D : Type 0} (s : Serving S D) → Waits s s
-waits_none s = record { server_is = refl; disk_is = refl; moment_is = refl; console_is = refl; most_is = refl; timeouts_are = refl; sockets = λ c. refl }
+waits_none s = record { server_is = refl; disk_is = refl; moment_is = refl; console_is = refl; most_is = refl; timeouts_are = refl; sockets = λ c. refl; still = λ c. still_same (get s.clients.sockets.sockets c) (get s.clients.sockets.sockets c) refl; alike = (refl, refl) }
 
 module _ {S Application D : Type 0} (l : Layer S Application Saved) (kind : DiskKind D) where
   pub not_started : (fault : ServeFault) (disk left : D) → LeavesUnbegun kind disk left fault → NotStarted l kind disk fault
@@ -138,11 +139,11 @@ module _ {S Application D : Type 0} (l : Layer S Application Saved) (kind : Disk
   }
     where
       by_place : ((refused : IsRefused l kind cause broken.first old.server old.disk mid new) × (events ≡ refused.taken))
-          ⊎ ((parted : RefusesParted l kind cause old.clients.most_waiting broken.first old.server old.disk broken.read old.timeouts.silence mid new) × (events ≡ broken.first ++ parted.refused.taken))
+          ⊎ ((parted : RefusesParted l kind cause old.clients.most_waiting broken.first old.server old.disk broken.read.sockets old.timeouts.silence mid new) × (events ≡ broken.first ++ parted.refused.taken))
           → ((refused : IsRefused l kind cause broken.first old.server old.disk after new) × (events ≡ refused.taken))
-          ⊎ ((parted : RefusesParted l kind cause old.clients.most_waiting broken.first old.server old.disk broken.read old.timeouts.silence after new) × (events ≡ broken.first ++ parted.refused.taken))
+          ⊎ ((parted : RefusesParted l kind cause old.clients.most_waiting broken.first old.server old.disk broken.read.sockets old.timeouts.silence after new) × (events ≡ broken.first ++ parted.refused.taken))
       by_place (inl (refused, is)) = inl (refused_hands cause broken.first old.server mid after old.disk new refused handed, is)
-      by_place (inr (p, is)) = inr (parted_hands cause old.clients.most_waiting broken.first old.server mid after old.disk new broken.read old.timeouts.silence p handed, is)
+      by_place (inr (p, is)) = inr (parted_hands cause old.clients.most_waiting broken.first old.server mid after old.disk new broken.read.sockets old.timeouts.silence p handed, is)
 
   cut_hands : (old : Serving S D) (moment : ℕ) (events : List Event) (mid after : inner.ServerCore S) (new : D)
       → CutsRound l kind old moment events mid new → ((h : Output) × Hands l h mid after) → CutsRound l kind old moment events after new

@@ -1,12 +1,15 @@
 -- Writes to sockets, one number after another.
 use Rattle.std.proofs.Common.{◌≡◌, ◌≢◌, ℕ, ◌+◌, ◌<◌, ◌≤◌, List, ◌++◌, length, Option, Some, None, Bool, false, refl, sym, ◌∙◌, ap, subst, arith}
-use Rattle.std.specs.Prelude.{◌⊎◌, IfSome, All, true, eqb, nat_lt, ◌&&◌, ◌||◌, if◌then◌else◌}
+use Rattle.std.specs.Prelude.{◌⊎◌, IfSome, IsSome, IsSomeAnd, All, true, eqb, nat_lt, ◌&&◌, ◌||◌, if◌then◌else◌}
 use Rattle.std.proofs.Common.{[], inl, inr}
 use Rattle.std.proofs.lemmas.Bool.{cases_eq, cases_lt, ltb-false, true≢false}
-use Rattle.slab.specs.Slab.{Slab}
+use Rattle.std.specs.Option.{option_map}
+use Rattle.slab.specs.Slab.{Slab, get}
 use Rattle.moo_cli_sockets.specs.declared.socket.Socket.{Socket}
 use Rattle.moo_cli_sockets.specs.Coming.{Each, held, only}
-use Rattle.moo_cli_sockets.specs.Sending.{Sends}
+use Rattle.moo_cli_sockets.specs.Reading.{IsKept, Keeps}
+use Rattle.moo_cli_sockets.specs.Sending.{MayFail, Sends}
+use Rattle.moo_cli_sockets.specs.Waiting.{waits_of}
 use Rattle.moo_cli_sockets.proofs.Counting.{each_gap, each_map, each_more}
 use Rattle.moo_dbtext_read.specs.Saved.{Saved}
 use Rattle.moo_server_core.specs.Application.{Layer, Output}
@@ -21,23 +24,68 @@ use Rattle.moo_cli_serve.specs.Writing.{IsLeft, IsWritten, IsWrittenTo, Writes, 
 use Rattle.moo_cli_serve.proofs.Carrying.{carried}
 use Rattle.moo_cli_serve.proofs.Idling.{idle_room, idle_writes}
 
+abbrev waits : Option Socket → Option (List ℕ)
+waits slot = option_map (λ (socket : Socket). waits_of socket) slot
+
+kept_if : (was : Socket) (is : Option Socket) → IsSomeAnd is (Keeps was) → IfSome is (Keeps was)
+kept_if was None kept = tt
+kept_if was (Some is) kept = kept
+
+-- a connection without a socket
+pub unsent : (most : ℕ) (late leaving : Bool) (bytes : List ℕ) (slot : Option Socket) (c : ℕ) → (IsSome (waits slot) → ⊥) → IsWritten most leaving late bytes bytes slot slot c None
+unsent most late leaving bytes None c none = (refl, refl, refl)
+unsent most late leaving bytes (Some socket) c none = absurd (none refl)
+
 -- a connection that was written to and goes on
-pub stays : (most : ℕ) (late leaving leaving' : Bool) (output bytes left : List ℕ) (was is : Option (List ℕ)) (c : ℕ) (waiting : Option ℕ) → leaving ≡ leaving' → output ≡ bytes → left ≡ []
-    → is_parted most leaving late waiting ≡ false → IfSome waiting (λ w. Sends output was is w) → IsWritten most leaving' late bytes left was is c None
-stays most late leaving leaving' output bytes left was is c None same all none goes sent = absurd (true≢false goes)
-stays most late leaving leaving' output bytes left was is c (Some w) same all none goes sent =
-    carried most late leaving leaving' output bytes left left (Some sent.before) was is is c None (sym same) (sym all) refl sent.had refl (
+pub stays : (most : ℕ) (late leaving leaving' : Bool) (output bytes left : List ℕ) (was is : Option Socket) (c : ℕ) (waiting : Option ℕ) → leaving ≡ leaving' → output ≡ bytes → left ≡ []
+    → is_parted most leaving late waiting ≡ false → IsKept was is → IfSome waiting (λ w. Sends output (waits was) (waits is) w) → IsWritten most leaving' late bytes left was is c None
+stays most late leaving leaving' output bytes left was is c None same all none goes kept sent = absurd (true≢false goes)
+stays most late leaving leaving' output bytes left None is c (Some w) same all none goes kept sent = let had = sent.had in absurd cc
+stays most late leaving leaving' output bytes left (Some was) is c (Some w) same all none goes kept sent =
+    carried most late leaving leaving' output bytes left left (Some was) (Some was) is is c None (sym same) (sym all) refl refl refl (
       none,
       record {
         rest = Some sent.rest;
-        out = (sent.out, sent.all);
+        out = (sent.out, ap (λ (w : List ℕ). w ++ output) before ∙ sent.all);
+        fails = λ no. absurd cc;
         stays = sent.has ∙ sym (ap (λ (b : Bool). if b then None else Some sent.rest) goes_on);
+        keeps = kept_if was is kept;
         parts = sym (ap (λ (b : Bool). if b then Some (the.Hangup c) else None) goes_on);
       },
     )
   where
+    before : waits_of was ≡ sent.before
+    before = let had = sent.had in cc
+
     goes_on : is_parted most leaving late (Some (length sent.rest)) ≡ false
     goes_on = ap (λ (n : ℕ). is_parted most leaving late (Some n)) (sym sent.count) ∙ goes
+
+-- one that was written to and is hung up
+pub parts : (most : ℕ) (late leaving leaving' : Bool) (output bytes left : List ℕ) (was is : Option Socket) (between : Option (List ℕ)) (c : ℕ) (waiting : Option ℕ) → leaving ≡ leaving' → output ≡ bytes → left ≡ []
+    → is_parted most leaving late waiting ≡ true → IsSome (waits was) → is ≡ None → IfSome waiting (λ w. Sends output (waits was) between w)
+    → (waiting ≡ None → IfSome was (MayFail output)) → IsWritten most leaving' late bytes left was is c (Some (the.Hangup c))
+parts most late leaving leaving' output bytes left None is between c waiting same all none ends some gone sent fails = absurd cc
+parts most late leaving leaving' output bytes left (Some was) is between c None same all none ends some gone sent fails =
+    carried most late leaving leaving' output bytes left left (Some was) (Some was) None is c (Some (the.Hangup c)) (sym same) (sym all) refl refl gone
+    (none, record { rest = None; out = tt; fails = λ no. fails refl; stays = refl; keeps = tt; parts = refl })
+parts most late leaving leaving' output bytes left (Some was) is between c (Some w) same all none ends some gone sent fails =
+    carried most late leaving leaving' output bytes left left (Some was) (Some was) None is c (Some (the.Hangup c)) (sym same) (sym all) refl refl gone (
+      none,
+      record {
+        rest = Some sent.rest;
+        out = (sent.out, ap (λ (w : List ℕ). w ++ output) before ∙ sent.all);
+        fails = λ no. absurd cc;
+        stays = sym (ap (λ (b : Bool). if b then None else Some sent.rest) ends_now);
+        keeps = tt;
+        parts = sym (ap (λ (b : Bool). if b then Some (the.Hangup c) else None) ends_now);
+      },
+    )
+  where
+    before : waits_of was ≡ sent.before
+    before = let had = sent.had in cc
+
+    ends_now : is_parted most leaving late (Some (length sent.rest)) ≡ true
+    ends_now = ap (λ (n : ℕ). is_parted most leaving late (Some n)) (sym sent.count) ∙ ends
 
 third_false : (a b d : Bool) → ((a || b) || d) ≡ false → b ≡ false
 third_false true b d e = absurd (true≢false e)
@@ -86,13 +134,13 @@ module _ {S Application : Type 0} (l : Layer S Application Saved) where
       earlier c less e written =
           let left = others c (λ same. omega (arith, less, same)) in
           carried most (is_among late c) (leaves l before c) (leaves l before c) ((waiting_of l before).sent c) ((waiting_of l before).sent c) ((waiting_of l mid).sent c) ((waiting_of l after).sent c)
-          (held old c) (held old c) (held between c) (held new c) c e refl refl left.waiting refl left.socket written
+          (get old c) (get old c) (get between c) (get new c) c e refl refl left.waiting refl left.socket written
 
       here : IsWrittenTo l most (is_among late n) before after old new n event
       here =
           let left = so_far.left n (omega arith) in
           carried most (is_among late n) (leaves l mid n) (leaves l before n) ((waiting_of l mid).sent n) ((waiting_of l before).sent n) ((waiting_of l after).sent n) ((waiting_of l after).sent n)
-          (held between n) (held old n) (held new n) (held new n) n event (sym (leaves_on so_far.handed.0 before mid n so_far.handed.1)) (sym left.waiting) refl (sym left.socket) refl now
+          (get between n) (get old n) (get new n) (get new n) n event (sym (leaves_on so_far.handed.0 before mid n so_far.handed.1)) (sym left.waiting) refl (sym left.socket) refl now
 
   -- idle numbers up to a higher one count as written to
   pub written_gap : (most : ℕ) (settled : Bool) (late : List ℕ) (n m : ℕ) (before after : ServerCore S) (old new : Slab Socket) (events : List Event) → n ≤ m → m ≤ 65536
@@ -116,12 +164,12 @@ module _ {S Application : Type 0} (l : Layer S Application Saved) where
       was : c ≢ number → (c < n) ⊎ (n ≤ c) → HasRoom most between c
       was differs (inl lower) = below c lower
       was differs (inr from) =
-          subst (λ (w : Option (List ℕ)). length (bytes_held w) ≤ most) (sym (left c from).socket)
+          subst (λ (slot : Option Socket). length (bytes_held (waits slot)) ≤ most) (sym (left c from).socket)
           (idle_room l most settled late before old c (omega (arith, less, small, differs)) (idle c from (omega (arith, less, differs))) room)
 
       by_number : (c ≡ number) ⊎ (c ≢ number) → HasRoom most new c
       by_number (inl same) = subst (λ (k : ℕ). HasRoom most new k) (sym same) here
-      by_number (inr differs) = subst (λ (w : Option (List ℕ)). length (bytes_held w) ≤ most) (sym (others c differs).socket) (was differs (cases_lt c n))
+      by_number (inr differs) = subst (λ (slot : Option Socket). length (bytes_held (waits slot)) ≤ most) (sym (others c differs).socket) (was differs (cases_lt c n))
 
   -- All have room once no other is due.
   pub room_all : (most : ℕ) (settled : Bool) (late : List ℕ) (n : ℕ) (before after : ServerCore S) (old new : Slab Socket)
@@ -132,7 +180,7 @@ module _ {S Application : Type 0} (l : Layer S Application Saved) where
       by_order : (c < n) ⊎ (n ≤ c) → HasRoom most new c
       by_order (inl lower) = below c lower
       by_order (inr from) =
-          subst (λ (w : Option (List ℕ)). length (bytes_held w) ≤ most) (sym (left c from).socket) (idle_room l most settled late before old c small (idle c from small) room)
+          subst (λ (slot : Option Socket). length (bytes_held (waits slot)) ≤ most) (sym (left c from).socket) (idle_room l most settled late before old c small (idle c from small) room)
 
   -- in the end all are, up to the last number, or where no socket has one from n on
   pub written_all : (most : ℕ) (silent : ℕ → Bool) (late : List ℕ) (n : ℕ) (before after : ServerCore S) (old new : Slab Socket) (events : List Event)
@@ -149,4 +197,4 @@ module _ {S Application : Type 0} (l : Layer S Application Saved) where
     where
       by_end : (c : ℕ) → n ≤ c → c < 65536 → (65536 ≤ n) ⊎ ((k : ℕ) → n ≤ k → held old k ≡ None) → (held old c ≡ None) × (held new c ≡ None)
       by_end c from below (inl past) = absurd (omega (arith, from, below, past))
-      by_end c from below (inr free) = (free c from, (are.left c from).socket ∙ free c from)
+      by_end c from below (inr free) = (free c from, ap waits (are.left c from).socket ∙ free c from)

@@ -38,6 +38,8 @@ pub record IsTyped (old new : Console) (events all : List Event) : Type 0 where
   pub reads : IsConsolesInput input
   pub all_is : all ≡ ((events ++ only (end_of old)) ++ only (opening_of (stays_open old) (is_some input))) ++ only input
   pub new_is : new ≡ record old { is_open = stays_open old || is_some input; is_leaving = false; has_ended = new.has_ended; is_busy = is_some input }
+  -- after the end of standard input nothing comes
+  pub ended : old.has_ended ≡ true → (input ≡ None) × (new.has_ended ≡ true)
 
 -- Without a console nothing is typed.
 abbrev pub Types : Console → Console → List Event → List Event → Type 0

@@ -1,11 +1,11 @@
 -- What one round does, and in which order.
 use Rattle.std.specs.Prelude.{◌≡◌, ◌≢◌, ◌⊎◌, true, false, ℕ, ◌≤◌, ◌<◌, List, [], ◌∷◌, ◌++◌, Option, Some, None}
-use Rattle.slab.specs.Slab.{Slab}
 use Rattle.moo_disk.specs.Disk.{DiskKind}
 use Rattle.moo_dbtext_read.specs.Saved.{Saved}
 use Rattle.moo_server_core.specs.Application.{Layer, Output}
-use Rattle.moo_cli_sockets.specs.declared.socket.Socket.{Socket}
+use Rattle.moo_cli_sockets.specs.declared.sockets.Sockets.{Sockets}
 use Rattle.moo_cli_sockets.specs.Coming.{Comes}
+use Rattle.moo_cli_sockets.specs.Reading.{Arrives, IsAlike}
 use Rattle.moo_server_core.specs.Courses.{phase_of}
 use Rattle.moo_server_core.specs.Server.{Hands, waiting_of}
 use Rattle.moo_server_core.specs.declared.event.Event.{Event}
@@ -28,13 +28,14 @@ IsTold (Some moment) before now events =
     ((before ≤ moment) × (events ≡ the.Moment moment ∷ []) × (now ≡ moment)) ⊎ ((moment < before) × (events ≡ []) × (now ≡ before))
 
 -- What is given first: what came on the sockets and from the console, the moment, a flush.
-pub record Begins (old new : Slab Socket) (console typing : Console) (before now : ℕ) (events : List Event) : Type 0 where
+pub record Begins (old new : Sockets) (console typing : Console) (before now : ℕ) (events : List Event) : Type 0 where
   pub came : List Event
   pub typed : List Event
   pub clock : Option ℕ
   pub timed : List Event
   pub all : events ≡ (typed ++ timed) ++ the.Flush ∷ []
-  pub comes : Comes old new came
+  pub comes : Comes old.sockets new.sockets came
+  pub arrives : Arrives old new came
   pub types : Types console typing came typed
   pub told : IsTold clock before now timed
 
@@ -68,8 +69,8 @@ module _ {S Application D : Type 0} (l : Layer S Application Saved) (kind : Disk
   -- limits stay.
   pub record Rounds (old new : Serving S D) : Type 0 where
     pub first : List Event
-    pub read : Slab Socket
-    pub begins : Begins old.clients.sockets.sockets read old.console new.console old.moment new.moment first
+    pub read : Sockets
+    pub begins : Begins old.clients.sockets read old.console new.console old.moment new.moment first
     pub second : ℕ
     pub listens : Listens second first old.timeouts.silence new.timeouts.silence
     pub given : ServerCore S
@@ -77,7 +78,8 @@ module _ {S Application D : Type 0} (l : Layer S Application Saved) (kind : Disk
     pub gives : Given l kind old.server old.disk first given between
     pub parted : List Event
     pub written : ServerCore S
-    pub writes : Writes l old.clients.most_waiting (is_silent new.timeouts.silence second) given written read new.clients.sockets.sockets parted
+    pub writes : Writes l old.clients.most_waiting (is_silent new.timeouts.silence second) given written read.sockets new.clients.sockets.sockets parted
+    pub alike : IsAlike read new.clients.sockets
     pub handed : (handed : Output) × Hands l handed given written
     pub ends : GivenIfOpen written between parted new.server new.disk
     pub most_is : new.clients.most_waiting ≡ old.clients.most_waiting

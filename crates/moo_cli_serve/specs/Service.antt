@@ -1,6 +1,6 @@
 -- A server over a disk from its start to its end: how it is begun, the rounds that it makes, and why it ends.
 use Rattle.std.specs.Prelude.{◌≡◌, ◌≢◌, ◌⊎◌, ℕ, zero, suc, ◌<◌, ◌≤◌, List, [], ◌∷◌, ◌++◌, None, Err, false}
-use Rattle.slab.specs.Slab.{Slab}
+use Rattle.slab.specs.Slab.{Slab, get}
 use Rattle.moo_disk.specs.Disk.{DiskKind, KeepsMain, KeepsSpare, OnlyReads}
 use Rattle.moo_dbtext_record.specs.declared.fault.DbFault.{DbFault}
 use Rattle.moo_dbtext_record.specs.declared.fault.DbFaultKind.TheVariants as fault_kind
@@ -11,7 +11,9 @@ use Rattle.moo_checkpoint.specs.declared.open_fault.OpenFault.{OpenFault}
 use Rattle.moo_checkpoint.specs.declared.open_fault.OpenFault.TheVariants as opening
 use Rattle.moo_server_core.specs.Application.{Layer, Output}
 use Rattle.moo_cli_sockets.specs.declared.socket.Socket.{Socket}
+use Rattle.moo_cli_sockets.specs.declared.sockets.Sockets.{Sockets}
 use Rattle.moo_cli_sockets.specs.Coming.{held}
+use Rattle.moo_cli_sockets.specs.Reading.{IsAlike, IsStill}
 use Rattle.moo_server_core.specs.Calls.{Opened}
 use Rattle.moo_server_core.specs.Server.{Hands, Runs, with_disk}
 use Rattle.moo_server_core.specs.declared.event.Cause.{Cause}
@@ -38,7 +40,7 @@ IsOutside (the.Open fault) = ⊥
 IsOutside (the.Refused cause) = ⊥
 IsOutside fault = Unit {0}
 
--- it waited: for its sockets, which hold what they held
+-- it waited: for its sockets, which hold and keep what they had
 pub record Waits {S D : Type 0} (old new : Serving S D) : Type 0 where
   pub server_is : new.server ≡ old.server
   pub disk_is : new.disk ≡ old.disk
@@ -47,6 +49,8 @@ pub record Waits {S D : Type 0} (old new : Serving S D) : Type 0 where
   pub most_is : new.clients.most_waiting ≡ old.clients.most_waiting
   pub timeouts_are : new.timeouts ≡ old.timeouts
   pub sockets : (c : ℕ) → held new.clients.sockets.sockets c ≡ held old.clients.sockets.sockets c
+  pub still : (c : ℕ) → IsStill (get old.clients.sockets.sockets c) (get new.clients.sockets.sockets c)
+  pub alike : IsAlike old.clients.sockets new.clients.sockets
 
 module _ {S Application D : Type 0} (l : Layer S Application Saved) (kind : DiskKind D) where
   -- A server was begun from what a disk holds, at a moment: from a saved world that main spells within the limits of database texts. Nothing was written.
@@ -164,16 +168,16 @@ module _ {S Application D : Type 0} (l : Layer S Application Saved) (kind : Disk
   -- that came of the writes. The server took `events` before.
   pub record RefusesRound (cause : Cause) (old : Serving S D) (moment : ℕ) (events : List Event) (after : inner.ServerCore S) (new : D) : Type 0 where
     pub first : List Event
-    pub read : Slab Socket
+    pub read : Sockets
     pub typing : Console
-    pub begins : Begins old.clients.sockets.sockets read old.console typing old.moment moment first
+    pub begins : Begins old.clients.sockets read old.console typing old.moment moment first
     pub refused : ((refused : IsRefused cause first old.server old.disk after new) × (events ≡ refused.taken))
-        ⊎ ((parted : RefusesParted cause old.clients.most_waiting first old.server old.disk read old.timeouts.silence after new) × (events ≡ first ++ parted.refused.taken))
+        ⊎ ((parted : RefusesParted cause old.clients.most_waiting first old.server old.disk read.sockets old.timeouts.silence after new) × (events ≡ first ++ parted.refused.taken))
 
   -- A round was begun, and broke off before the server was given anything, or after it was given all that is given first. Then some of what
   -- waits was handed out.
   pub record CutsRound (old : Serving S D) (moment : ℕ) (events : List Event) (after : inner.ServerCore S) (new : D) : Type 0 where
-    pub events_are : (events ≡ []) ⊎ ((read : Slab Socket) × (typing : Console) × Begins old.clients.sockets.sockets read old.console typing old.moment moment events)
+    pub events_are : (events ≡ []) ⊎ ((read : Sockets) × (typing : Console) × Begins old.clients.sockets read old.console typing old.moment moment events)
     pub given : inner.ServerCore S
     pub gives : Given l kind old.server old.disk events given new
     pub handed : (handed : Output) × Hands l handed given after

@@ -2,9 +2,12 @@
 use Rattle.std.specs.Prelude.{◌≡◌, ℕ, ◌<◌, ◌≤◌, List, [], ◌++◌, length, Option, Some, None, IfSome, Bool, true, ◌&&◌, ◌||◌, eqb, nat_lt, All, if◌then◌else◌}
 use Rattle.std.specs.List.{list_any}
 use Rattle.std.specs.Option.{option_map}
-use Rattle.slab.specs.Slab.{Slab}
+use Rattle.slab.specs.Slab.{Slab, get}
 use Rattle.moo_cli_sockets.specs.declared.socket.Socket.{Socket}
 use Rattle.moo_cli_sockets.specs.Coming.{Each, held}
+use Rattle.moo_cli_sockets.specs.Reading.{Keeps}
+use Rattle.moo_cli_sockets.specs.Sending.{MayFail}
+use Rattle.moo_cli_sockets.specs.Waiting.{waits_of}
 use Rattle.moo_dbtext_read.specs.Saved.{Saved}
 use Rattle.moo_server_core.specs.Application.{Layer}
 use Rattle.moo_server_core.specs.Server.{waiting_of}
@@ -24,28 +27,29 @@ is_parted most leaving late (Some waiting) = ((leaving && eqb waiting 0) || nat_
 abbrev pub is_among : List ℕ → ℕ → Bool
 is_among numbers c = list_any (λ k. eqb k c) numbers
 
--- These bytes went behind what waited for connection c's socket, and some of all that, from the front, went out: the rest still waits.
--- Where the socket failed no rest is told. Who is hung up has no socket then.
-pub record Wrote (most : ℕ) (leaving late : Bool) (bytes before : List ℕ) (is : Option (List ℕ)) (c : ℕ) (event : Option Event) : Type 0 where
+-- These bytes went to the end of what waited for connection c's socket, and some of all that, from the front, went out: the rest still waits.
+-- If the socket counts as failed there is no rest, and a write of them may fail. Who is hung up has no socket then; another's socket keeps what it has.
+pub record Wrote (most : ℕ) (leaving late : Bool) (bytes : List ℕ) (was : Socket) (is : Option Socket) (c : ℕ) (event : Option Event) : Type 0 where
   pub rest : Option (List ℕ)
-  pub out : IfSome rest (λ waits. (out : List ℕ) × (before ++ bytes ≡ out ++ waits))
-  pub stays : is ≡ (if is_parted most leaving late (option_map (λ (w : List ℕ). length w) rest) then None else rest)
+  pub out : IfSome rest (λ waits. (out : List ℕ) × (waits_of was ++ bytes ≡ out ++ waits))
+  pub fails : rest ≡ None → MayFail bytes was
+  pub stays : option_map (λ (socket : Socket). waits_of socket) is ≡ (if is_parted most leaving late (option_map (λ (w : List ℕ). length w) rest) then None else rest)
+  pub keeps : IfSome is (Keeps was)
   pub parts : event ≡ (if is_parted most leaving late (option_map (λ (w : List ℕ). length w) rest) then Some (the.Hangup c) else None)
 
--- What one write to connection c's socket does, if it has one: `bytes` waited for it in the server, and `left` does then; `was` waited
--- for its socket, and `is` does then.
-abbrev pub IsWritten : ℕ → Bool → Bool → List ℕ → List ℕ → Option (List ℕ) → Option (List ℕ) → ℕ → Option Event → Type 0
+-- What one write to connection c's socket does, if it has one: `bytes` waited for it in the server, and `left` does then.
+abbrev pub IsWritten : ℕ → Bool → Bool → List ℕ → List ℕ → Option Socket → Option Socket → ℕ → Option Event → Type 0
 IsWritten most leaving late bytes left None is c event = (left ≡ bytes) × (is ≡ None) × (event ≡ None)
-IsWritten most leaving late bytes left (Some before) is c event = (left ≡ []) × Wrote most leaving late bytes before is c event
+IsWritten most leaving late bytes left (Some was) is c event = (left ≡ []) × Wrote most leaving late bytes was is c event
 
 module _ {S Application : Type 0} (l : Layer S Application Saved) where
   abbrev pub IsWrittenTo : ℕ → Bool → ServerCore S → ServerCore S → Slab Socket → Slab Socket → ℕ → Option Event → Type 0
   IsWrittenTo most late before after old new c event =
-      IsWritten most (leaves l before c) late ((waiting_of l before).sent c) ((waiting_of l after).sent c) (held old c) (held new c) c event
+      IsWritten most (leaves l before c) late ((waiting_of l before).sent c) ((waiting_of l after).sent c) (get old c) (get new c) c event
 
-  -- connection c's socket holds what it held, and the server what it held for c
+  -- connection c's socket is what it was, and the server holds what it held for c
   pub record IsLeft (c : ℕ) (before after : ServerCore S) (old new : Slab Socket) : Type 0 where
-    pub socket : held new c ≡ held old c
+    pub socket : get new c ≡ get old c
     pub waiting : (waiting_of l after).sent c ≡ (waiting_of l before).sent c
 
   -- One write to each socket, by rising number, with the hang-ups that come of it. Those that are late are strangers or

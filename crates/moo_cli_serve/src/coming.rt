@@ -21,7 +21,7 @@ pub fn come<L: Clock + Log>(
     moment: &mut u32,
     is_late: &mut bool,
 ) -> Result<Vec<Event>, AllocError>
-    ensures { IfOk result (λ events. Begins sockets.old.sockets sockets.new.sockets console.old console.new moment.old moment.new events.items) }
+    ensures { IfOk result (λ events. Begins sockets.old sockets.new console.old console.new moment.old moment.new events.items) }
 {
     let mut events = sockets.take(rt)?;
     console.take(alloc, &mut events)?;

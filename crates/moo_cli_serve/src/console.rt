@@ -99,6 +99,7 @@ impl Console {
     fn read(&mut self, alloc: Global) -> Result<Option<Event>, AllocError>
         ensures input { IfOk result (λ event. IsConsolesInput event) }
         ensures state { IfOk result (λ event. self.new ≡ record self.old { has_ended = self.new.has_ended; is_busy = is_some event || self.old.is_busy }) }
+        ensures ended { self.old.has_ended ≡ true → (result ≡ Ok None) × (self.new.has_ended ≡ true) }
     {
         if self.has_ended || !is_ready(STDIN_FILENO, POLLIN) {
             return Ok(None);

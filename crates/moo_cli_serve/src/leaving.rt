@@ -2,6 +2,7 @@
 ghost use Rattle.std.specs.Prelude.{◌≡◌, ◌≢◌, ◌<◌, ◌++◌, ℕ, List, None, Contains, false, true, IfOk, OnOk};
 ghost use Rattle.std.specs.List.{AllPairs};
 ghost use Rattle.moo_cli_sockets.specs.Coming.{held};
+ghost use Rattle.moo_cli_sockets.specs.Reading.{IsAlike};
 ghost use Rattle.moo_cli_serve.specs.Idle.{IsIdle};
 ghost use Rattle.moo_cli_serve.specs.Room.{HasRoom, HaveRoom};
 ghost use Rattle.moo_server_core.specs.Application.{Output};
@@ -37,6 +38,7 @@ pub fn write_all<S: StartApplication, L: Log>(
     ensures heard { timeouts.new.silence.heard ≡ timeouts.old.silence.heard }
     ensures limit { timeouts.new.silence.limit ≡ timeouts.old.silence.limit }
     ensures logins { timeouts.new.strangers.limits ≡ timeouts.old.strangers.limits }
+    ensures alike { IsAlike sockets.old sockets.new }
 {
     let late = timeouts.find_late(rt, alloc, now, server, sockets)?;
     let due = due(alloc, server, sockets, &late, is_settled)?;
@@ -60,6 +62,7 @@ fn due<S: StartApplication>(
     ensures rising { IfOk result (λ due. AllPairs (λ a b. a < b) due.items) }
     ensures rest { IfOk result (λ due. (c : ℕ) → c < 65536 → (Contains due.items c → ⊥) → IsIdle S.layer is_settled late.now server.now sockets.new.sockets c) }
     ensures same { sockets.new.sockets ≡ sockets.old.sockets }
+    ensures alike { IsAlike sockets.old sockets.new }
 {
     let pending = server.pending()?;
     let writable = sockets.take_writable();
@@ -123,6 +126,7 @@ fn write<S: StartApplication, L: Log>(
     ensures others { OnOk result ((k : ℕ) → k ≢ c → IsLeft S.layer k server.old server.new sockets.old.sockets sockets.new.sockets) }
     ensures room { OnOk result (HasRoom most_waiting sockets.new.sockets c) }
     ensures log { (waiting_of S.layer server.new).logged ≡ (waiting_of S.layer server.old).logged }
+    ensures alike { IsAlike sockets.old sockets.new }
 {
     if !sockets.contains(c) {
         return Ok(None);

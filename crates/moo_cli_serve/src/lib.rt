@@ -24,6 +24,6 @@ mod timeouts;
 pub use fault::ServeFault;
 pub use limits::Limits;
 pub use listening::Web;
-pub use program::{Served, run_serve, serve_watched};
+pub use program::{Served, run_serve, serve_disk, serve_watched};
 pub use serving::{Round, Serving};
 pub use strangers::LoginLimits;

@@ -1,8 +1,8 @@
 -- The frames in which a WebSocket's input comes and its output goes out.
-use Rattle.std.specs.Prelude.{◌≡◌, ◌⊎◌, ℕ, ◌<◌, List, [], ◌++◌, Some, Ok, true, IsTrue}
+use Rattle.std.specs.Prelude.{◌≡◌, ◌⊎◌, ℕ, ◌<◌, List, [], ◌++◌, Option, None, Some, Ok, true, IsSomeAnd, IsTrue}
 use Rattle.websocket.specs.Stream.{Trace, read_all}
-use Rattle.moo_cli_web_frames.specs.Channels.{Loads, pending}
-use Rattle.moo_cli_web_frames.specs.Frames.{payload_in}
+use Rattle.moo_cli_web_frames.specs.Channels.{IsNew, KeepsInput, Loads, pending}
+use Rattle.moo_cli_web_frames.specs.Frames.{opened, payload_in}
 use Rattle.moo_cli_web_frames.specs.Tending.{Tends}
 use Rattle.moo_cli_web_frames.specs.declared.channel.Channel.{Channel}
 use Rattle.moo_cli_sockets.specs.Waiting.{front_of}
@@ -34,3 +34,14 @@ abbrev pub Hears : List ℕ → Socket → Socket → Type 0
 Hears bytes old new =
     (was : Channel) → old.channel ≡ Some was
     → (is : Channel) × (new.channel ≡ Some is) × IsHeard (read_all was.endpoint.context (was.endpoint.input.items ++ bytes)) was is new.input.items
+
+-- A channel stays, and keeps what came on it; without one there is none.
+abbrev pub KeepsChannel : Option Channel → Option Channel → Type 0
+KeepsChannel None is = is ≡ None
+KeepsChannel (Some was) is = IsSomeAnd is (KeepsInput was)
+
+-- A socket has a channel that was just opened, and no filter. It heard these bytes: their payload is the input.
+abbrev pub IsBrowsers : List ℕ → Socket → Type 0
+IsBrowsers bytes socket =
+    (socket.telnet ≡ None) × (response : List ℕ) × (was : Channel) × IsNew response was
+    × (is : Channel) × (socket.channel ≡ Some is) × IsHeard (read_all opened bytes) was is socket.input.items

@@ -2,7 +2,7 @@
 ghost use Rattle.std.specs.Prelude.{◌≡◌, ◌≤◌, ◌++◌, length, drop, true, IfOk, OnErr, OnOk};
 ghost use Rattle.websocket.specs.Stream.{read_all};
 ghost use Rattle.moo_cli_sockets.specs.Framing.{AreWhole, Carries, Hears, IsHeard, LooksAt};
-ghost use Rattle.moo_cli_sockets.specs.Reading.{IsSame};
+ghost use Rattle.moo_cli_sockets.specs.Reading.{IsSame, Keeps};
 ghost use Rattle.moo_cli_sockets.specs.Waiting.{waits_of};
 
 use crate::socket::Socket;
@@ -43,7 +43,7 @@ impl Socket {
     pub(crate) fn keep_payload(&mut self, alloc: Global, bytes: &[u8]) -> Result<(), AllocError>
         ensures waits { waits_of self.new ≡ waits_of self.old }
         ensures hears { OnOk result (Hears bytes.now self.old self.new) }
-        ensures filter { self.new.telnet ≡ self.old.telnet }
+        ensures filter { (self.new.telnet ≡ self.old.telnet) × (self.new.stream ≡ self.old.stream) }
     {
         let Some(channel) = &mut self.channel else {
             return Ok(());
@@ -68,7 +68,7 @@ impl Socket {
     #[tactic(auto, using(crate::proofs::Keeping::tends_on))]
     pub fn tend(&mut self, now: u64) -> Result<(), AllocError>
         ensures waits { waits_of self.new ≡ waits_of self.old }
-        ensures same { (self.new.input ≡ self.old.input) × (self.new.telnet ≡ self.old.telnet) }
+        ensures same { Keeps self.old self.new }
         ensures tends { OnOk result (LooksAt now self.old self.new) }
     {
         let Some(channel) = &mut self.channel else {
@@ -82,7 +82,7 @@ impl Socket {
     /// Sends the close of a WebSocket, as far as the system takes it at once. The socket is closed next.
     pub fn send_close(&mut self)
         ensures waits { waits_of self.new ≡ waits_of self.old }
-        ensures same { (self.new.input ≡ self.old.input) × (self.new.telnet ≡ self.old.telnet) }
+        ensures same { Keeps self.old self.new }
     {
         if let Some(channel) = &mut self.channel {
             channel.close();
@@ -96,7 +96,7 @@ impl Socket {
         ensures out { IfOk result (λ count. (count ≤ length (waits_of self.old)) × (waits_of self.new ≡ drop count (waits_of self.old))) }
         ensures failed { OnErr result (waits_of self.new ≡ waits_of self.old) }
         ensures whole { IfOk result (λ count. AreWhole count self.new) }
-        ensures same { (self.new.input ≡ self.old.input) × (self.new.telnet ≡ self.old.telnet) }
+        ensures same { Keeps self.old self.new }
     {
         self.load()?;
         let was_held_up = self.is_held_up();
@@ -117,7 +117,7 @@ impl Socket {
     fn write_pending(&mut self) -> io::Result<bool>
         ensures waits { waits_of self.new ≡ waits_of self.old }
         ensures carried { self.new.carried ≡ self.old.carried }
-        ensures same { (self.new.input ≡ self.old.input) × (self.new.telnet ≡ self.old.telnet) }
+        ensures same { Keeps self.old self.new }
         ensures whole { IfOk result (λ is_out. is_out ≡ true → AreWhole 1 self.new) }
     {
         let Some(channel) = &mut self.channel else {
@@ -131,7 +131,7 @@ impl Socket {
     fn load(&mut self) -> io::Result<()>
         ensures waits { waits_of self.new ≡ waits_of self.old }
         ensures carries { OnOk result (Carries self.old self.new) }
-        ensures same { (self.new.input ≡ self.old.input) × (self.new.telnet ≡ self.old.telnet) }
+        ensures same { Keeps self.old self.new }
     {
         let Some(channel) = &mut self.channel else {
             return Ok(());

@@ -1,9 +1,9 @@
 //! The input of sockets: new connections, bytes and ends.
-ghost use Rattle.std.specs.Prelude.{◌≡◌, ◌≢◌, ◌≤◌, ℕ, List, ◌++◌, Contains, IfOk, OnOk};
+ghost use Rattle.std.specs.Prelude.{◌≡◌, ◌≢◌, ◌⊎◌, ◌<◌, ◌≤◌, ℕ, List, ◌++◌, Contains, IfOk, OnOk};
 ghost use Rattle.slab.specs.Slab.{get};
 ghost use Rattle.moo_server_core.specs.declared.event.Event as given;
 ghost use Rattle.moo_cli_sockets.specs.Coming.{Comes, Each, Follow, IsListed, IsOpening, IsRead, held, only};
-ghost use Rattle.moo_cli_sockets.specs.Reading.{Arrives, Brings, HasFilter, IsKept};
+ghost use Rattle.moo_cli_sockets.specs.Reading.{Arrives, Brings, HasFilter, IsAlike, IsKept, IsLeft, IsLookedAt, IsUpgraded};
 
 use crate::age::{Age, seconds};
 use crate::descriptors::is_at;
@@ -28,7 +28,7 @@ impl Sockets {
     /// and any socket that ended or failed. Fails only if memory runs out.
     pub fn take<L: Clock + Log>(&mut self, rt: &L) -> Result<Vec<Event>, AllocError>
         ensures comes { IfOk result (λ events. Comes self.old.sockets self.new.sockets events.items) }
-        ensures arrives { IfOk result (λ events. Arrives self.old.sockets self.new.sockets events.items) }
+        ensures arrives { IfOk result (λ events. Arrives self.old self.new events.items) }
         ensures filter { self.new.telnet ≡ self.old.telnet }
     {
         let mut events = Vec::new(self.alloc);
@@ -39,10 +39,12 @@ impl Sockets {
     }
 
     // Opens at most one connection: one that waits at the listener, or a WebSocket of a browser.
-    #[tactic(auto, using(crate::proofs::Sent::opens_after, crate::proofs::Keeping::kept_on))]
+    #[tactic(auto, using(crate::proofs::Sent::opens_after, crate::proofs::Keeping::kept_left, crate::proofs::Keeping::looked_left))]
     fn open_one<L: Clock + Log>(&mut self, rt: &L) -> Result<Option<Event>, AllocError>
         ensures opens { IfOk result (λ event. IsOpening self.old.sockets event × Follow (only event) self.old.sockets self.new.sockets) }
         ensures kept { OnOk result ((c : ℕ) → IsKept (get self.old.sockets c) (get self.new.sockets c)) }
+        ensures looks { OnOk result ((c : ℕ) → c < 65536 → IsLookedAt self.old.tended self.new.tended (get self.old.sockets c) (get self.new.sockets c)) }
+        ensures fresh { IfOk result (λ event. HasFilter self.old.telnet self.new.sockets event ⊎ IsUpgraded self.new.sockets event) }
         ensures filter { self.new.telnet ≡ self.old.telnet }
     {
         self.serve_web(rt)?;
@@ -54,12 +56,12 @@ impl Sockets {
 
     // Accepts one new connection, if one waits. After a fault it is tried again later, and the other connections go
     // on.
-    #[tactic(auto, using(crate::proofs::Keeping::kept_same))]
+    #[tactic(auto, using(crate::proofs::Keeping::left_same))]
     fn accept<L: Clock + Log>(&mut self, rt: &L) -> Result<Option<Event>, AllocError>
         ensures opens { IfOk result (λ event. IsOpening self.old.sockets event × Follow (only event) self.old.sockets self.new.sockets) }
-        ensures kept { OnOk result ((c : ℕ) → IsKept (get self.old.sockets c) (get self.new.sockets c)) }
+        ensures left { OnOk result ((c : ℕ) → IsLeft (get self.old.sockets c) (get self.new.sockets c)) }
         ensures filter { IfOk result (λ event. HasFilter self.old.telnet self.new.sockets event) }
-        ensures same { self.new.telnet ≡ self.old.telnet }
+        ensures alike { IsAlike self.old self.new }
     {
         if !self.may_accept {
             return Ok(None);
@@ -89,7 +91,7 @@ impl Sockets {
 
     // Logs that no connection can be accepted, once until one is.
     fn tell_refused<L: Log>(&mut self, rt: &L, error: &io::Error)
-        ensures { (self.new.sockets ≡ self.old.sockets) × (self.new.telnet ≡ self.old.telnet) }
+        ensures { (self.new.sockets ≡ self.old.sockets) × IsAlike self.old self.new }
     {
         if self.may_accept && !self.is_told {
             self.is_told = true;
@@ -100,7 +102,7 @@ impl Sockets {
     // Logs that connections have taken all descriptors that are theirs, and that others may wait. Says it again after a
     // minute.
     fn tell_full<L: Clock + Log>(&mut self, rt: &L)
-        ensures { (self.new.sockets ≡ self.old.sockets) × (self.new.telnet ≡ self.old.telnet) }
+        ensures { (self.new.sockets ≡ self.old.sockets) × IsAlike self.old self.new }
     {
         let now = seconds(rt);
         if now >= self.full_told {
@@ -111,7 +113,7 @@ impl Sockets {
     }
 
     // Keeps a new connection's socket under its number. Closes it if the system can't watch it.
-    #[tactic(auto, using(crate::proofs::Keeping::kept_inserted, crate::proofs::Keeping::kept_same, crate::proofs::Keeping::has_filter))]
+    #[tactic(auto, using(crate::proofs::Keeping::left_inserted, crate::proofs::Keeping::left_same, crate::proofs::Keeping::has_filter))]
     fn keep<L: Clock + Log>(
         &mut self,
         rt: &L,
@@ -121,9 +123,9 @@ impl Sockets {
         requires vacant { c ≡ self.old.sockets.vacant_key }
         requires given { c ≢ CONSOLE }
         ensures opens { IfOk result (λ event. IsOpening self.old.sockets event × Follow (only event) self.old.sockets self.new.sockets) }
-        ensures kept { OnOk result ((c : ℕ) → IsKept (get self.old.sockets c) (get self.new.sockets c)) }
+        ensures left { OnOk result ((c : ℕ) → IsLeft (get self.old.sockets c) (get self.new.sockets c)) }
         ensures filter { IfOk result (λ event. HasFilter self.old.telnet self.new.sockets event) }
-        ensures same { self.new.telnet ≡ self.old.telnet }
+        ensures alike { IsAlike self.old self.new }
     {
         let both = Interest::READABLE | Interest::WRITABLE;
         let token = Token(usize::from(c));
@@ -145,7 +147,7 @@ impl Sockets {
         ensures read { OnOk result ((n : ℕ) × (reads : List given.Event) × Each (λ c event. IsRead (held self.old.sockets c) c event) n reads × Follow reads self.old.sockets self.new.sockets
             × (events.new.items ≡ events.old.items ++ reads) × Each (λ c event. Brings (get self.old.sockets c) event (get self.new.sockets c)) n reads
             × ((c : ℕ) → n ≤ c → get self.new.sockets c ≡ get self.old.sockets c)) }
-        ensures filter { self.new.telnet ≡ self.old.telnet }
+        ensures alike { IsAlike self.old self.new }
         ensures listed { OnOk result ((c : ℕ) → Contains self.old.readable.items c → IsListed self.new.readable.items self.new.sockets c) }
     {
         let mut numbers = mem::replace(&mut self.readable, Vec::new(self.alloc));
@@ -166,7 +168,7 @@ impl Sockets {
         ensures others { (k : ℕ) → k ≢ c → get self.new.sockets k ≡ get self.old.sockets k }
         ensures listed { self.new.readable ≡ self.old.readable }
         ensures brings { IfOk result (λ event. Brings (get self.old.sockets c) event (get self.new.sockets c)) }
-        ensures filter { self.new.telnet ≡ self.old.telnet }
+        ensures alike { IsAlike self.old self.new }
     {
         let Some(socket) = self.sockets.get_mut(usize::from(c)) else {
             return Ok(None);
@@ -193,7 +195,7 @@ impl Sockets {
         ensures listed { OnOk result (IsListed self.new.readable.items self.new.sockets c) }
         ensures others { OnOk result ((k : ℕ) → Contains self.old.readable.items k → Contains self.new.readable.items k) }
         ensures same { self.new.sockets ≡ self.old.sockets }
-        ensures filter { self.new.telnet ≡ self.old.telnet }
+        ensures alike { IsAlike self.old self.new }
     {
         if let Some(socket) = self.sockets.get(usize::from(c)) {
             if socket.is_readable() {

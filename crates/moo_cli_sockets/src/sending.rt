@@ -1,7 +1,7 @@
 //! The output of sockets.
 ghost use Rattle.std.specs.Prelude.{◌≡◌, ◌≢◌, ℕ, None, IfOk, IfSome};
 ghost use Rattle.moo_cli_sockets.specs.Coming.{held};
-ghost use Rattle.moo_cli_sockets.specs.Reading.{IsKept};
+ghost use Rattle.moo_cli_sockets.specs.Reading.{IsAlike, IsKept};
 ghost use Rattle.moo_cli_sockets.specs.Sending.{MayFail, Sends};
 ghost use Rattle.slab.specs.Slab.{get};
 
@@ -14,9 +14,10 @@ impl Sockets {
     /// still wait, or `None` if the socket failed or doesn't exist. Fails only if memory runs out.
     pub fn write(&mut self, c: u16, output: Vec<u8>) -> Result<Option<usize>, AllocError>
         ensures sent { IfOk result (λ answer. IfSome answer (λ waiting. Sends output.items (held self.old.sockets c) (held self.new.sockets c) waiting)) }
-        ensures others { (k : ℕ) → k ≢ c → held self.new.sockets k ≡ held self.old.sockets k }
+        ensures others { (k : ℕ) → k ≢ c → get self.new.sockets k ≡ get self.old.sockets k }
         ensures kept { (k : ℕ) → IsKept (get self.old.sockets k) (get self.new.sockets k) }
         ensures failed { IfOk result (λ answer. answer ≡ None → IfSome (get self.old.sockets c) (MayFail output.items)) }
+        ensures alike { IsAlike self.old self.new }
     {
         let waiting = self.write_once(c, output)?;
         self.keep_readable(c)?;
@@ -27,9 +28,10 @@ impl Sockets {
     #[tactic(auto, using(crate::proofs::Keeping::fails_at, crate::proofs::Keeping::kept_given, crate::proofs::Keeping::kept_same, crate::proofs::Keeping::kept_sent, crate::proofs::Keeping::none_fails))]
     fn write_once(&mut self, c: u16, output: Vec<u8>) -> Result<Option<usize>, AllocError>
         ensures sent { IfOk result (λ answer. IfSome answer (λ waiting. Sends output.items (held self.old.sockets c) (held self.new.sockets c) waiting)) }
-        ensures others { (k : ℕ) → k ≢ c → held self.new.sockets k ≡ held self.old.sockets k }
+        ensures others { (k : ℕ) → k ≢ c → get self.new.sockets k ≡ get self.old.sockets k }
         ensures kept { (k : ℕ) → IsKept (get self.old.sockets k) (get self.new.sockets k) }
         ensures failed { IfOk result (λ answer. answer ≡ None → IfSome (get self.old.sockets c) (MayFail output.items)) }
+        ensures alike { IsAlike self.old self.new }
     {
         let Some(socket) = self.sockets.get_mut(usize::from(c)) else {
             return Ok(None);
@@ -45,7 +47,8 @@ impl Sockets {
     /// Lists a socket as one to which more may be written, if output or frames wait for it and the system may take some.
     /// Fails only if memory runs out.
     pub fn keep_writable(&mut self, c: u16) -> Result<(), AllocError>
-        ensures { self.new.sockets ≡ self.old.sockets }
+        ensures same { self.new.sockets ≡ self.old.sockets }
+        ensures alike { IsAlike self.old self.new }
     {
         self.list_writable(c)
     }
@@ -53,7 +56,7 @@ impl Sockets {
     // Lists a socket as one to which more may be written, if output or frames wait for it and the system may take some.
     pub(crate) fn list_writable(&mut self, c: u16) -> Result<(), AllocError>
         ensures same { self.new.sockets ≡ self.old.sockets }
-        ensures filter { self.new.telnet ≡ self.old.telnet }
+        ensures alike { IsAlike self.old self.new }
     {
         if let Some(socket) = self.sockets.get(usize::from(c)) {
             if socket.is_writable() {
@@ -65,7 +68,8 @@ impl Sockets {
 
     /// Returns the numbers of the sockets to which more may be written, and clears the list.
     pub fn take_writable(&mut self) -> Vec<u16>
-        ensures { self.new.sockets ≡ self.old.sockets }
+        ensures same { self.new.sockets ≡ self.old.sockets }
+        ensures alike { IsAlike self.old self.new }
     {
         mem::replace(&mut self.writable, Vec::new(self.alloc))
     }

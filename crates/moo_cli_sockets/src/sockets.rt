@@ -3,6 +3,7 @@ ghost use Rattle.std.specs.Prelude.{◌≡◌, ◌≢◌, ◌≤◌, ◌↔◌, 
 ghost use Rattle.mio.specs.Event.{event_token};
 ghost use Rattle.slab.specs.Slab.{get};
 ghost use Rattle.moo_cli_sockets.specs.Coming.{Closes, IsNamed, held};
+ghost use Rattle.moo_cli_sockets.specs.Reading.{IsAlike, IsStill};
 
 use crate::Socket;
 use crate::descriptors::most_descriptors;
@@ -111,7 +112,8 @@ impl Sockets {
 
     /// Begins a round, of which `is_busy` reports.
     pub fn rest(&mut self)
-        ensures { (c : ℕ) → held self.new.sockets c ≡ held self.old.sockets c }
+        ensures same { self.new.sockets ≡ self.old.sockets }
+        ensures alike { IsAlike self.old self.new }
     {
         self.is_busy = false;
     }
@@ -144,7 +146,7 @@ impl Sockets {
         ensures gone { get self.new.sockets c ≡ None }
         ensures others { (k : ℕ) → k ≢ c → get self.new.sockets k ≡ get self.old.sockets k }
         ensures readable { self.new.readable ≡ self.old.readable }
-        ensures filter { self.new.telnet ≡ self.old.telnet }
+        ensures alike { IsAlike self.old self.new }
     {
         self.send_close(c);
         self.sockets.try_remove(usize::from(c));
@@ -158,7 +160,7 @@ impl Sockets {
         ensures held { (k : ℕ) → held self.new.sockets k ≡ held self.old.sockets k }
         ensures others { (k : ℕ) → k ≢ c → get self.new.sockets k ≡ get self.old.sockets k }
         ensures readable { self.new.readable ≡ self.old.readable }
-        ensures filter { self.new.telnet ≡ self.old.telnet }
+        ensures alike { IsAlike self.old self.new }
     {
         if let Some(socket) = self.sockets.get_mut(usize::from(c)) {
             socket.send_close();
@@ -171,7 +173,7 @@ impl Sockets {
         ensures held { (c : ℕ) → held self.new.sockets c ≡ held self.old.sockets c }
         ensures same { (c : ℕ) → get self.new.sockets c ≡ get self.old.sockets c }
         ensures readable { self.new.readable ≡ self.old.readable }
-        ensures filter { self.new.telnet ≡ self.old.telnet }
+        ensures alike { IsAlike self.old self.new }
     {
         if self.sockets.len() < self.sockets.capacity() / 4 {
             self.sockets.shrink_to_fit();
@@ -180,8 +182,11 @@ impl Sockets {
 
     /// Marks the sockets that are ready now, unless `wait` has done so since the last call. Fails if the system can't
     /// report them, or if memory runs out.
+    #[tactic(auto, using(crate::proofs::Keeping::still_same))]
     pub fn look(&mut self) -> Result<(), SocketsFault>
-        ensures { (c : ℕ) → held self.new.sockets c ≡ held self.old.sockets c }
+        ensures held { (c : ℕ) → held self.new.sockets c ≡ held self.old.sockets c }
+        ensures still { (c : ℕ) → IsStill (get self.old.sockets c) (get self.new.sockets c) }
+        ensures alike { IsAlike self.old self.new }
     {
         if mem::replace(&mut self.has_waited, false) {
             return Ok(());
@@ -192,15 +197,20 @@ impl Sockets {
     /// Waits for ready sockets, at most for so many seconds, and marks them. Fails if the system can't report them,
     /// or if memory runs out.
     pub fn wait(&mut self, seconds: u64) -> Result<(), SocketsFault>
-        ensures { (c : ℕ) → held self.new.sockets c ≡ held self.old.sockets c }
+        ensures held { (c : ℕ) → held self.new.sockets c ≡ held self.old.sockets c }
+        ensures still { (c : ℕ) → IsStill (get self.old.sockets c) (get self.new.sockets c) }
+        ensures alike { IsAlike self.old self.new }
     {
         self.has_waited = true;
         self.poll(seconds)
     }
 
     // Marks the sockets that are ready within so many seconds.
+    #[tactic(auto, using(crate::proofs::Keeping::still_same))]
     fn poll(&mut self, seconds: u64) -> Result<(), SocketsFault>
-        ensures { (c : ℕ) → held self.new.sockets c ≡ held self.old.sockets c }
+        ensures held { (c : ℕ) → held self.new.sockets c ≡ held self.old.sockets c }
+        ensures still { (c : ℕ) → IsStill (get self.old.sockets c) (get self.new.sockets c) }
+        ensures alike { IsAlike self.old self.new }
     {
         match self
             .poll
@@ -226,6 +236,8 @@ impl Sockets {
     // Marks the sockets that these events name.
     fn wake_all(&mut self, events: &[Event]) -> Result<(), AllocError>
         ensures held { (c : ℕ) → held self.new.sockets c ≡ held self.old.sockets c }
+        ensures still { (c : ℕ) → IsStill (get self.old.sockets c) (get self.new.sockets c) }
+        ensures alike { IsAlike self.old self.new }
         ensures named { OnOk result (All (λ event. IsNamed (event_token event).0 self.new.sockets self.new.readable.items self.new.writable.items) events.now) }
     {
         for event in events {
@@ -235,8 +247,11 @@ impl Sockets {
     }
 
     // Marks the socket, the listener or the browser that an event names.
+    #[tactic(auto, using(crate::proofs::Keeping::still_same, crate::proofs::Keeping::still_written))]
     fn wake(&mut self, event: &Event) -> Result<(), AllocError>
         ensures held { (c : ℕ) → held self.new.sockets c ≡ held self.old.sockets c }
+        ensures still { (c : ℕ) → IsStill (get self.old.sockets c) (get self.new.sockets c) }
+        ensures alike { IsAlike self.old self.new }
         ensures named { OnOk result (IsNamed (event_token event.now).0 self.new.sockets self.new.readable.items self.new.writable.items) }
         ensures others { OnOk result ((c : ℕ) → IsNamed c self.old.sockets self.old.readable.items self.old.writable.items → IsNamed c self.new.sockets self.new.readable.items self.new.writable.items) }
     {

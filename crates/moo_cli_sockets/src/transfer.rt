@@ -1,6 +1,6 @@
 //! The calls of a socket.
 ghost use Rattle.std.specs.Prelude.{◌≡◌, ◌≤◌, ◌<◌, ◌++◌, [], length, drop, false, true, IfOk, OnOk, OnErr};
-ghost use Rattle.moo_cli_sockets.specs.Reading.{IsInput, IsSame, Reads, Receives, filter_after, text_of};
+ghost use Rattle.moo_cli_sockets.specs.Reading.{IsInput, IsSame, Keeps, Reads, Receives, filter_after, text_of};
 ghost use Rattle.moo_cli_sockets.specs.Sending.{MayFail};
 ghost use Rattle.moo_cli_sockets.specs.Waiting.{IsCame, IsNext, IsPiece, is_readable, waits_of};
 
@@ -28,7 +28,7 @@ impl Socket {
     ) -> Socket
         ensures waits { waits_of result ≡ [] }
         ensures input { result.input.items ≡ [] }
-        ensures kind { (result.telnet ≡ telnet) × (result.channel ≡ channel) }
+        ensures kind { (result.telnet ≡ telnet) × (result.channel ≡ channel) × (result.stream ≡ stream) }
     {
         let may_read = channel.is_some();
         Socket {
@@ -177,7 +177,7 @@ impl Socket {
         requires { 0 < length self.old.input.items }
         ensures piece { IfOk result IsPiece }
         ensures next { IfOk result (λ piece. self.old.input.items ≡ piece.items ++ self.new.input.items) }
-        ensures same { (self.new.telnet ≡ self.old.telnet) × (self.new.channel ≡ self.old.channel) }
+        ensures same { (self.new.telnet ≡ self.old.telnet) × (self.new.channel ≡ self.old.channel) × (self.new.stream ≡ self.old.stream) }
         ensures waits { waits_of self.new ≡ waits_of self.old }
     {
         let count = piece_length(&self.input);
@@ -190,7 +190,7 @@ impl Socket {
     fn text(&mut self, alloc: Global, piece: &[u8]) -> Result<Vec<u8>, AllocError>
         ensures text { IfOk result (λ text. text.items ≡ text_of self.old.telnet piece.now) }
         ensures filter { OnOk result (self.new.telnet ≡ filter_after self.old.telnet piece.now) }
-        ensures same { (self.new.input ≡ self.old.input) × (self.new.channel ≡ self.old.channel) }
+        ensures same { (self.new.input ≡ self.old.input) × (self.new.channel ≡ self.old.channel) × (self.new.stream ≡ self.old.stream) }
         ensures waits { waits_of self.new ≡ waits_of self.old }
     {
         match &mut self.telnet {
@@ -205,7 +205,7 @@ impl Socket {
     pub fn write(&mut self) -> io::Result<usize>
         ensures out { IfOk result (λ count. (count ≤ length (waits_of self.old)) × (waits_of self.new ≡ drop count (waits_of self.old))) }
         ensures failed { OnErr result (waits_of self.new ≡ waits_of self.old) }
-        ensures same { (self.new.input ≡ self.old.input) × (self.new.telnet ≡ self.old.telnet) }
+        ensures same { Keeps self.old self.new }
         ensures tried { OnErr result (MayFail [] self.old) }
     {
         if self.channel.is_some() {
@@ -218,7 +218,7 @@ impl Socket {
     fn write_text(&mut self) -> io::Result<usize>
         ensures out { IfOk result (λ count. (count ≤ length (waits_of self.old)) × (waits_of self.new ≡ drop count (waits_of self.old))) }
         ensures failed { OnErr result (waits_of self.new ≡ waits_of self.old) }
-        ensures same { (self.new.input ≡ self.old.input) × (self.new.telnet ≡ self.old.telnet) }
+        ensures same { Keeps self.old self.new }
         ensures tried { OnErr result ((self.old.may_write ≡ true) × (0 < length (waits_of self.old))) }
     {
         self.carried = 0;
@@ -237,6 +237,7 @@ pub(crate) fn write_once(
 ) -> io::Result<usize>
     ensures out { IfOk result (λ count. count ≤ length bytes.now) }
     ensures tried { OnErr result ((may_write.old ≡ true) × (0 < length bytes.now)) }
+    ensures same { stream.new ≡ stream.old }
 {
     if !*may_write || bytes.is_empty() {
         return Ok(0);

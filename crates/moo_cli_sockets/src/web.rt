@@ -1,9 +1,10 @@
 //! Browsers: the page that they get, and their WebSockets, which are connections.
-ghost use Rattle.std.specs.Prelude.{◌≡◌, ◌≢◌, ℕ, map, IfOk, OnOk};
+ghost use Rattle.std.specs.Prelude.{◌≡◌, ◌≢◌, ◌<◌, ℕ, List, map, IfOk, OnOk};
+ghost use Rattle.moo_cli_web_frames.specs.Channels.{IsNew};
 ghost use Rattle.moo_cli_sockets.specs.Browsers.{ServesWeb};
 ghost use Rattle.slab.specs.Slab.{get};
 ghost use Rattle.moo_cli_sockets.specs.Coming.{Follow, IsOpening, held, only};
-ghost use Rattle.moo_cli_sockets.specs.Reading.{IsKept, IsTended};
+ghost use Rattle.moo_cli_sockets.specs.Reading.{IsAlike, IsKept, IsLeft, IsLookedAt, IsTended, IsUpgraded};
 
 use crate::Socket;
 use crate::age::{Age, seconds};
@@ -45,10 +46,11 @@ impl Sockets {
 
     // Reads requests of browsers and writes responses, once for each. Once in a second, looks which WebSockets are
     // silent. Fails only if memory runs out.
-    #[tactic(auto, using(crate::proofs::Keeping::kept_same))]
+    #[tactic(auto, using(crate::proofs::Keeping::kept_same, crate::proofs::Keeping::same_channel))]
     pub(crate) fn serve_web<C: Clock>(&mut self, clock: &C) -> Result<(), AllocError>
         ensures held { (c : ℕ) → held self.new.sockets c ≡ held self.old.sockets c }
         ensures kept { (c : ℕ) → IsKept (get self.old.sockets c) (get self.new.sockets c) }
+        ensures looks { OnOk result ((c : ℕ) → c < 65536 → IsLookedAt self.old.tended self.new.tended (get self.old.sockets c) (get self.new.sockets c)) }
         ensures filter { self.new.telnet ≡ self.old.telnet }
     {
         let Some(web) = &mut self.web else {
@@ -67,9 +69,10 @@ impl Sockets {
     // Looks at each WebSocket whether it is silent.
     #[tactic(auto, using(crate::proofs::Keeping::kept_on, crate::proofs::Keeping::kept_same))]
     fn tend_all(&mut self, now: u64) -> Result<(), AllocError>
+        ensures tended { OnOk result ((c : ℕ) → c < 65536 → IsTended now (get self.old.sockets c) (get self.new.sockets c)) }
         ensures held { (c : ℕ) → held self.new.sockets c ≡ held self.old.sockets c }
         ensures kept { (c : ℕ) → IsKept (get self.old.sockets c) (get self.new.sockets c) }
-        ensures filter { self.new.telnet ≡ self.old.telnet }
+        ensures alike { IsAlike self.old self.new }
     {
         for key in 0..self.sockets.capacity() {
             let Ok(c) = u16::try_from(key) else { break };
@@ -85,7 +88,7 @@ impl Sockets {
         ensures kept { (k : ℕ) → IsKept (get self.old.sockets k) (get self.new.sockets k) }
         ensures others { (k : ℕ) → k ≢ c → get self.new.sockets k ≡ get self.old.sockets k }
         ensures tended { OnOk result (IsTended now (get self.old.sockets c) (get self.new.sockets c)) }
-        ensures filter { self.new.telnet ≡ self.old.telnet }
+        ensures alike { IsAlike self.old self.new }
     {
         self.tend_socket(c, now)?;
         self.list_writable(c)?;
@@ -99,7 +102,7 @@ impl Sockets {
         ensures kept { (k : ℕ) → IsKept (get self.old.sockets k) (get self.new.sockets k) }
         ensures others { (k : ℕ) → k ≢ c → get self.new.sockets k ≡ get self.old.sockets k }
         ensures tended { OnOk result (IsTended now (get self.old.sockets c) (get self.new.sockets c)) }
-        ensures filter { self.new.telnet ≡ self.old.telnet }
+        ensures alike { IsAlike self.old self.new }
     {
         match self.sockets.get_mut(usize::from(c)) {
             Some(socket) => socket.tend(now),
@@ -109,11 +112,12 @@ impl Sockets {
 
     // Opens a connection for a browser that asked for a WebSocket, if one did. Closes the WebSocket if no number is left
     // for it, or if the system can't watch it.
-    #[tactic(auto, using(crate::proofs::Keeping::kept_same))]
+    #[tactic(auto, using(crate::proofs::Keeping::left_same))]
     pub(crate) fn upgrade<L: Clock + Log>(&mut self, rt: &L) -> Result<Option<Event>, AllocError>
         ensures opens { IfOk result (λ event. IsOpening self.old.sockets event × Follow (only event) self.old.sockets self.new.sockets) }
-        ensures kept { OnOk result ((c : ℕ) → IsKept (get self.old.sockets c) (get self.new.sockets c)) }
-        ensures filter { self.new.telnet ≡ self.old.telnet }
+        ensures left { OnOk result ((c : ℕ) → IsLeft (get self.old.sockets c) (get self.new.sockets c)) }
+        ensures fresh { IfOk result (λ event. IsUpgraded self.new.sockets event) }
+        ensures alike { IsAlike self.old self.new }
     {
         if self.is_full {
             return Ok(None);
@@ -136,7 +140,7 @@ impl Sockets {
 
     // Keeps the socket of a WebSocket under its number. Its handshake is to be written, and frames may have come with the
     // request.
-    #[tactic(auto, using(crate::proofs::Keeping::kept_inserted, crate::proofs::Keeping::kept_same))]
+    #[tactic(auto, using(crate::proofs::Keeping::left_inserted, crate::proofs::Keeping::left_same))]
     fn keep_upgrade<C: Clock>(
         &mut self,
         clock: &C,
@@ -146,8 +150,9 @@ impl Sockets {
         requires vacant { c ≡ self.old.sockets.vacant_key }
         requires given { c ≢ CONSOLE }
         ensures opens { IfOk result (λ event. IsOpening self.old.sockets event × Follow (only event) self.old.sockets self.new.sockets) }
-        ensures kept { OnOk result ((c : ℕ) → IsKept (get self.old.sockets c) (get self.new.sockets c)) }
-        ensures filter { self.new.telnet ≡ self.old.telnet }
+        ensures left { OnOk result ((c : ℕ) → IsLeft (get self.old.sockets c) (get self.new.sockets c)) }
+        ensures fresh { IfOk result (λ event. IsUpgraded self.new.sockets event) }
+        ensures alike { IsAlike self.old self.new }
     {
         let Upgrade {
             mut stream,
@@ -175,7 +180,9 @@ impl Sockets {
 }
 
 // Returns the channel of a WebSocket whose key is accepted by this value. Fails only if memory runs out.
-fn open_channel(alloc: Global, accept: &[u8; 28], second: u64) -> Result<Channel, AllocError> {
+fn open_channel(alloc: Global, accept: &[u8; 28], second: u64) -> Result<Channel, AllocError>
+    ensures { IfOk result (λ channel. (response : List ℕ) × IsNew response channel) }
+{
     let mut response = Vec::new(alloc);
     if write_response(accept, &[], &mut response).is_err() {
         return Err(AllocError);

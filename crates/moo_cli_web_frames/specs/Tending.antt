@@ -9,13 +9,13 @@ use Rattle.moo_cli_web_frames.specs.declared.channel.Channel.{Channel}
 -- An empty ping was appended to the frames, or the state of the connection allows none.
 abbrev pub Asks : Channel → Channel → Type 0
 Asks old new =
-    (new.is_over ≡ old.is_over)
+    (new.is_over ≡ old.is_over) × (new.endpoint ≡ old.endpoint)
     × (Leaves (write_step old.endpoint.context (ping [])) new.endpoint.context old.frames.items new.frames.items
     ⊎ (IsErr (write_step old.endpoint.context (ping [])) × (new.frames.items ≡ old.frames.items)))
 
 -- nothing was appended to the frames
 abbrev pub Rests : Channel → Channel → Type 0
-Rests old new = (new.is_over ≡ old.is_over) × (new.frames.items ≡ old.frames.items)
+Rests old new = (new.is_over ≡ old.is_over) × (new.endpoint ≡ old.endpoint) × (new.frames.items ≡ old.frames.items)
 
 -- A look at this second. If something came since the last one, the silence begins anew. Else the channel ends after 90 seconds, and a
 -- ping is due 30 after the last.

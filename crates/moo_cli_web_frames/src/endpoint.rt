@@ -96,31 +96,36 @@ impl Endpoint {
 
     /// Appends a binary message of one frame with these bytes to `output`. Fails if a close was sent or received, or if memory runs
     /// out.
+    #[tactic(auto, using(crate::proofs::Stepping::sent_keeps))]
     pub fn send(&mut self, bytes: &[u8], output: &mut Vec<u8>) -> Result<(), Error>
         ensures ok { OnOk result (Leaves (write_step self.old.context (binary bytes.now)) self.new.context output.old.items output.new.items) }
         ensures err { IfErr result (GivesError (write_step self.old.context (binary bytes.now))) }
-        ensures unchanged { OnErr result ((output.new.items ≡ output.old.items) × (self.new.context ≡ self.old.context)) }
-        ensures input { self.new.input.items ≡ self.old.input.items }
+        ensures unchanged { OnErr result (output.new.items ≡ output.old.items) }
+        ensures same { self.new ≡ self.old }
     {
         self.context
             .write(Message::Binary(bytes), output, &mut NoMask)
     }
 
     /// Appends an empty ping to `output`. Fails if a close was sent or received, or if memory runs out.
+    #[tactic(auto, using(crate::proofs::Stepping::asked_keeps))]
     pub fn ping(&mut self, output: &mut Vec<u8>) -> Result<(), Error>
         ensures ok { OnOk result (Leaves (write_step self.old.context (ping [])) self.new.context output.old.items output.new.items) }
         ensures err { IfErr result (GivesError (write_step self.old.context (ping []))) }
-        ensures unchanged { OnErr result ((output.new.items ≡ output.old.items) × (self.new.context ≡ self.old.context)) }
-        ensures input { self.new.input.items ≡ self.old.input.items }
+        ensures unchanged { OnErr result (output.new.items ≡ output.old.items) }
+        ensures same { self.new ≡ self.old }
     {
         self.context.write(Message::Ping(b""), output, &mut NoMask)
     }
 
     /// Appends a close to `output`, unless one was sent before. Fails if the close can't be sent, or if memory runs out.
+    #[tactic(auto, using(crate::proofs::Stepping::closed_keeps))]
     pub fn close(&mut self, code: CloseCode, output: &mut Vec<u8>) -> Result<(), Error>
         ensures ok { OnOk result (Leaves (close_step self.old.context (Some (code, []))) self.new.context output.old.items output.new.items) }
         ensures appends { (more : List ℕ) × (output.new.items ≡ output.old.items ++ more) }
         ensures err { OnErr result (output.new.items ≡ output.old.items) }
+        ensures input { self.new.input ≡ self.old.input }
+        ensures state { self.new.context ≡ record self.old.context { state = self.new.context.state } }
     {
         self.context
             .close(Some(CloseFrame { code, reason: "" }), output, &mut NoMask)

@@ -1,7 +1,7 @@
 //! What comes on a WebSocket, and what is taken of it.
 ghost use Rattle.std.specs.Prelude.{◌≡◌, ◌++◌, [], length, true, OnOk};
 ghost use Rattle.websocket.specs.Stream.{read_all};
-ghost use Rattle.moo_cli_web_frames.specs.Channels.{Accepts, is_full, pending};
+ghost use Rattle.moo_cli_web_frames.specs.Channels.{Accepts, IsNew, KeepsInput, is_full, pending};
 ghost use Rattle.moo_cli_web_frames.specs.Silence.{silence_from};
 ghost use Rattle.moo_cli_web_frames.specs.Tending.{Asks, Tends};
 
@@ -16,8 +16,7 @@ use websocket::protocol::CloseCode;
 impl Channel {
     /// Returns the channel of a WebSocket that opens at this second, after these bytes of its handshake are written.
     pub fn new(alloc: Global, response: Vec<u8>, second: u64) -> Channel
-        ensures pending { pending result ≡ response.items }
-        ensures payload { result.payload.items ≡ [] }
+        ensures new { IsNew response.items result }
         ensures silence { result.silence ≡ silence_from second }
     {
         Channel {
@@ -83,7 +82,7 @@ impl Channel {
     /// Sends no ping after a close. Fails only if memory runs out.
     pub fn tend(&mut self, now: u64) -> Result<(), AllocError>
         ensures tends { OnOk result (Tends now self.old self.new) }
-        ensures payload { self.new.payload ≡ self.old.payload }
+        ensures input { KeepsInput self.old self.new }
     {
         match self.silence.due(now) {
             Due::Nothing => Ok(()),
@@ -99,7 +98,7 @@ impl Channel {
     // Appends a ping to the frames, unless a close was sent or received.
     fn ask(&mut self) -> Result<(), AllocError>
         ensures asks { OnOk result (Asks self.old self.new) }
-        ensures same { (self.new.payload ≡ self.old.payload) × (self.new.silence ≡ self.old.silence) }
+        ensures same { (self.new.payload ≡ self.old.payload) × (self.new.silence ≡ self.old.silence) × (self.new.endpoint ≡ self.old.endpoint) }
     {
         match self.endpoint.ping(&mut self.frames) {
             Err(Error::OutOfMemory) => Err(AllocError),

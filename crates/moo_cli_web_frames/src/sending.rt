@@ -1,6 +1,6 @@
 //! What goes out on a WebSocket.
 ghost use Rattle.std.specs.Prelude.{◌≡◌, ◌≤◌, ◌↔◌, [], length, drop, IfOk, IsTrue, OnErr};
-ghost use Rattle.moo_cli_web_frames.specs.Channels.{Loads, pending};
+ghost use Rattle.moo_cli_web_frames.specs.Channels.{KeepsInput, Loads, pending};
 
 use crate::channel::{Channel, PAYLOAD_MOST};
 use websocket::error::Error;
@@ -20,6 +20,7 @@ impl Channel {
         ensures loads { IfOk result (λ count. Loads bytes.now count self.old self.new) }
         ensures payload { self.new.payload ≡ self.old.payload }
         ensures silence { self.new.silence ≡ self.old.silence }
+        ensures same { (self.new.endpoint ≡ self.old.endpoint) × (self.new.is_over ≡ self.old.is_over) }
         ensures err { OnErr result (pending self.new ≡ pending self.old) }
     {
         if self.is_over || bytes.is_empty() {
@@ -37,6 +38,7 @@ impl Channel {
         ensures all { IsTrue result ↔ (length (pending self.new) ≡ 0) }
         ensures payload { self.new.payload ≡ self.old.payload }
         ensures silence { self.new.silence ≡ self.old.silence }
+        ensures same { (self.new.endpoint ≡ self.old.endpoint) × (self.new.is_over ≡ self.old.is_over) }
     {
         self.written += count;
         if self.written < self.frames.len() {
@@ -49,8 +51,9 @@ impl Channel {
 
     /// Appends a close to the frames, unless one was sent before or memory runs out.
     pub fn close(&mut self)
-        ensures payload { self.new.payload ≡ self.old.payload }
+        ensures input { KeepsInput self.old self.new }
         ensures silence { self.new.silence ≡ self.old.silence }
+        ensures over { self.new.is_over ≡ self.old.is_over }
     {
         let _ = self.endpoint.close(CloseCode::Normal, &mut self.frames);
     }

@@ -1,2 +1,3 @@
 pub mod Calling
 pub mod Naming
+pub mod Stepping

@@ -1,7 +1,7 @@
 -- The callers of a listener: what came of their requests, and how far the responses are.
-use Rattle.std.specs.Prelude.{◌≡◌, ◌≢◌, ◌⊎◌, ℕ, ◌<◌, ◌≤◌, List, [], ◌++◌, drop, length, Option, None, Some, IfSome}
+use Rattle.std.specs.Prelude.{◌≡◌, ◌⊎◌, ℕ, ◌<◌, ◌≤◌, Bool, false, true, List, [], ◌++◌, drop, Option, None, Some, IfSome}
 use Rattle.std.specs.Io.{StartsWith}
-use Rattle.slab.specs.Slab.{Slab, Updates, get, slab_len}
+use Rattle.slab.specs.Slab.{SameValues, Slab, Updates, get, slab_len}
 use Rattle.moo_cli_web_page.specs.declared.page.TheConstants.{PAGE}
 use Rattle.moo_cli_web_request.specs.Requests.{AsksFor, status_line}
 use Rattle.moo_cli_web_request.specs.declared.allowed.Allowed.{Allowed}
@@ -68,3 +68,29 @@ IsFirst callers n (Some first) =
 pub record MakesRoom (old new : Slab Caller) : Type 0 where
   pub room : slab_len new < 64
   pub kept : (new ≡ old) ⊎ ((64 ≤ slab_len old) × (first : ℕ × ℕ) × IsFirst old old.capacity (Some first) × Updates old new first.1 None)
+
+-- Each caller stays as it is, and one more may be kept.
+abbrev pub KeepsOne : Slab Caller → Slab Caller → Type 0
+KeepsOne old new = SameValues old new ⊎ ((key : ℕ) × (caller : Caller) × (get old key ≡ None) × Updates old new key (Some caller))
+
+-- Only if one more came, room was made for it; it may be kept.
+abbrev pub Accepts : Slab Caller → Slab Caller → Type 0
+Accepts old new = SameValues old new ⊎ ((room : Slab Caller) × MakesRoom old room × KeepsOne room new)
+
+-- it waits to become a WebSocket
+abbrev pub is_upgrading : Stage → Bool
+is_upgrading stage.Reading = false
+is_upgrading (stage.Writing rest) = false
+is_upgrading (stage.Upgrading accept n) = true
+
+-- A caller keeps its stream and its place in the order, or its connection is closed. One that waits to become a WebSocket stays as it is.
+abbrev pub IsStepped : Option Caller → Option Caller → Type 0
+IsStepped None is = is ≡ None
+IsStepped (Some was) is =
+    (is_upgrading was.stage ≡ true → is ≡ Some was) × IfSome is (λ caller. (caller.stream ≡ was.stream) × (caller.arrival ≡ was.arrival))
+
+-- One more may be accepted, and then each makes a step.
+pub record Serves (old new : Slab Caller) : Type 0 where
+  pub accepted : Slab Caller
+  pub accepts : Accepts old accepted
+  pub steps : (key : ℕ) → IsStepped (get accepted key) (get new key)

@@ -1,5 +1,5 @@
 -- The hosts and the origins that a listener allows.
-use Rattle.std.specs.Prelude.{◌≡◌, ◌⊎◌, ℕ, List, [], ◌∷◌, ◌++◌, All, Contains, codes, map}
+use Rattle.std.specs.Prelude.{◌≡◌, ◌⊎◌, ℕ, List, [], ◌∷◌, ◌++◌, All, Contains, codes}
 use Rattle.std.specs.Fmt.{decimal}
 use Rattle.moo_cli_web_request.specs.declared.allowed.Allowed.{Allowed}
 

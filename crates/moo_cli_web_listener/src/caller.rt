@@ -2,7 +2,7 @@
 ghost use Rattle.std.specs.Prelude.{◌≡◌, ◌≤◌, List, [], ℕ, drop, length, true, IfOk, IfSome};
 ghost use Rattle.moo_cli_web_request.specs.Requests.{AsksFor};
 ghost use Rattle.moo_cli_web_request.specs.declared.allowed.Allowed.{Allowed};
-ghost use Rattle.moo_cli_web_listener.specs.Callers.{HandsOn, IsAt, IsCaller};
+ghost use Rattle.moo_cli_web_listener.specs.Callers.{HandsOn, IsAt, IsCaller, is_upgrading};
 
 use mio::net::TcpStream;
 use moo_cli_web_page::PAGE;
@@ -91,6 +91,7 @@ impl Caller {
     pub fn step(&mut self, allowed: &Allowed) -> Result<Progress, AllocError>
         ensures keeps { IsCaller allowed.now self.old → IsCaller allowed.now self.new }
         ensures same { (self.new.stream ≡ self.old.stream) × (self.new.arrival ≡ self.old.arrival) }
+        ensures waits { is_upgrading self.old.stage ≡ true → (self.new ≡ self.old) × (result ≡ Ok Progress.None) }
     {
         if !self.is_ready {
             return Ok(Progress::None);

@@ -1,7 +1,7 @@
 //! The listener for browsers.
 ghost use Rattle.std.specs.Prelude.{◌≡◌, ◌≤◌, ◌+◌, ℕ, map, None, IfOk, IfSome};
-ghost use Rattle.slab.specs.Slab.{slab_len};
-ghost use Rattle.moo_cli_web_listener.specs.Callers.{AreCallers, IsFirst, MakesRoom, Takes};
+ghost use Rattle.slab.specs.Slab.{get, slab_len};
+ghost use Rattle.moo_cli_web_listener.specs.Callers.{Accepts, AreCallers, IsFirst, IsStepped, MakesRoom, Serves, Takes};
 ghost use Rattle.moo_cli_web_listener.specs.Names.{AllowsNames};
 
 use crate::caller::{Caller, Progress, Upgrade};
@@ -89,7 +89,9 @@ impl WebListener {
 
     /// Accepts a browser, if one waits, unless its descriptor would be at this number or a higher one. Then makes a step of each
     /// caller. Returns whether anything was done. Fails only if memory runs out.
+    #[tactic(auto, using(crate::proofs::Stepping::stepped_on, crate::proofs::Stepping::stepped_same))]
     pub fn serve(&mut self, registry: &Registry, most_descriptors: u64) -> Result<bool, AllocError>
+        ensures serves { AreCallers self.old.allowed self.old.callers → Serves self.old.callers self.new.callers }
         ensures callers { AreCallers self.old.allowed self.old.callers → AreCallers self.new.allowed self.new.callers }
         ensures allowed { self.new.allowed ≡ self.old.allowed }
     {
@@ -102,7 +104,9 @@ impl WebListener {
     }
 
     // Makes a step of a caller, and closes its connection once it is done.
+    #[tactic(auto, using(crate::proofs::Stepping::stepped_same, crate::proofs::Stepping::stepped_written, crate::proofs::Stepping::stepped_removed))]
     fn step(&mut self, key: usize) -> Result<Progress, AllocError>
+        ensures steps { (k : ℕ) → IsStepped (get self.old.callers k) (get self.new.callers k) }
         ensures callers { AreCallers self.old.allowed self.old.callers → AreCallers self.new.allowed self.new.callers }
         ensures allowed { self.new.allowed ≡ self.old.allowed }
     {
@@ -118,6 +122,7 @@ impl WebListener {
 
     // Accepts a browser, if one waits, and returns whether one did.
     fn accept(&mut self, registry: &Registry, most_descriptors: u64) -> Result<bool, AllocError>
+        ensures accepts { AreCallers self.old.allowed self.old.callers → Accepts self.old.callers self.new.callers }
         ensures callers { AreCallers self.old.allowed self.old.callers → AreCallers self.new.allowed self.new.callers }
         ensures allowed { self.new.allowed ≡ self.old.allowed }
     {
@@ -136,7 +141,9 @@ impl WebListener {
     }
 
     // Keeps a new caller. Closes its connection if the system can't watch it.
+    #[tactic(auto, using(crate::proofs::Stepping::keeps_none, crate::proofs::Stepping::keeps_one))]
     fn keep(&mut self, registry: &Registry, mut stream: TcpStream) -> Result<(), AllocError>
+        ensures accepts { AreCallers self.old.allowed self.old.callers → Accepts self.old.callers self.new.callers }
         ensures callers { AreCallers self.old.allowed self.old.callers → AreCallers self.new.allowed self.new.callers }
         ensures allowed { self.new.allowed ≡ self.old.allowed }
     {

@@ -1,10 +1,9 @@
-use Rattle.std.proofs.Common.{◌≡◌, ℕ, ◌+◌, ◌<◌, ◌≤◌, Bool, List, length, get_or, Contains, refl, sym, ap, subst, arith, rules}
+use Rattle.std.proofs.Common.{◌≡◌, ℕ, ◌+◌, ◌<◌, ◌≤◌, Bool, List, length, get_or, Contains, refl, sym, ◌∙◌, ap, subst, arith, rules}
 use Rattle.std.proofs.Common.{inl}
 use Rattle.std.specs.List.{AllPairs}
 use Rattle.std.proofs.lemmas.List.{get_or_default}
-use Rattle.slab.specs.Slab.{Slab}
+use Rattle.slab.specs.Slab.{Slab, get}
 use Rattle.moo_cli_sockets.specs.declared.socket.Socket.{Socket}
-use Rattle.moo_cli_sockets.specs.Coming.{held}
 use Rattle.moo_cli_sockets.proofs.Elements.{visited_more}
 use Rattle.moo_server_core.specs.Application.{silence, then_out}
 use Rattle.moo_cli_serve.specs.Idle.{IsIdle}
@@ -21,13 +20,14 @@ loop-c-init g c = (
   record {
     handed = (silence, hands_none g.S.Application.layer c.args.server.now);
     each = c.new-parted.ensures.items;
-    left = λ k from. record { socket = ap (λ (s : Slab Socket). held s k) c.due.ensures.same; waiting = refl };
+    left = λ k from. record { socket = ap (λ (s : Slab Socket). get s k) c.due.ensures.same; waiting = refl };
     log = refl;
   },
   omega arith,
   λ j d less. absurd (omega (arith, less)),
   λ j d from below. omega arith,
   λ k less. absurd (omega (arith, less)),
+  c.due.ensures.alike,
 )
 
 pub returns-in_err-late-clause-handed : goal.returns-in_err-late-clause-handed
@@ -86,6 +86,7 @@ loop-c-preserved g c =
       λ j d from below. omega (arith, rising i j d (omega (arith, from)) below, get_or_default numbers i 0 d within),
       room_more g.S.Application.layer c.args.most_waiting c.args.is_settled late so_far.0 number c.args.server.now c.loop-c.server c.write.new.server
           old c.loop-c.sockets.sockets c.write.new.sockets.sockets small idle c.requires so_far.1.left c.in_ok-event.ensures.others c.in_ok-event.ensures.room so_far.5,
+      (c.write.ensures.alike.0 ∙ so_far.6.0, c.write.ensures.alike.1 ∙ so_far.6.1),
     )
 
 pub returns-clause-handed : goal.returns-clause-handed

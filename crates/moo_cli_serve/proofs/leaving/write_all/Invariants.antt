@@ -1,4 +1,5 @@
 use Rattle.std.proofs.Common.{ℕ, ◌<◌, ◌≤◌, length, get_or}
+use Rattle.moo_cli_sockets.specs.Reading.{IsAlike}
 use Rattle.moo_cli_serve.specs.Room.{HasRoom}
 use Rattle.moo_cli_serve.proofs.Writing.{AreWritten}
 use Rattle.moo_cli_serve.proofs.leaving.write_all.Given as goal
@@ -11,3 +12,4 @@ invariant-loop-c g l =
     × ((j d : ℕ) → j < l.c-index → get_or l.c-items j d < n)
     × ((j d : ℕ) → l.c-index ≤ j → j < length l.c-items → n ≤ get_or l.c-items j d)
     × ((k : ℕ) → k < n → HasRoom l.most_waiting l.sockets.sockets k)
+    × IsAlike l.fn.sockets l.sockets

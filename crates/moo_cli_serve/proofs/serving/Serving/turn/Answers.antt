@@ -10,7 +10,7 @@ use Rattle.moo_cli_serve.proofs.Events.{cuts_none}
 use Rattle.moo_cli_serve.proofs.Hearing.{listens_kept}
 use Rattle.moo_cli_serve.proofs.Idling.{room_follows, room_same}
 use Rattle.moo_cli_serve.proofs.Serviced.{refused_of}
-use Rattle.moo_cli_serve.proofs.Rounding.{begins_on, follows_end}
+use Rattle.moo_cli_serve.proofs.Rounding.{begins_on, follows_end, rests_hold}
 use Rattle.moo_cli_serve.proofs.serving.Serving.turn.Goals as goal
 
 pub invariant_of-clients : goal.invariant_of-clients
@@ -62,7 +62,8 @@ pub write_all-requires : goal.write_all-requires
 write_all-requires g c settled =
     let was : c.args.self.now.clients.is_settled ≡ true = sym c.replace-is_settled.ensures.value ∙ settled in
     let looked : HaveRoom c.args.self.now.clients.most_waiting c.look.new.self.sockets =
-    room_same c.args.self.now.clients.most_waiting c.args.self.now.clients.sockets.sockets c.look.new.self.sockets (c.args.self.now.clients.room was) (λ k. c.look.ensures k ∙ c.rest.ensures k) in
+    room_same c.args.self.now.clients.most_waiting c.args.self.now.clients.sockets.sockets c.look.new.self.sockets (c.args.self.now.clients.room was)
+    (rests_hold c.args.self.now.clients.sockets c.rest.new.self c.look.new.self (record { same = c.rest.ensures.same; alike = c.rest.ensures.alike; held = c.look.ensures.held; still = c.look.ensures.still; then_alike = c.look.ensures.alike })) in
     room_follows c.args.self.now.clients.most_waiting c.in_ok-came.ensures.came c.look.new.self.sockets c.come.new.sockets.sockets looked c.in_ok-came.ensures.comes.follow
 
 pub returns-in_err-parted-clause-follows : goal.returns-in_err-parted-clause-follows
@@ -90,9 +91,9 @@ returns-clause-follows g c = c.in_ok-give_if_open.ensures.follows
 pub returns-clause-round : goal.returns-clause-round
 returns-clause-round g c = record {
   first = c.in_ok-came.came.items;
-  read = c.come.new.sockets.sockets;
-  begins = begins_on c.args.self.now.clients.sockets.sockets c.look.new.self.sockets c.come.new.sockets.sockets c.args.self.now.console c.come.new.console c.args.self.now.moment c.come.new.moment c.in_ok-came.came.items
-      (λ k. c.look.ensures k ∙ c.rest.ensures k) c.in_ok-came.ensures;
+  read = c.come.new.sockets;
+  begins = begins_on c.args.self.now.clients.sockets c.rest.new.self c.look.new.self c.come.new.sockets c.args.self.now.console c.come.new.console c.args.self.now.moment c.come.new.moment c.in_ok-came.came.items
+      (record { same = c.rest.ensures.same; alike = c.rest.ensures.alike; held = c.look.ensures.held; still = c.look.ensures.still; then_alike = c.look.ensures.alike }) c.in_ok-came.ensures;
   second = c.as_secs-second.result;
   listens = listens_kept c.as_secs-second.result c.in_ok-came.came.items c.args.self.now.timeouts.silence c.hear.new.self c.write_all.new.timeouts.silence
       (subst (λ (es : List Event). Listens c.as_secs-second.result es c.args.self.now.timeouts.silence c.hear.new.self) c.deref.ensures.value c.in_ok-hear.ensures)
@@ -104,6 +105,7 @@ returns-clause-round g c = record {
   parted = c.in_ok-parted.parted.items;
   written = c.write_all.new.server;
   writes = c.in_ok-parted.ensures.written;
+  alike = c.in_ok-parted.ensures.alike;
   handed = c.in_ok-parted.ensures.handed;
   ends = subst (λ (es : List Event). GivenIfOpen g.S.Application.layer g.D.Disk.kind c.write_all.new.server c.give-given.new.disk es c.give_if_open.new.server c.give_if_open.new.disk)
       c.deref-3.ensures.value c.in_ok-give_if_open.ensures.all;
@@ -136,10 +138,10 @@ returns-in_err-given-clause-ended g c =
       refused.taken,
       record {
         first = c.in_ok-came.came.items;
-        read = c.come.new.sockets.sockets;
+        read = c.come.new.sockets;
         typing = c.come.new.console;
-        begins = begins_on c.args.self.now.clients.sockets.sockets c.look.new.self.sockets c.come.new.sockets.sockets c.args.self.now.console c.come.new.console c.args.self.now.moment c.come.new.moment c.in_ok-came.came.items
-            (λ k. c.look.ensures k ∙ c.rest.ensures k) c.in_ok-came.ensures;
+        begins = begins_on c.args.self.now.clients.sockets c.rest.new.self c.look.new.self c.come.new.sockets c.args.self.now.console c.come.new.console c.args.self.now.moment c.come.new.moment c.in_ok-came.came.items
+            (record { same = c.rest.ensures.same; alike = c.rest.ensures.alike; held = c.look.ensures.held; still = c.look.ensures.still; then_alike = c.look.ensures.alike }) c.in_ok-came.ensures;
         refused = inl (refused, refl);
       },
     )
@@ -151,10 +153,10 @@ returns-in_err-parted-clause-ended g c =
       c.in_ok-came.came.items,
       record {
         events_are = inr (
-          c.come.new.sockets.sockets,
+          c.come.new.sockets,
           c.come.new.console,
-          begins_on c.args.self.now.clients.sockets.sockets c.look.new.self.sockets c.come.new.sockets.sockets
-              c.args.self.now.console c.come.new.console c.args.self.now.moment c.come.new.moment c.in_ok-came.came.items (λ k. c.look.ensures k ∙ c.rest.ensures k) c.in_ok-came.ensures,
+          begins_on c.args.self.now.clients.sockets c.rest.new.self c.look.new.self c.come.new.sockets
+              c.args.self.now.console c.come.new.console c.args.self.now.moment c.come.new.moment c.in_ok-came.came.items (record { same = c.rest.ensures.same; alike = c.rest.ensures.alike; held = c.look.ensures.held; still = c.look.ensures.still; then_alike = c.look.ensures.alike }) c.in_ok-came.ensures,
         );
         given = c.give-given.new.server;
         gives = subst (λ (es : List Event). Given g.S.Application.layer g.D.Disk.kind c.args.self.now.server c.args.self.now.disk es c.give-given.new.server c.give-given.new.disk)
@@ -173,10 +175,10 @@ returns-in_err-give_if_open-clause-ended g c =
       c.in_ok-came.came.items ++ refused.taken,
       record {
         first = c.in_ok-came.came.items;
-        read = c.come.new.sockets.sockets;
+        read = c.come.new.sockets;
         typing = c.come.new.console;
-        begins = begins_on c.args.self.now.clients.sockets.sockets c.look.new.self.sockets c.come.new.sockets.sockets c.args.self.now.console c.come.new.console c.args.self.now.moment c.come.new.moment c.in_ok-came.came.items
-            (λ k. c.look.ensures k ∙ c.rest.ensures k) c.in_ok-came.ensures;
+        begins = begins_on c.args.self.now.clients.sockets c.rest.new.self c.look.new.self c.come.new.sockets c.args.self.now.console c.come.new.console c.args.self.now.moment c.come.new.moment c.in_ok-came.came.items
+            (record { same = c.rest.ensures.same; alike = c.rest.ensures.alike; held = c.look.ensures.held; still = c.look.ensures.still; then_alike = c.look.ensures.alike }) c.in_ok-came.ensures;
         refused = inr (
           record {
             given = c.give-given.new.server;

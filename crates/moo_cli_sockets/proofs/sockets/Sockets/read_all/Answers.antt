@@ -13,7 +13,7 @@ use Rattle.moo_cli_sockets.proofs.Sent.{follow_append}
 use Rattle.moo_cli_sockets.proofs.sockets.Sockets.read_all.Goals as goal
 
 pub loop-c-init : goal.loop-c-init
-loop-c-init c = (0, [], refl, λ k. refl, sym (append-nil c.args.events.now.items), λ j d from below. omega arith, λ j d less. absurd (omega (arith, less)), refl, λ k from. refl, refl)
+loop-c-init c = (0, [], refl, λ k. refl, sym (append-nil c.args.events.now.items), λ j d from below. omega arith, λ j d less. absurd (omega (arith, less)), refl, λ k from. refl, (refl, refl))
 
 pub loop-c-preserved : goal.loop-c-preserved
 loop-c-preserved c =
@@ -59,7 +59,7 @@ loop-c-preserved c =
           c.in_ok-keep_readable.ensures.listed,
       each_more (λ k e. Brings (get c.args.self.now.sockets k) e (get now k)) number so_far.1 reads event brings_before brings_here refl,
       λ k from. others k (λ e. omega (arith, e, from)) ∙ so_far.8 k (omega (arith, from, up)),
-      c.keep_readable.ensures.filter ∙ c.read.ensures.filter ∙ so_far.9,
+      (c.keep_readable.ensures.alike.0 ∙ c.read.ensures.alike.0 ∙ so_far.9.0, c.keep_readable.ensures.alike.1 ∙ c.read.ensures.alike.1 ∙ so_far.9.1),
     )
 
 pub returns-clause-read : goal.returns-clause-read

@@ -2,7 +2,7 @@ use Rattle.std.proofs.Common.{◌≡◌, ℕ, ◌<◌, ◌≤◌, List, ◌++◌
 use Rattle.moo_server_core.specs.declared.event.Event.{Event}
 use Rattle.slab.specs.Slab.{get}
 use Rattle.moo_cli_sockets.specs.Coming.{Each, Follow, IsListed, IsRead, held}
-use Rattle.moo_cli_sockets.specs.Reading.{Brings}
+use Rattle.moo_cli_sockets.specs.Reading.{Brings, IsAlike}
 use Rattle.moo_cli_sockets.proofs.sockets.Sockets.read_all.Given as goal
 
 -- The numbers before the index are read. They are below n, and the others aren't.
@@ -14,4 +14,4 @@ invariant-loop-c l =
     × ((j d : ℕ) → j < l.c-index → IsListed l.self.readable.items l.self.sockets (get_or l.c-items j d))
     × Each (λ c event. Brings (get l.initial.self.sockets c) event (get l.self.sockets c)) n reads
     × ((c : ℕ) → n ≤ c → get l.self.sockets c ≡ get l.initial.self.sockets c)
-    × (l.self.telnet ≡ l.initial.self.telnet)
+    × IsAlike l.initial.self l.self

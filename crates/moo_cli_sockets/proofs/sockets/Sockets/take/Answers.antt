@@ -1,6 +1,8 @@
-use Rattle.std.proofs.Common.{ℕ, List, ◌++◌, Option, ◌∙◌, ap, subst}
+use Rattle.std.proofs.Common.{ℕ, List, ◌++◌, Option, sym, ◌∙◌, ap, subst}
+use Rattle.slab.specs.Slab.{get}
 use Rattle.moo_server_core.specs.declared.event.Event.{Event}
 use Rattle.moo_cli_sockets.specs.Coming.{IsRead, held, held_after, only}
+use Rattle.moo_cli_sockets.specs.Reading.{IsLookedAt}
 use Rattle.moo_cli_sockets.proofs.Counting.{each_map}
 use Rattle.moo_cli_sockets.proofs.Sent.{follow_append}
 use Rattle.moo_cli_sockets.proofs.sockets.Sockets.take.Goals as goal
@@ -31,6 +33,9 @@ returns-clause-arrives g c =
       all = read.4 ∙ ap (λ (es : List Event). es ++ read.1) (c.in_ok-put.ensures ∙ ap (λ (es : List Event). es ++ only opened) c.new-events.ensures.items);
       between = c.open_one.new.self.sockets;
       kept = c.in_ok-opened.ensures.kept;
+      looks = λ k below. subst (λ (now : ℕ). IsLookedAt c.args.self.now.tended now (get c.args.self.now.sockets k) (get c.open_one.new.self.sockets k)) (sym c.read_all.ensures.alike.1) (c.in_ok-opened.ensures.looks k below);
+      fresh = c.in_ok-opened.ensures.fresh;
       brings = read.5;
       others = read.6;
+      filter_is = c.read_all.ensures.alike.0 ∙ c.open_one.ensures.filter;
     }

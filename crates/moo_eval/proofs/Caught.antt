@@ -3,8 +3,8 @@ use Rattle.std.proofs.Common.{◌≡◌, Box, Option, Some, None, List, Result, 
 use Rattle.std.specs.Global.{Global}
 use Rattle.moo_value.specs.declared.error_code.ErrorCode.{ErrorCode}
 use Rattle.moo_value.specs.Tree.{Tree}
-use Rattle.moo_syntax_ast.specs.declared.tree.Expr as code_expr
 use Rattle.moo_syntax_ast.specs.Tree.{Expr, Codes}
+use Rattle.moo_syntax_lower.specs.declared.node.Node.{Node}
 use Rattle.moo_eval_frame.specs.Outcome.{Stop, Failure, passes}
 use Rattle.moo_eval_frame.specs.State.{Context}
 use Rattle.moo_eval_access.specs.State.{State}
@@ -16,11 +16,11 @@ use Rattle.moo_eval_frame.specs.declared.outcome.Stop as code_stop
 use Rattle.moo_eval_frame.specs.declared.outcome.Stop.TheVariants as stop_case
 use Rattle.moo_eval_frame.specs.Seen.{catch_of, seen_value, IsKnown}
 
-pub guards_end : {T : Telling} {c : Context} {s s' : State} {failure : Failure} (a : Expr) (codes : Codes) (o : Option (Box code_expr.Expr Global)) → EvaluatesAll T c (guards codes) s (Err failure) s' → Computes T c (catch_of a codes o) s (Err failure) s'
+pub guards_end : {T : Telling} {c : Context} {s s' : State} {failure : Failure} (a : Expr) (codes : Codes) (o : Option (Box Node Global)) → EvaluatesAll T c (guards codes) s (Err failure) s' → Computes T c (catch_of a codes o) s (Err failure) s'
 guards_end a codes None d = operands_end d
 guards_end a codes (Some b) d = operands_end d
 
-pub passes_on : {T : Telling} {c : Context} {a : Expr} {s s' s'' : State} {vs : List Tree} {o : Result Tree Stop} {r : Result Tree Failure} (codes : Codes) (x : Option (Box code_expr.Expr Global)) → EvaluatesAll T c (guards codes) s (Ok vs) s' → Evaluates T c a s' o s'' → caught codes vs o ≡ None → passes o ≡ r → Computes T c (catch_of a codes x) s r s''
+pub passes_on : {T : Telling} {c : Context} {a : Expr} {s s' s'' : State} {vs : List Tree} {o : Result Tree Stop} {r : Result Tree Failure} (codes : Codes) (x : Option (Box Node Global)) → EvaluatesAll T c (guards codes) s (Ok vs) s' → Evaluates T c a s' o s'' → caught codes vs o ≡ None → passes o ≡ r → Computes T c (catch_of a codes x) s r s''
 passes_on codes None g d f e = applies g no_more (catch_passes d f e)
 passes_on codes (Some b) g d f e = applies g no_more (catch_or_passes d f e)
 

@@ -32,11 +32,3 @@ not_below low n h = omega (arith, ints)
 -- the test that the loop makes, in the wider type
 pub reached : (n m high : ℤ) (b : Bool) → SFits w32 high → m ≡ to_z w32 (of_z w32 high) → int_le n (to_z w64 (of_z w64 m)) ≡ b → int_le n high ≡ b
 reached n m high b g q t = sym (ap (λ x. int_le n (to_z w64 (of_z w64 x))) (q ∙ to_z-of_z w32 high g) ∙ ap (int_le n) (to_z-of_z w64 high (sfits_widen tt g))) ∙ t
-
--- an integer of the language is no less than the least
-pub least : (n : ℤ) → SFits w32 n → negsuc 2147483647 ≤ℤ n
-least (pos n) f = grind (arith, ints)
-least (negsuc n) f = grind (arith, ints)
-
-pub not_before : (low n m : ℤ) → low ≤ℤ n → n ≤ℤ m → low ≤ℤ m
-not_before low n m h k = omega (arith, ints, h, k)

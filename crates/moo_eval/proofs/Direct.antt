@@ -1,25 +1,24 @@
 -- Expressions without parts, and assignments to variables.
-use Rattle.std.proofs.Common.{◌≡◌, ◌<◌, List, [], ◌∷◌, ℕ, Result, Ok, Err, refl, ap}
+use Rattle.std.proofs.Common.{◌≡◌, ◌<◌, List, [], ◌∷◌, ℕ, Result, Ok, Err, Option, Some, None, IfSome, refl}
 use Rattle.moo_value.specs.declared.error_code.ErrorCode.TheVariants.{VariableNotFound}
 use Rattle.moo_value.specs.Tree.{Tree}
 use Rattle.moo_value.specs.Compare.{folded}
-use Rattle.moo_syntax_ast.specs.Tree.{Expr, variable, assign, performs}
+use Rattle.moo_syntax_ast.specs.declared.tree.Literal.{Literal}
+use Rattle.moo_syntax_ast.specs.Tree.{Expr, literal, literal_value, variable, assign, performs}
 use Rattle.moo_eval_frame.specs.Variables.{bind}
 use Rattle.moo_eval_frame.specs.Outcome.{Stop, Failure, stops, next, or_error, answers, settled}
 use Rattle.moo_eval_frame.specs.State.{Context}
 use Rattle.moo_eval_access.specs.State.{State, ticked, bound, trace}
 use Rattle.moo_builtin.specs.Telling.{Telling}
-use Rattle.moo_eval_fast_expr.specs.Leaves.{IsLeaf, literal_leaf, variable_leaf}
 use Rattle.moo_eval_semantics.specs.Meaning.{Evaluates, Computes, Does, begins, applies, no_more, literal_is, variable_is, assign_is, value_stops, assigns, locates, finds, inside, stores, puts_variable, evaluates}
 
 -- a variable takes a tick
 pub variable_read : {T : Telling} {c : Context} {name : List ℕ} {s : State} {o : Result Tree Failure} {r : Result Tree Stop} → 0 < s.ticks → answers (or_error (s.variables (folded name)) VariableNotFound) ≡ o → settled c.frame.d (trace c (ticked s)) o ≡ r → Evaluates T c (variable name) s r (ticked s)
 variable_read z f g = begins z (applies no_more no_more (variable_is f)) g
 
--- a leaf takes a tick and gives its value
-pub leaf_gives : {T : Telling} {c : Context} {s : State} {e : Expr} {v : Tree} → 0 < s.ticks → IsLeaf s.variables e v → Evaluates T c e s (Ok v) (ticked s)
-leaf_gives z literal_leaf = begins z (applies no_more no_more literal_is) refl
-leaf_gives z (variable_leaf h) = begins z (applies no_more no_more (variable_is (ap (λ o. answers (or_error o VariableNotFound)) h))) refl
+-- a literal takes a tick and gives its value
+pub literal_read : {T : Telling} {c : Context} {l : Literal} {s : State} → 0 < s.ticks → Evaluates T c (literal l) s (Ok (literal_value l)) (ticked s)
+literal_read z = begins z (applies no_more no_more literal_is) refl
 
 -- a variable is set to the value
 pub assigned : {T : Telling} {c : Context} {x : List ℕ} {e : Expr} {s s' s'' : State} {v : Tree} → Evaluates T c e s (Ok v) s' → bound (bind x v ∷ []) s' ≡ s'' → Computes T c (assign (variable x) e) s (Ok v) s''
@@ -35,3 +34,8 @@ performed z d = evaluates (begins z d refl) refl
 
 pub unperformed : {T : Telling} {c : Context} {e : Expr} {s s' : State} {stop : Stop} → 0 < s.ticks → Computes T c e (ticked s) (Err (stops stop)) s' → Does T c (performs e) s (Err stop) s'
 unperformed z d = evaluates (begins z d refl) refl
+
+-- of an answer, if there is one
+pub map_some : {A : Type 0} {P Q : A → Type 0} (r : Option A) → ((x : A) → P x → Q x) → IfSome r P → IfSome r Q
+map_some None f h = tt
+map_some (Some x) f h = f x h

@@ -39,8 +39,8 @@ first_runs around start before callers ticks variables programmer notices b o la
     subst (λ x. RunsAll Faults (first_context around start) x (first_state start before) o last) u (subst (λ x. RunsAll Faults x b (first_state start before) o last) context (subst (λ x. RunsAll Faults (record { frame = start; callers = callers; indexed = None; surroundings = around }) b x o last) state d))
 
 -- notices that stay, with others after them or without
-pub behind : (old new more : List Notice) → new ≡ old ++ more → IsBegunBy old new
-behind old new more added = (more, added)
+pub followed : (old new more : List Notice) → new ≡ old ++ more → IsBegunBy old new
+followed old new more added = (more, added)
 
 pub unchanged : (old new : List Notice) → new ≡ old → IsBegunBy old new
 unchanged old new same = ([], same ∙ sym (append-nil old))

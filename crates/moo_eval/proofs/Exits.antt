@@ -8,9 +8,9 @@ use Rattle.moo_builtin_operator.specs.Answer.{IsRefused}
 use Rattle.moo_eval_frame.specs.declared.outcome.Flow as code_flow
 use Rattle.moo_eval_frame.specs.declared.outcome.Flow.TheVariants as flow_case
 use Rattle.moo_value.specs.declared.error_code.ErrorCode.TheVariants.{TypeMismatch}
-use Rattle.moo_syntax_ast.specs.declared.tree.Item.{Item, Element', Splice', Optional, Defaulted'}
 use Rattle.moo_syntax_ast.specs.Tree.{Items, Block}
-use Rattle.moo_syntax_ast.specs.View.{with_item}
+use Rattle.moo_syntax_lower.specs.declared.node.NodeItem.{NodeItem, Element', Splice', Optional, Defaulted'}
+use Rattle.moo_syntax_lower.specs.Source.{with_source}
 use Rattle.moo_eval_frame.specs.declared.outcome.Failure as code_failure
 use Rattle.moo_eval_frame.specs.declared.notice.Notice.{Notice}
 use Rattle.moo_eval_frame.specs.State.{Context}
@@ -26,6 +26,11 @@ use Rattle.moo_eval_semantics.specs.Operands.{before}
 use Rattle.moo_eval_semantics.specs.Meaning.{EvaluatesAll, optional_fails, defaulted_fails, Puts, property_unset, puts_property, RunsAll}
 use Rattle.moo_eval_frame.specs.Seen.{failure_of, flow_of, seen_by, seen_done, HadMemoryIn}
 use Rattle.moo_eval_frame.specs.Fault.{failed}
+
+-- what is none of the errors there are is none
+pub none_left : {X : Type 0} (o : Option X) → ((x : X) → o ≡ Some x → ⊥) → o ≡ None
+none_left None h = refl
+none_left (Some x) h = absurd (h x refl)
 
 -- an operation that is refused with memory enough fails with its error
 pub refused : (f : OperationFault) (r : Result Tree ErrorCode) → IsRefused f r → HadMemoryIn (failed f) → answers r ≡ Err (failure_of (failed f))
@@ -57,13 +62,13 @@ pub same_state : {n : ℕ} {w : World} {f g : List ℕ → Option Tree} {p q : �
 same_state {n = n} {w = w} {ns = ns} e h = λ i. record { ticks = n; world = w; variables = e i; programmer = h i; notices = ns }
 
 -- a name that may be left out occurs in no list that is evaluated
-abbrev pub IsOptional : Item → Type 0
+abbrev pub IsOptional : NodeItem → Type 0
 IsOptional (Element' p e) = ⊥
 IsOptional (Splice' p e) = ⊥
 IsOptional (Optional x) = Unit {0}
 IsOptional (Defaulted' x p e) = Unit {0}
 
-pub optional_ends : {T : Telling} {c : Context} {s : State} (item : Item) (xs : Items) → IsOptional item → EvaluatesAll T c (with_item item xs) s (Err (fails TypeMismatch)) s
+pub optional_ends : {T : Telling} {c : Context} {s : State} (item : NodeItem) (xs : Items) → IsOptional item → EvaluatesAll T c (with_source item xs) s (Err (fails TypeMismatch)) s
 optional_ends (Element' p e) xs h = absurd h
 optional_ends (Splice' p e) xs h = absurd h
 optional_ends (Optional x) xs h = optional_fails
@@ -77,11 +82,6 @@ guarded_on gs us g (Err stop) p = refl
 -- states with as many ticks, and with the same notices and variables
 pub state_at : {n m : ℕ} {w : World} {f g : List ℕ → Option Tree} {p : ℤ} {ns ms : List Notice} → n ≡ m → ns ≡ ms → f ≡ g → ◌≡◌ {A = State} (record { ticks = n; world = w; variables = f; programmer = p; notices = ns }) (record { ticks = m; world = w; variables = g; programmer = p; notices = ms })
 state_at {w = w} {p = p} e k h = λ i. record { ticks = e i; world = w; variables = h i; programmer = p; notices = k i }
-
--- a turn after which the loop goes on
-pub no_flow : (o : Option code_flow.Flow) → ((flow : code_flow.Flow) → o ≡ Some flow → ⊥) → o ≡ None
-no_flow None h = refl
-no_flow (Some flow) h = absurd (h flow refl)
 
 -- a property that was set, or was not and the world is as it was
 pub property_put : {T : Telling} {c : Context} {n : ℕ} {w w' : World} {f : List ℕ → Option Tree} {p : ℤ} {ns : List Notice} {base name v : Tree} (r : Result (Unit {0}) code_failure.Failure) → answers (write_property w p base name v) ≡ seen_by (λ done. w') r → IfErr r (λ failure. w' ≡ w) → Puts T c (owned base name) v (record { ticks = n; world = w; variables = f; programmer = p; notices = ns }) (seen_done r) (record { ticks = n; world = w'; variables = f; programmer = p; notices = ns })

@@ -1,9 +1,9 @@
 -- Verbs that a function calls and that have nothing to run.
-use Rattle.std.proofs.Common.{◌≡◌, ◌≢◌, ◌<◌, ◌≤◌, ℕ, pos, List, [], ◌∷◌, length, ◌==◌, false, Result, Ok, Err, OnOk, IsTrue, is_ok, refl, sym, subst, arith}
+use Rattle.std.proofs.Common.{◌≡◌, ℕ, pos, List, [], ◌∷◌, length, ◌==◌, false, Result, Ok, Err, OnOk, IsTrue, is_ok, refl, sym, subst}
 use Rattle.std.proofs.lemmas.Bool.{false≢true}
 use Rattle.moo_value.specs.Tree.{Tree, integer}
 use Rattle.moo_syntax_ast.specs.declared.tree.Stmt.{Stmt}
-use Rattle.moo_syntax_ast.specs.Tree.{Stmt as StmtTree, Block, no_statement, then}
+use Rattle.moo_syntax_ast.specs.Tree.{no_statement}
 use Rattle.moo_syntax_ast.specs.View.{block}
 use Rattle.moo_eval_frame.specs.Outcome.{Failure}
 use Rattle.moo_eval_frame.specs.State.{Context}
@@ -30,14 +30,6 @@ passed_over (progress_case.Done v) at r s' h d = absurd h
 passed_over {T = T} {c = c} {s = s} (progress_case.VerbNext called other) at r s' h d =
     hook_then (runs_at (sym h.0) ends) refl refl refl (subst (λ x. Proceeds T c (resumed c x (integer (pos 0)) s).0 (resumed c x (integer (pos 0)) s).1 r s') (sym h.1) d)
 passed_over {T = T} {c = c} {s = s} (progress_case.StageNext other) at r s' h d = at_once refl (subst (λ x. Proceeds T c (resumed c x (integer (pos 0)) s).0 (resumed c x (integer (pos 0)) s).1 r s') (sym h) d)
-
-begins_with : (s : StmtTree) (b : Block) → then s b ≡ no_statement → ⊥
-begins_with s b e = absurd cc
-
--- what has a statement takes a tick, whether it is run ahead or behind
-pub takes_one : (rest all : Block) {n m k : ℕ} → all ≢ no_statement → (rest ≢ all → m < n) → m ≤ n → (rest ≢ no_statement → k < m) → k ≤ m → k < n
-takes_one no_statement all begins ahead within behind later = omega (arith, ahead (λ e. begins (sym e)), later)
-takes_one (then first others) all begins ahead within behind later = omega (arith, within, behind (begins_with first others))
 
 -- what holds if one comes to its end holds if the other does, which comes to its end only then
 pub comes_on : {A B E F : Type 0} (P : Type 0) (r : Result A E) (o : Result B F) → OnOk r (IsTrue (is_ok o)) → OnOk o P → OnOk r P

@@ -5,16 +5,10 @@ pub mod Exits
 pub mod Held
 pub mod Hooking
 pub mod Texts
+mod Passing
 mod Direct
+mod Extended
 mod Lengthened
-mod Appended
 mod Placed
-mod Foreseen
-mod Fits
-mod Functions
-mod Known
-mod Scattered
-mod Branched
-mod Turned
-mod Returned
-mod InTurn
+mod Properties
+mod Ticks

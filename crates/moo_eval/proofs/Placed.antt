@@ -10,8 +10,7 @@ use Rattle.moo_eval_frame.specs.State.{Context, within}
 use Rattle.moo_eval_frame.specs.Variables.{bind}
 use Rattle.moo_eval_access.specs.State.{State, ticked, bound, trace}
 use Rattle.moo_builtin.specs.Telling.{Telling}
-use Rattle.moo_eval_fast_stmt.specs.Element.{sets_place}
-use Rattle.moo_eval.specs.Element.{IsPut}
+use Rattle.moo_eval.specs.Element.{sets_place, IsPut}
 use Rattle.moo_eval_semantics.specs.Meaning.{Evaluates, Computes, Does, begins, applies, no_more, element_stops, element_then, assign_is, target_ends, value_stops, assigns, locates, finds, inside, step_ends, enters, unread, spot_ends, steps_in, no_store, stores, puts_variable, evaluates}
 use Rattle.moo_eval.proofs.Direct.{performed}
 

@@ -1,12 +1,15 @@
 -- Assignments to a place of the list or string in a variable.
 use Rattle.std.specs.Prelude.{ℕ, List, Ok}
 use Rattle.moo_value.specs.Tree.{Tree}
-use Rattle.moo_syntax_ast.specs.Tree.{Expr}
+use Rattle.moo_syntax_ast.specs.Tree.{Expr, variable, index, assign}
 use Rattle.moo_eval_frame.specs.State.{Context}
 use Rattle.moo_eval_access.specs.State.{State}
 use Rattle.moo_builtin.specs.Telling.{Telling}
-use Rattle.moo_eval_fast_stmt.specs.Element.{sets_place}
 use Rattle.moo_eval_semantics.specs.Meaning.{Computes}
+
+-- `name[place] = e`
+abbrev pub sets_place : List ℕ → Expr → Expr → Expr
+sets_place name place e = assign (index (variable name) place) e
 
 -- the assignment comes to its end, with some value
 pub record IsPut (T : Telling) (c : Context) (name : List ℕ) (place e : Expr) (s t : State) : Type 0 where

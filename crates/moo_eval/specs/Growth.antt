@@ -1,11 +1,10 @@
 -- Lists that grow in their variable.
-use Rattle.std.specs.Prelude.{◌≡◌, ℕ, List, [], ◌∷◌, Result, Ok, Err}
+use Rattle.std.specs.Prelude.{◌≡◌, ℕ, List, [], ◌∷◌, Ok}
 use Rattle.moo_value.specs.Tree.{Tree}
 use Rattle.moo_syntax_ast.specs.Tree.{Expr}
 use Rattle.moo_eval_frame.specs.Variables.{bind}
-use Rattle.moo_eval_frame.specs.Outcome.{Failure, settled}
 use Rattle.moo_eval_frame.specs.State.{Context}
-use Rattle.moo_eval_access.specs.State.{State, bound, trace}
+use Rattle.moo_eval_access.specs.State.{State, bound}
 use Rattle.moo_builtin.specs.Telling.{Telling}
 use Rattle.moo_eval_semantics.specs.Meaning.{Computes}
 
@@ -15,9 +14,3 @@ pub record IsLengthened (T : Telling) (c : Context) (name : List ℕ) (longer : 
   pub between : State
   pub computes : Computes T c longer s (Ok value) between
   pub sets : bound (bind name value ∷ []) between ≡ t
-
--- what becomes of an expression's outcome is what becomes of this failure
-pub record SettlesAs (T : Telling) (c : Context) (e : Expr) (s : State) (failure : Failure) (s' : State) : Type 0 where
-  pub outcome : Result Tree Failure
-  pub computes : Computes T c e s outcome s'
-  pub settles : settled c.frame.d (trace c s') outcome ≡ settled c.frame.d (trace c s') (Err failure)

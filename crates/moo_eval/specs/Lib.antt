@@ -3,5 +3,4 @@ pub mod Hooks
 pub mod Ends
 pub mod Growth
 pub mod Element
-pub mod Turning
-pub mod Callee
+pub mod Leaves

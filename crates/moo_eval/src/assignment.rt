@@ -1,7 +1,7 @@
 //! Runs assignments.
 ghost use Rattle.std.specs.Prelude.{◌≤◌, None, Result, Err, IfOk, IfErr, OnOk, map};
 ghost use Rattle.moo_syntax_ast.specs.Tree.{variable, assign, performs, list, splice, element, no_items};
-ghost use Rattle.moo_syntax_ast.specs.View.{tree, items_of};
+ghost use Rattle.moo_syntax_lower.specs.Source.{source, source_items};
 ghost use Rattle.moo_value.specs.View.{tree as value_tree};
 ghost use Rattle.moo_eval_access.specs.Target.{Path, named, scattered};
 ghost use Rattle.moo_eval_semantics.specs.Meaning.{Computes, Does, Locates, Finds, Steps, Stores, Puts, SetsDefaults};
@@ -18,14 +18,14 @@ ghost use Rattle.moo_eval_frame.specs.SeenScatter.{left_out_of};
 
 use crate::interpreter::Task;
 use moo_eval_access::{
-    Path, Places, Root, Spot, Step, as_property, push_step, rebuilt, root_alone, set_variable,
-    taken_apart, write_property,
+    Path, Places, Root, Spot, Step, as_property, push_step, rebuilt, root_alone, set_longer,
+    set_variable, taken_apart, write_property,
 };
-use moo_eval_fast_stmt::{as_variable, set_longer};
 use moo_eval_frame::{
     Activation, CallStack, Failure, Flow, LeftOut, Stop, dealt, missing, set_shares,
 };
-use moo_syntax_ast::{Expr, Item, Name};
+use moo_syntax_ast::Name;
+use moo_syntax_lower::{Node, NodeItem};
 use moo_value::{ErrorCode, Value};
 use moo_world::World;
 
@@ -38,16 +38,18 @@ impl Task {
         active: &mut Activation,
         stack: &CallStack<'_>,
         indexed: Option<&Value>,
-        target: &Expr,
-        value: &Expr,
+        target: &Node,
+        value: &Node,
     ) -> Result<Value, Failure>
-        ensures meaning { IsKnownFailure result → Computes Faults (context_of stack.now indexed.entry) (assign (tree target.now) (tree value.now)) (state_of self.old world.old active.old) (seen_answer result) (state_of self.new world.new active.new) }
+        ensures meaning { IsKnownFailure result → Computes Faults (context_of stack.now indexed.entry) (assign (source target.now) (source value.now)) (state_of self.old world.old active.old) (seen_answer result) (state_of self.new world.new active.new) }
         ensures ticks { self.new.ticks_left ≤ self.old.ticks_left }
     {
-        if let Some(name) = as_variable(target) {
-            return self.assign_variable(world, active, stack, indexed, name, value);
+        match target {
+            Node::Variable(name) => {
+                self.assign_variable(world, active, stack, indexed, name, value)
+            }
+            _ => self.assign_path(world, active, stack, indexed, target, value),
         }
-        self.assign_path(world, active, stack, indexed, target, value)
     }
 
     // Finds the target first, then evaluates the value, then stores it.
@@ -59,14 +61,14 @@ impl Task {
         active: &mut Activation,
         stack: &CallStack<'_>,
         indexed: Option<&Value>,
-        target: &Expr,
-        value: &Expr,
+        target: &Node,
+        value: &Node,
     ) -> Result<Value, Failure>
-        ensures meaning { IsKnownFailure result → Computes Faults (context_of stack.now indexed.entry) (assign (tree target.now) (tree value.now)) (state_of self.old world.old active.old) (seen_answer result) (state_of self.new world.new active.new) }
+        ensures meaning { IsKnownFailure result → Computes Faults (context_of stack.now indexed.entry) (assign (source target.now) (source value.now)) (state_of self.old world.old active.old) (seen_answer result) (state_of self.new world.new active.new) }
         ensures ticks { self.new.ticks_left ≤ self.old.ticks_left }
     {
         let path = self.locate(world, active, stack, indexed, target)?;
-        let value = self.evaluate_part(world, active, stack, indexed, value)?;
+        let value = self.evaluate(world, active, stack, indexed, value)?;
         self.store(world, active, stack, indexed, path, &value)?;
         Ok(value)
     }
@@ -81,19 +83,19 @@ impl Task {
         stack: &CallStack<'_>,
         indexed: Option<&Value>,
         name: &Name,
-        value: &Expr,
+        value: &Node,
     ) -> Result<Value, Failure>
-        ensures meaning { IsKnownFailure result → Computes Faults (context_of stack.now indexed.entry) (assign (variable name.now) (tree value.now)) (state_of self.old world.old active.old) (seen_answer result) (state_of self.new world.new active.new) }
+        ensures meaning { IsKnownFailure result → Computes Faults (context_of stack.now indexed.entry) (assign (variable name.now) (source value.now)) (state_of self.old world.old active.old) (seen_answer result) (state_of self.new world.new active.new) }
         ensures ticks { self.new.ticks_left ≤ self.old.ticks_left }
     {
-        let value = self.evaluate_part(world, active, stack, indexed, value)?;
+        let value = self.evaluate(world, active, stack, indexed, value)?;
         let copy = value.try_clone()?;
         active.variables.set(name, copy)?;
         Ok(value)
     }
 
-    /// Assigns to a variable, if the assignment's own value is not used. The assigned expression is evaluated node by
-    /// node. Not inlined, so that nested statements need no stack space for it.
+    /// Assigns to a variable, if the assignment's own value is not used. Not inlined, so that nested statements need no
+    /// stack space for it.
     #[cycle(evaluation)]
     #[inline(never)]
     pub(crate) fn assign_alone(
@@ -102,13 +104,17 @@ impl Task {
         active: &mut Activation,
         stack: &CallStack<'_>,
         name: &Name,
-        value: &Expr,
+        value: &Node,
     ) -> Result<Flow, Stop>
-        ensures meaning { IsKnown result → Does Faults (context_of stack.now None) (performs (assign (variable name.now) (tree value.now))) (state_of self.old world.old active.old) (seen_flow result) (state_of self.new world.new active.new) }
+        ensures meaning { IsKnown result → Does Faults (context_of stack.now None) (performs (assign (variable name.now) (source value.now))) (state_of self.old world.old active.old) (seen_flow result) (state_of self.new world.new active.new) }
         ensures ticks { self.new.ticks_left ≤ self.old.ticks_left }
     {
         self.take_tick(active, stack)?;
-        let value = self.evaluate_node(world, active, stack, None, value)?;
+        if let Some(number) = self.try_arithmetic(active, value) {
+            active.variables.set(name, Value::Int(number))?;
+            return Ok(Flow::Next);
+        }
+        let value = self.evaluate_tried(world, active, stack, None, value)?;
         active.variables.set(name, value)?;
         Ok(Flow::Next)
     }
@@ -123,14 +129,14 @@ impl Task {
         active: &mut Activation,
         stack: &CallStack<'_>,
         name: &Name,
-        last: &Expr,
+        last: &Node,
     ) -> Result<Flow, Stop>
-        ensures meaning { IsKnown result → Does Faults (context_of stack.now None) (performs (assign (variable name.now) (list (splice (variable name.now) (element (tree last.now) no_items))))) (state_of self.old world.old active.old) (seen_flow result) (state_of self.new world.new active.new) }
+        ensures meaning { IsKnown result → Does Faults (context_of stack.now None) (performs (assign (variable name.now) (list (splice (variable name.now) (element (source last.now) no_items))))) (state_of self.old world.old active.old) (seen_flow result) (state_of self.new world.new active.new) }
         ensures ticks { self.new.ticks_left ≤ self.old.ticks_left }
     {
         self.take_tick(active, stack)?;
         self.take_tick(active, stack)?;
-        match self.put_behind(world, active, stack, name, last) {
+        match self.put_longer(world, active, stack, name, last) {
             Ok(()) => Ok(Flow::Next),
             Err(failure) => {
                 let value = self.settled(active, stack, failure)?;
@@ -142,16 +148,16 @@ impl Task {
 
     // Sets the variable to the list `{@name, last}`, if that is one.
     #[cycle(evaluation)]
-    fn put_behind(
+    fn put_longer(
         &mut self,
         world: &mut World,
         active: &mut Activation,
         stack: &CallStack<'_>,
         name: &Name,
-        last: &Expr,
+        last: &Node,
     ) -> Result<(), Failure>
-        ensures ok { OnOk result (IsLengthened Faults (context_of stack.now None) name.now (list (splice (variable name.now) (element (tree last.now) no_items))) (state_of self.old world.old active.old) (state_of self.new world.new active.new)) }
-        ensures err { IfErr result (λ failure. HadMemoryIn failure → Computes Faults (context_of stack.now None) (list (splice (variable name.now) (element (tree last.now) no_items))) (state_of self.old world.old active.old) (Err (failure_of failure)) (state_of self.new world.new active.new)) }
+        ensures ok { OnOk result (IsLengthened Faults (context_of stack.now None) name.now (list (splice (variable name.now) (element (source last.now) no_items))) (state_of self.old world.old active.old) (state_of self.new world.new active.new)) }
+        ensures err { IfErr result (λ failure. HadMemoryIn failure → Computes Faults (context_of stack.now None) (list (splice (variable name.now) (element (source last.now) no_items))) (state_of self.old world.old active.old) (Err (failure_of failure)) (state_of self.new world.new active.new)) }
         ensures ticks { self.new.ticks_left ≤ self.old.ticks_left }
     {
         let found = self.variable(active, stack, name)?;
@@ -172,9 +178,9 @@ impl Task {
         active: &mut Activation,
         stack: &CallStack<'_>,
         indexed: Option<&Value>,
-        target: &'a Expr,
+        target: &'a Node,
     ) -> Result<Path<'a>, Failure>
-        ensures meaning { IsKnownFailure result → Locates Faults (context_of stack.now indexed.entry) (tree target.now) (state_of self.old world.old active.old) (seen_by path_of result) (state_of self.new world.new active.new) }
+        ensures meaning { IsKnownFailure result → Locates Faults (context_of stack.now indexed.entry) (source target.now) (state_of self.old world.old active.old) (seen_by path_of result) (state_of self.new world.new active.new) }
         ensures ticks { self.new.ticks_left ≤ self.old.ticks_left }
     {
         let parts = taken_apart(self.alloc(), target)?;
@@ -199,15 +205,15 @@ impl Task {
         active: &mut Activation,
         stack: &CallStack<'_>,
         indexed: Option<&Value>,
-        root: &'a Expr,
+        root: &'a Node,
     ) -> Result<Root<'a>, Failure>
-        ensures meaning { IsKnownFailure result → Finds Faults (context_of stack.now indexed.entry) (tree root.now) (state_of self.old world.old active.old) (seen_by root_seen result) (state_of self.new world.new active.new) }
+        ensures meaning { IsKnownFailure result → Finds Faults (context_of stack.now indexed.entry) (source root.now) (state_of self.old world.old active.old) (seen_by root_seen result) (state_of self.new world.new active.new) }
         ensures ticks { self.new.ticks_left ≤ self.old.ticks_left }
     {
         match as_property(root) {
             Some((base, name)) => {
-                let base = self.evaluate_part(world, active, stack, indexed, base)?;
-                let name = self.evaluate_part(world, active, stack, indexed, name)?;
+                let base = self.evaluate(world, active, stack, indexed, base)?;
+                let name = self.evaluate(world, active, stack, indexed, name)?;
                 Ok(Root::Property(base, name))
             }
             None => root_alone(root),
@@ -232,13 +238,13 @@ impl Task {
         let container = path.value(self.alloc(), world, active)?;
         match spot {
             Spot::Element(place) => {
-                let place = self.evaluate_part(world, active, stack, Some(&container), place)?;
+                let place = self.evaluate(world, active, stack, Some(&container), place)?;
                 let places = Places::Element(place);
                 Ok(Step { container, places })
             }
             Spot::Part(low, high) => {
-                let low = self.evaluate_part(world, active, stack, Some(&container), low)?;
-                let high = self.evaluate_part(world, active, stack, Some(&container), high)?;
+                let low = self.evaluate(world, active, stack, Some(&container), low)?;
+                let high = self.evaluate(world, active, stack, Some(&container), high)?;
                 let places = Places::Part(low, high);
                 Ok(Step { container, places })
             }
@@ -290,6 +296,32 @@ impl Task {
         Ok(())
     }
 
+    /// Runs `{items} = value`, if the assignment's own value is not used. Not inlined, so that nested statements need no
+    /// stack space for it.
+    #[cycle(evaluation)]
+    #[inline(never)]
+    pub(crate) fn scatter_alone(
+        &mut self,
+        world: &mut World,
+        active: &mut Activation,
+        stack: &CallStack<'_>,
+        items: &[NodeItem],
+        value: &Node,
+    ) -> Result<Flow, Stop>
+        ensures meaning { IsKnown result → Does Faults (context_of stack.now None) (performs (assign (list (source_items items.now)) (source value.now))) (state_of self.old world.old active.old) (seen_flow result) (state_of self.new world.new active.new) }
+        ensures ticks { self.new.ticks_left ≤ self.old.ticks_left }
+    {
+        self.take_tick(active, stack)?;
+        let value = self.evaluate(world, active, stack, None, value)?;
+        match self.scatter(world, active, stack, None, items, &value) {
+            Ok(()) => Ok(Flow::Next),
+            Err(failure) => {
+                let _error = self.settled(active, stack, failure)?;
+                Ok(Flow::Next)
+            }
+        }
+    }
+
     // Sets the names that get an element first, then those with a default, from the left.
     #[cycle(evaluation)]
     fn scatter(
@@ -298,10 +330,10 @@ impl Task {
         active: &mut Activation,
         stack: &CallStack<'_>,
         indexed: Option<&Value>,
-        items: &[Item],
+        items: &[NodeItem],
         value: &Value,
     ) -> Result<(), Failure>
-        ensures meaning { IsKnownFailure result → Puts Faults (context_of stack.now indexed.entry) (scattered (items_of items.now)) (value_tree value.now) (state_of self.old world.old active.old) (seen_done result) (state_of self.new world.new active.new) }
+        ensures meaning { IsKnownFailure result → Puts Faults (context_of stack.now indexed.entry) (scattered (source_items items.now)) (value_tree value.now) (state_of self.old world.old active.old) (seen_done result) (state_of self.new world.new active.new) }
         ensures ticks { self.new.ticks_left ≤ self.old.ticks_left }
     {
         let defaults = self.deal(active, items, value)?;
@@ -314,11 +346,11 @@ impl Task {
     fn deal<'a>(
         &self,
         active: &mut Activation,
-        items: &'a [Item],
+        items: &'a [NodeItem],
         value: &Value,
     ) -> Result<Vec<LeftOut<'a>>, Failure>
-        ensures ok { IfOk result (λ defaults. (c : Context) (w : WorldModel) (o : Result (Unit {0}) Failed) (s : State) → SetsDefaults Faults c (map left_out_of defaults.items) (state_of self.now w active.new) o s → Puts Faults c (scattered (items_of items.now)) (value_tree value.now) (state_of self.now w active.old) o s) }
-        ensures err { IfErr result (λ failure. HadMemoryIn failure → (c : Context) (w : WorldModel) → Puts Faults c (scattered (items_of items.now)) (value_tree value.now) (state_of self.now w active.old) (Err (failure_of failure)) (state_of self.now w active.new)) }
+        ensures ok { IfOk result (λ defaults. (c : Context) (w : WorldModel) (o : Result (Unit {0}) Failed) (s : State) → SetsDefaults Faults c (map left_out_of defaults.items) (state_of self.now w active.new) o s → Puts Faults c (scattered (source_items items.now)) (value_tree value.now) (state_of self.now w active.old) o s) }
+        ensures err { IfErr result (λ failure. HadMemoryIn failure → (c : Context) (w : WorldModel) → Puts Faults c (scattered (source_items items.now)) (value_tree value.now) (state_of self.now w active.old) (Err (failure_of failure)) (state_of self.now w active.new)) }
     {
         let list = dealt(items, value)?;
         set_shares(self.alloc(), active, items, list)?;

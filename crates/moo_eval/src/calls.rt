@@ -1,137 +1,59 @@
 //! Evaluates catches, and calls of verbs and functions.
-ghost use Rattle.std.specs.Prelude.{◌≡◌, ◌≢◌, ◌≤◌, ◌<◌, ◌∷◌, ℕ, List, [], Option, None, Some, IfOk, IfErr, IfSome, IfNone, Err, OnOk, is_ok, IsTrue};
+ghost use Rattle.std.specs.Prelude.{◌≡◌, ◌≢◌, ◌≤◌, ◌<◌, ◌∷◌, ℕ, List, [], Option, None, Some, OnOk, is_ok, IsTrue};
 ghost use Rattle.std.specs.Borrow.{Bor};
 ghost use Rattle.moo_value.specs.declared.value.Value.{Value as ValueModel};
-ghost use Rattle.moo_value.specs.Tree.{object, string};
 ghost use Rattle.moo_value.specs.View.{tree as tree_of};
-ghost use Rattle.moo_syntax_ast.specs.Tree.{Expr as ExprTree, Items, element, property, verb_call, call};
-ghost use Rattle.moo_syntax_ast.specs.View.{tree, items_of, codes_of};
+ghost use Rattle.moo_syntax_ast.specs.Tree.{Expr, Items, no_statement, property, verb_call, call};
+ghost use Rattle.moo_syntax_lower.specs.Source.{source, source_items, source_codes};
 ghost use Rattle.moo_eval_frame.specs.Catching.{guards};
-ghost use Rattle.moo_syntax_ast.specs.Tree.{no_statement};
 ghost use Rattle.moo_eval_frame.specs.declared.frame.Activation.{Activation};
-ghost use Rattle.moo_eval_frame.specs.State.{Context};
-ghost use Rattle.moo_eval_frame.specs.Outcome.{stops};
 ghost use Rattle.moo_eval_access.specs.SeenCalled.{entered_of};
 ghost use Rattle.moo_eval_call.specs.VerbCalls.{caller_of};
 ghost use Rattle.moo_eval_call.specs.SeenByHooks.{progress_of};
 ghost use Rattle.moo_eval.specs.Hooks.{RunsCalled};
-ghost use Rattle.moo_eval.specs.Callee.{GivesBoth};
 ghost use Rattle.moo_eval_semantics.specs.Meaning.{Applies, Computes, EvaluatesAll, Proceeds};
-ghost use Rattle.moo_eval_frame.specs.Seen.{context_of, stop_of, seen_answer, seen_answers, seen_flow, catch_of, HadMemory, IsKnown, IsKnownFailure};
+ghost use Rattle.moo_eval_frame.specs.Seen.{context_of, seen_answer, seen_answers, seen_flow, catch_of, IsKnown, IsKnownFailure};
 ghost use Rattle.moo_eval_semantics.specs.Operands.{answered};
 ghost use Rattle.moo_builtin.specs.Telling.{Faults};
 ghost use Rattle.moo_eval.specs.Seen.{state_of};
 
 use crate::hooks::Pending;
 use crate::interpreter::Task;
-use moo_eval_access::{Called, enter_sought, enter_verb, read_property, sought_verb};
+use moo_eval_access::{Called, enter_verb};
 use moo_eval_call::{Progress, start_call, verb_caller};
-use moo_eval_fast_expr::ticks::take;
-use moo_eval_fast_expr::worth::Sight;
-use moo_eval_fast_expr::{object_worth, text_written};
 use moo_eval_frame::{Activation, CallStack, Failure, Flow, Gathered, Stop, caught};
-use moo_syntax_ast::{Codes, Expr, Item};
 use moo_syntax_function::Function;
-use moo_value::{MooStr, Value};
+use moo_syntax_lower::{FunctionName, Node, NodeCodes, NodeItem};
+use moo_value::Value;
 use moo_world::World;
 
 impl Task {
+    // Calls a verb, which runs in a frame of its own, over the same world and with the ticks that are left.
     #[cycle(evaluation)]
-    #[inline(never)]
-    pub(crate) fn property(
-        &mut self,
-        world: &mut World,
-        active: &mut Activation,
-        stack: &CallStack<'_>,
-        indexed: Option<&Value>,
-        base: &Expr,
-        name: &Expr,
-    ) -> Result<Value, Failure>
-        ensures meaning { IsKnownFailure result → Computes Faults (context_of stack.now indexed.entry) (property (tree base.now) (tree name.now)) (state_of self.old world.old active.old) (seen_answer result) (state_of self.new world.new active.new) }
-        ensures ticks { self.new.ticks_left ≤ self.old.ticks_left }
-    {
-        let base = self.evaluate(world, active, stack, indexed, base)?;
-        let name = self.evaluate(world, active, stack, indexed, name)?;
-        read_property(self.alloc(), world, active.programmer, &base, &name)
-    }
-
-    // Calls a verb, over the same world and with the ticks that are left. It runs in a frame of its own if it needs
-    // one.
-    #[cycle(evaluation)]
-    #[inline(never)]
+    #[inline(always)]
     pub(crate) fn verb_call(
         &mut self,
         world: &mut World,
         active: &mut Activation,
         stack: &CallStack<'_>,
         indexed: Option<&Value>,
-        base: &Expr,
-        name: &Expr,
-        items: &[Item],
+        base: &Node,
+        name: &Node,
+        items: &[NodeItem],
     ) -> Result<Value, Failure>
-        ensures meaning { IsKnownFailure result → Computes Faults (context_of stack.now indexed.entry) (verb_call (tree base.now) (tree name.now) (items_of items.now)) (state_of self.old world.old active.old) (seen_answer result) (state_of self.new world.new active.new) }
+        ensures meaning { IsKnownFailure result → Computes Faults (context_of stack.now indexed.entry) (verb_call (source base.now) (source name.now) (source_items items.now)) (state_of self.old world.old active.old) (seen_answer result) (state_of self.new world.new active.new) }
         ensures ticks { self.new.ticks_left ≤ self.old.ticks_left }
     {
-        let (base, name) = self.callee(world, active, stack, indexed, base, name)?;
+        let base = self.evaluate(world, active, stack, indexed, base)?;
+        let name = self.evaluate(world, active, stack, indexed, name)?;
         let values = self.evaluate_all(world, active, stack, indexed, items)?;
         self.call_verb(world, active, stack, &base, &name, values)
     }
 
-    // Returns the object that a verb is called on, and its name.
+    // Calls a verb, its operands evaluated. Not inlined, so that calls in the arguments of calls need no stack space
+    // for it.
     #[cycle(evaluation)]
-    #[inline(always)]
-    fn callee(
-        &mut self,
-        world: &mut World,
-        active: &mut Activation,
-        stack: &CallStack<'_>,
-        indexed: Option<&Value>,
-        base: &Expr,
-        name: &Expr,
-    ) -> Result<(Value, Value), Stop>
-        ensures both { IfOk result (λ p. GivesBoth (context_of stack.now indexed.entry) (tree base.now) (tree name.now) (tree_of p.0) (tree_of p.1) (state_of self.old world.old active.old) (state_of self.new world.new active.new)) }
-        ensures stops { IfErr result (λ stop. HadMemory stop → (items : Items) → EvaluatesAll Faults (context_of stack.now indexed.entry) (element (tree base.now) (element (tree name.now) items)) (state_of self.old world.old active.old) (Err (stops (stop_of stop))) (state_of self.new world.new active.new)) }
-        ensures ticks { self.new.ticks_left ≤ self.old.ticks_left }
-    {
-        if let Some(both) = self.callee_at_once(world, active, base, name) {
-            return Ok(both);
-        }
-        let base = self.evaluate(world, active, stack, indexed, base)?;
-        let name = self.evaluate(world, active, stack, indexed, name)?;
-        Ok((base, name))
-    }
-
-    // Returns the object that a verb is called on, if the fast path finds it, and the verb's name, if that is a
-    // literal. All their ticks have to be left, and are taken then. Else nothing has begun.
     #[inline(never)]
-    fn callee_at_once(
-        &mut self,
-        world: &World,
-        active: &Activation,
-        base: &Expr,
-        name: &Expr,
-    ) -> Option<(Value, Value)>
-        ensures some { IfSome result (λ p. (c : Context) → GivesBoth c (tree base.now) (tree name.now) (tree_of p.0) (tree_of p.1) (state_of self.old world.now active.now) (state_of self.new world.now active.now)) }
-        ensures none { IfNone result (self.new ≡ self.old) }
-        ensures ticks { self.new.ticks_left ≤ self.old.ticks_left }
-    {
-        let written = text_written(name)?;
-        let mut left = self.ticks_left.left() as u32;
-        let sight = Sight {
-            world,
-            active,
-            alloc: self.alloc,
-        };
-        let this = object_worth(&sight, &mut left, base)?;
-        take(&mut left)?;
-        let name = copied_text(written)?;
-        self.ticks_left.leave(left);
-        Some((Value::Obj(this), Value::Str(name)))
-    }
-
-    // Calls a verb, its operands evaluated.
-    #[cycle(evaluation)]
-    #[inline(always)]
     fn call_verb(
         &mut self,
         world: &mut World,
@@ -141,56 +63,7 @@ impl Task {
         name: &Value,
         values: Gathered,
     ) -> Result<Value, Failure>
-        ensures meaning { (indexed : Option (Bor ValueModel)) (a b : ExprTree) (items : Items) → IsKnownFailure result → Applies Faults (context_of stack.now indexed) (verb_call a b items) (tree_of base.now ∷ tree_of name.now ∷ values) [] (state_of self.old world.old active.now) (seen_answer result) (state_of self.new world.new active.now) }
-        ensures ticks { self.new.ticks_left ≤ self.old.ticks_left }
-    {
-        match (base, name) {
-            (Value::Obj(this), Value::Str(name)) => {
-                self.call_named(world, active, stack, *this, name, values)
-            }
-            _ => self.call_unnamed(world, active, stack, base, name, values),
-        }
-    }
-
-    // Calls the verb of a name on an object. A value that the verb returns at once needs no frame. Not inlined, so
-    // that calls in the arguments of calls need no stack space for it.
-    #[cycle(evaluation)]
-    #[inline(never)]
-    fn call_named(
-        &mut self,
-        world: &mut World,
-        active: &Activation,
-        stack: &CallStack<'_>,
-        this: i32,
-        name: &MooStr,
-        values: Gathered,
-    ) -> Result<Value, Failure>
-        ensures meaning { (indexed : Option (Bor ValueModel)) (a b : ExprTree) (items : Items) → IsKnownFailure result → Applies Faults (context_of stack.now indexed) (verb_call a b items) (object this ∷ string name.now ∷ values) [] (state_of self.old world.old active.now) (seen_answer result) (state_of self.new world.new active.now) }
-        ensures ticks { self.new.ticks_left ≤ self.old.ticks_left }
-    {
-        let args = values.into_arguments(self.alloc())?;
-        let sought = sought_verb(world, this, name);
-        if let Some(value) = self.answers_at_once(world, active, stack, &sought, &args) {
-            return Ok(value);
-        }
-        let called = enter_sought(self.alloc(), world, stack, active, sought, args)?;
-        self.run_called(world, called)
-    }
-
-    // Refuses a call on a value that is no object, or by a name that is no string, as entering the verb does.
-    #[cycle(evaluation)]
-    #[cold]
-    #[inline(never)]
-    fn call_unnamed(
-        &mut self,
-        world: &mut World,
-        active: &Activation,
-        stack: &CallStack<'_>,
-        base: &Value,
-        name: &Value,
-        values: Gathered,
-    ) -> Result<Value, Failure>
-        ensures meaning { (indexed : Option (Bor ValueModel)) (a b : ExprTree) (items : Items) → IsKnownFailure result → Applies Faults (context_of stack.now indexed) (verb_call a b items) (tree_of base.now ∷ tree_of name.now ∷ values) [] (state_of self.old world.old active.now) (seen_answer result) (state_of self.new world.new active.now) }
+        ensures meaning { (indexed : Option (Bor ValueModel)) (a b : Expr) (items : Items) → IsKnownFailure result → Applies Faults (context_of stack.now indexed) (verb_call a b items) (tree_of base.now ∷ tree_of name.now ∷ values) [] (state_of self.old world.old active.now) (seen_answer result) (state_of self.new world.new active.now) }
         ensures ticks { self.new.ticks_left ≤ self.old.ticks_left }
     {
         let args = values.into_arguments(self.alloc())?;
@@ -212,30 +85,26 @@ impl Task {
             active: first,
         } = called;
         let mut running = first;
-        let statements = callee.running.program.statements();
-        let rest = self.run_ahead(world, &mut running, statements, &callee)?;
-        if let Some(value) = self.returns_at_once(world, &running, rest) {
-            return Ok(value);
-        }
-        answered(self.run_all(world, &mut running, &callee, rest, true))
+        let statements = callee.running.program.code();
+        answered(self.run_all(world, &mut running, &callee, statements))
     }
 
     #[cycle(evaluation)]
-    #[inline(never)]
+    #[inline(always)]
     pub(crate) fn call(
         &mut self,
         world: &mut World,
         active: &mut Activation,
         stack: &CallStack<'_>,
         indexed: Option<&Value>,
-        name: &MooStr,
-        items: &[Item],
+        name: &FunctionName,
+        items: &[NodeItem],
     ) -> Result<Value, Failure>
-        ensures meaning { IsKnownFailure result → Computes Faults (context_of stack.now indexed.entry) (call name.now (items_of items.now)) (state_of self.old world.old active.old) (seen_answer result) (state_of self.new world.new active.new) }
+        ensures meaning { IsKnownFailure result → Computes Faults (context_of stack.now indexed.entry) (call name.now (source_items items.now)) (state_of self.old world.old active.old) (seen_answer result) (state_of self.new world.new active.new) }
         ensures ticks { self.new.ticks_left ≤ self.old.ticks_left }
     {
         let values = self.evaluate_all(world, active, stack, indexed, items)?;
-        let function = Function::from_name(name.as_bytes());
+        let function = name.function();
         let Some(caller) = verb_caller(function) else {
             return self.call_function(world, active, stack, function, values);
         };
@@ -288,28 +157,28 @@ impl Task {
 
     // Evaluates the codes first. If they name the error, it is the value, or `other` gives the value in its place.
     #[cycle(evaluation)]
-    #[inline(never)]
+    #[inline(always)]
     pub(crate) fn catch(
         &mut self,
         world: &mut World,
         active: &mut Activation,
         stack: &CallStack<'_>,
         indexed: Option<&Value>,
-        body: &Expr,
-        codes: &Codes,
-        other: &Option<Box<Expr>>,
+        body: &Node,
+        codes: &NodeCodes,
+        other: &Option<Box<Node>>,
     ) -> Result<Value, Failure>
-        ensures meaning { IsKnownFailure result → Computes Faults (context_of stack.now indexed.entry) (catch_of (tree body.now) (codes_of codes.now) other.now) (state_of self.old world.old active.old) (seen_answer result) (state_of self.new world.new active.new) }
+        ensures meaning { IsKnownFailure result → Computes Faults (context_of stack.now indexed.entry) (catch_of (source body.now) (source_codes codes.now) other.now) (state_of self.old world.old active.old) (seen_answer result) (state_of self.new world.new active.new) }
         ensures ticks { self.new.ticks_left ≤ self.old.ticks_left }
     {
         let values = self.guards(world, active, stack, indexed, codes)?;
-        let outcome = self.evaluate_part(world, active, stack, indexed, body);
+        let outcome = self.evaluate(world, active, stack, indexed, body);
         let Some(code) = caught(codes, &values, &outcome) else {
             return Ok(outcome?);
         };
         match other {
             None => Ok(Value::Err(code)),
-            Some(other) => Ok(self.evaluate_part(world, active, stack, indexed, other)?),
+            Some(other) => Ok(self.evaluate(world, active, stack, indexed, other)?),
         }
     }
 
@@ -321,27 +190,19 @@ impl Task {
         active: &mut Activation,
         stack: &CallStack<'_>,
         indexed: Option<&Value>,
-        codes: &Codes,
+        codes: &NodeCodes,
     ) -> Result<Vec<Value>, Failure>
-        ensures meaning { IsKnownFailure result → EvaluatesAll Faults (context_of stack.now indexed.entry) (guards (codes_of codes.now)) (state_of self.old world.old active.old) (seen_answers result) (state_of self.new world.new active.new) }
+        ensures meaning { IsKnownFailure result → EvaluatesAll Faults (context_of stack.now indexed.entry) (guards (source_codes codes.now)) (state_of self.old world.old active.old) (seen_answers result) (state_of self.new world.new active.new) }
         ensures ticks { self.new.ticks_left ≤ self.old.ticks_left }
     {
         match codes {
-            Codes::Any => Ok(Vec::new(self.alloc())),
-            Codes::Listed(items) => {
+            NodeCodes::Any => Ok(Vec::new(self.alloc())),
+            NodeCodes::Listed(items) => {
                 let values = self.evaluate_all(world, active, stack, indexed, items)?;
                 Ok(values.into_values(self.alloc())?)
             }
         }
     }
-}
-
-// Returns a copy of a string that shares its bytes, if there is memory for it.
-#[inline(always)]
-fn copied_text(text: &MooStr) -> Option<MooStr>
-    ensures { IfSome result (λ copy. copy ≡ text.now) }
-{
-    text.try_clone().ok()
 }
 
 // Returns the value of a called verb: the one that it returns, or 0 if it comes to its end.

@@ -1,25 +1,23 @@
-//! Elements that are set in the variable that holds their list, as in `l[i] = x`, and bytes of a string.
-ghost use Rattle.std.specs.Prelude.{◌≡◌, ◌≤◌, ◌<◌, None, Ok, Err, IfOk, IfErr, IsTrue, IsFalse, OnOk};
+//! Runs assignments to an element of a list, or a byte of a string, in a variable.
+ghost use Rattle.std.specs.Prelude.{◌≤◌, None, Err, IfErr, OnOk};
 ghost use Rattle.moo_syntax_ast.specs.Tree.{performs};
-ghost use Rattle.moo_syntax_ast.specs.View.{tree, statement as statement_of};
-ghost use Rattle.moo_eval_frame.specs.Outcome.{next};
-ghost use Rattle.moo_eval_frame.specs.State.{Context};
+ghost use Rattle.moo_syntax_lower.specs.Source.{source};
 ghost use Rattle.moo_eval_frame.specs.Seen.{context_of, failure_of, seen_flow, HadMemoryIn, IsKnown};
 ghost use Rattle.moo_builtin.specs.Telling.{Faults};
-ghost use Rattle.moo_eval_fast_stmt.specs.Element.{sets_place};
-ghost use Rattle.moo_eval.specs.Element.{IsPut};
-ghost use Rattle.moo_eval_semantics.specs.Meaning.{Computes, Does, Runs};
+ghost use Rattle.moo_eval.specs.Element.{sets_place, IsPut};
+ghost use Rattle.moo_eval_semantics.specs.Meaning.{Computes, Does};
 ghost use Rattle.moo_eval.specs.Seen.{state_of};
 
 use crate::interpreter::Task;
-use moo_eval_fast_stmt::{as_placing, places, set_at};
+use moo_eval_access::set_at;
 use moo_eval_frame::{Activation, CallStack, Failure, Flow, Stop, read_variable};
-use moo_syntax_ast::{Expr, Name, Stmt};
+use moo_syntax_ast::Name;
+use moo_syntax_lower::Node;
 use moo_world::World;
-use std::alloc::AllocError;
 
 impl Task {
-    /// `name[place] = value`, whose own value is not used. Not inlined, so that nested statements hold no room for it.
+    /// Runs `name[place] = value`, if the assignment's own value is not used. Not inlined, so that nested statements
+    /// need no stack space for it.
     #[cycle(evaluation)]
     #[inline(never)]
     pub(crate) fn set_place(
@@ -28,10 +26,10 @@ impl Task {
         active: &mut Activation,
         stack: &CallStack<'_>,
         name: &Name,
-        place: &Expr,
-        value: &Expr,
+        place: &Node,
+        value: &Node,
     ) -> Result<Flow, Stop>
-        ensures meaning { IsKnown result → Does Faults (context_of stack.now None) (performs (sets_place name.now (tree place.now) (tree value.now))) (state_of self.old world.old active.old) (seen_flow result) (state_of self.new world.new active.new) }
+        ensures meaning { IsKnown result → Does Faults (context_of stack.now None) (performs (sets_place name.now (source place.now) (source value.now))) (state_of self.old world.old active.old) (seen_flow result) (state_of self.new world.new active.new) }
         ensures ticks { self.new.ticks_left ≤ self.old.ticks_left }
     {
         self.take_tick(active, stack)?;
@@ -44,7 +42,8 @@ impl Task {
         }
     }
 
-    // What the variable holds is read first, then come the place, where `$` measures it, and the value.
+    // Reads the variable, then evaluates the place, in which `$` measures the variable's value, and the value, then
+    // sets the variable.
     #[cycle(evaluation)]
     fn put_at(
         &mut self,
@@ -52,11 +51,11 @@ impl Task {
         active: &mut Activation,
         stack: &CallStack<'_>,
         name: &Name,
-        place: &Expr,
-        value: &Expr,
+        place: &Node,
+        value: &Node,
     ) -> Result<(), Failure>
-        ensures ok { OnOk result (IsPut Faults (context_of stack.now None) name.now (tree place.now) (tree value.now) (state_of self.old world.old active.old) (state_of self.new world.new active.new)) }
-        ensures err { IfErr result (λ failure. HadMemoryIn failure → Computes Faults (context_of stack.now None) (sets_place name.now (tree place.now) (tree value.now)) (state_of self.old world.old active.old) (Err (failure_of failure)) (state_of self.new world.new active.new)) }
+        ensures ok { OnOk result (IsPut Faults (context_of stack.now None) name.now (source place.now) (source value.now) (state_of self.old world.old active.old) (state_of self.new world.new active.new)) }
+        ensures err { IfErr result (λ failure. HadMemoryIn failure → Computes Faults (context_of stack.now None) (sets_place name.now (source place.now) (source value.now)) (state_of self.old world.old active.old) (Err (failure_of failure)) (state_of self.new world.new active.new)) }
         ensures ticks { self.new.ticks_left ≤ self.old.ticks_left }
     {
         let container = read_variable(active, name)?;
@@ -71,34 +70,5 @@ impl Task {
             value,
         )?;
         Ok(())
-    }
-
-    /// Runs `name[place] = value` where place and value are known at once and nothing is raised, and tells whether it did. Else nothing
-    /// has begun.
-    #[inline(never)]
-    pub(crate) fn places_at_once(
-        &mut self,
-        world: &World,
-        active: &mut Activation,
-        statement: &Stmt,
-    ) -> Result<bool, AllocError>
-        ensures done { IfOk result (λ b. IsTrue b → (c : Context) → Runs Faults c (statement_of statement.now) (state_of self.old world.now active.old) (Ok next) (state_of self.new world.now active.new)) }
-        ensures fewer { IfOk result (λ b. IsTrue b → self.new.ticks_left < self.old.ticks_left) }
-        ensures kept { IfOk result (λ b. IsFalse b → (self.new ≡ self.old) × (active.new ≡ active.old)) }
-        ensures ticks { self.new.ticks_left ≤ self.old.ticks_left }
-    {
-        let Some((name, place, value)) = as_placing(statement) else {
-            return Ok(false);
-        };
-        let mut left = self.ticks_left.left() as u32;
-        if left < 2 {
-            return Ok(false);
-        }
-        left -= 2;
-        let placed = places(self.alloc, world, active, &mut left, name, place, value)?;
-        if placed {
-            self.ticks_left.leave(left);
-        }
-        Ok(placed)
     }
 }

@@ -15,7 +15,7 @@ use moo_eval_frame::{Activation, CallStack, Failure};
 use moo_value::Value;
 use moo_world::World;
 
-/// What a function that calls verbs waits for: nothing, since it has its value, or a verb with statements.
+/// Holds what a function that calls verbs waits for: nothing, since it has its value, or a verb with statements.
 #[derive(Drop)]
 pub(crate) enum Pending<'a> {
     Answer(Value),

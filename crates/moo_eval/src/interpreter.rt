@@ -1,6 +1,6 @@
 //! Evaluates expressions.
 ghost use Rattle.std.specs.Prelude.{◌≡◌, ◌-◌, ◌<◌, ◌≤◌, ℕ, List, [], ◌++◌, None, Ok, Err, IfOk, IfErr, OnOk, OnErr};
-ghost use Rattle.moo_syntax_ast.specs.View.{tree, items_of};
+ghost use Rattle.moo_syntax_lower.specs.Source.{source, source_items};
 ghost use Rattle.moo_value.specs.View.{tree as tree_of};
 ghost use Rattle.moo_eval_frame.specs.Outcome.{out_of_ticks, settled};
 ghost use Rattle.moo_eval_semantics.specs.Meaning.{Evaluates, Computes, EvaluatesAll};
@@ -15,27 +15,19 @@ ghost use Rattle.moo_eval_call.specs.Turns.{stage_turns, progress_turns};
 ghost use Rattle.moo_eval.specs.Seen.{state_of};
 
 use moo_eval_call::{Progress, Stage, Ticks, call_function, resume_call};
-use moo_eval_fast_expr::{may_be_known, may_have_worth};
-use moo_eval_frame::{
-    Activation, CallStack, Failure, Gathered, Notice, Stop, literal_value, measure, read_variable,
-    settle,
-};
-use moo_syntax_ast::{Expr, Item};
+use moo_eval_frame::{Activation, CallStack, Failure, Gathered, Notice, Stop, settle};
 use moo_syntax_function::Function;
+use moo_syntax_lower::{Node, NodeItem};
 use moo_value::{ErrorCode, Value};
 use moo_world::World;
 use std::alloc::{AllocError, Global};
-use std::cell::Cell;
 
-/// The resources that a task may still use, and its requests so far.
+/// Holds the resources that a task may still use, and its requests so far.
 #[derive(Drop)]
 pub struct Task {
     pub(crate) ticks_left: Ticks,
     notices: Vec<Notice>,
-    pub(crate) alloc: Global,
-    /// A hint: whether the last call that the fast path looked at was answered without a frame. If it wasn't, the
-    /// fast path skips calls.
-    pub(crate) answering: Cell<bool>,
+    alloc: Global,
 }
 
 impl Task {
@@ -48,7 +40,6 @@ impl Task {
             ticks_left: Ticks::full(),
             notices: Vec::new(alloc),
             alloc,
-            answering: Cell::new(true),
         }
     }
 
@@ -61,7 +52,7 @@ impl Task {
     }
 
     /// Takes a tick, if one is left.
-    #[inline]
+    #[inline(always)]
     pub(crate) fn take_tick(
         &mut self,
         active: &Activation,
@@ -92,80 +83,85 @@ impl Task {
     }
 
     /// Returns the value of an expression, which takes a tick as it begins. `indexed` is the value that `$` measures.
+    /// Inlined, so that a variable or an integer needs no call.
     #[cycle(evaluation)]
+    #[inline(always)]
     pub fn evaluate(
         &mut self,
         world: &mut World,
         active: &mut Activation,
         stack: &CallStack<'_>,
         indexed: Option<&Value>,
-        expr: &Expr,
+        node: &Node,
     ) -> Result<Value, Stop>
-        ensures meaning { IsKnown result → Evaluates Faults (context_of stack.now indexed.entry) (tree expr.now) (state_of self.old world.old active.old) (seen_value result) (state_of self.new world.new active.new) }
+        ensures meaning { IsKnown result → Evaluates Faults (context_of stack.now indexed.entry) (source node.now) (state_of self.old world.old active.old) (seen_value result) (state_of self.new world.new active.new) }
         ensures ticks { self.new.ticks_left ≤ self.old.ticks_left }
     {
-        if let Some(number) = self.leaf_at_once(active, expr) {
-            return Ok(Value::Int(number));
+        if let Some(value) = self.try_leaf(active, node) {
+            return Ok(value);
         }
-        match expr {
-            Expr::Variable(name) => return self.variable(active, stack, name),
-            Expr::Literal(literal) => return self.literal(active, stack, literal),
-            Expr::Binary(..) => {
-                if let Some(number) = self.integer_at_once(world, active, expr) {
-                    return Ok(Value::Int(number));
-                }
-            }
-            _ => {
-                if may_be_known(expr) {
-                    if let Some(value) = self.at_once(world, active, expr) {
-                        return Ok(value);
-                    }
-                }
-            }
-        }
-        self.evaluate_node(world, active, stack, indexed, expr)
-    }
-
-    /// Returns the value of a part of an expression. Inlined, so that nested expressions need only the stack space of
-    /// `evaluate_node` for parts that the fast path never handles.
-    #[cycle(evaluation)]
-    #[inline(always)]
-    pub(crate) fn evaluate_part(
-        &mut self,
-        world: &mut World,
-        active: &mut Activation,
-        stack: &CallStack<'_>,
-        indexed: Option<&Value>,
-        expr: &Expr,
-    ) -> Result<Value, Stop>
-        ensures meaning { IsKnown result → Evaluates Faults (context_of stack.now indexed.entry) (tree expr.now) (state_of self.old world.old active.old) (seen_value result) (state_of self.new world.new active.new) }
-        ensures ticks { self.new.ticks_left ≤ self.old.ticks_left }
-    {
-        if may_be_known_within(expr) {
-            return self.evaluate(world, active, stack, indexed, expr);
-        }
-        self.evaluate_node(world, active, stack, indexed, expr)
+        self.evaluate_node(world, active, stack, indexed, node)
     }
 
     // Evaluates an expression of any kind. Neither this function nor those for each kind are inlined, so that nested
     // expressions need no stack space for all kinds.
     #[cycle(evaluation)]
     #[inline(never)]
-    pub(crate) fn evaluate_node(
+    fn evaluate_node(
         &mut self,
         world: &mut World,
         active: &mut Activation,
         stack: &CallStack<'_>,
         indexed: Option<&Value>,
-        expr: &Expr,
+        node: &Node,
     ) -> Result<Value, Stop>
-        ensures meaning { IsKnown result → Evaluates Faults (context_of stack.now indexed.entry) (tree expr.now) (state_of self.old world.old active.old) (seen_value result) (state_of self.new world.new active.new) }
+        ensures meaning { IsKnown result → Evaluates Faults (context_of stack.now indexed.entry) (source node.now) (state_of self.old world.old active.old) (seen_value result) (state_of self.new world.new active.new) }
         ensures ticks { self.new.ticks_left ≤ self.old.ticks_left }
     {
-        self.take_tick(active, stack)?;
-        match self.compute(world, active, stack, indexed, expr) {
-            Ok(value) => Ok(value),
-            Err(failure) => self.settled(active, stack, failure),
+        match node {
+            Node::Integer(number) => self.literal(active, stack, Value::Int(*number)),
+            Node::Object(number) => self.literal(active, stack, Value::Obj(*number)),
+            Node::Error(code) => self.literal(active, stack, Value::Err(*code)),
+            Node::Str(text) => self.text(active, stack, text),
+            Node::Variable(name) => self.variable(active, stack, name),
+            Node::Length => self.length(active, stack, indexed),
+            Node::Unary(operator, operand) => {
+                self.evaluate_unary(world, active, stack, indexed, *operator, operand)
+            }
+            Node::Binary(operator, left, right) => {
+                self.evaluate_binary(world, active, stack, indexed, *operator, left, right)
+            }
+            Node::Arithmetic(operator, left, right) => {
+                self.evaluate_integers(world, active, stack, indexed, *operator, left, right)
+            }
+            Node::Logic(operator, left, right) => {
+                self.evaluate_logic(world, active, stack, indexed, *operator, left, right)
+            }
+            Node::Conditional(test, first, second) => {
+                self.evaluate_conditional(world, active, stack, indexed, test, first, second)
+            }
+            Node::Index(base, place) => {
+                self.evaluate_index(world, active, stack, indexed, base, place)
+            }
+            Node::Range(base, low, high) => {
+                self.evaluate_range(world, active, stack, indexed, base, low, high)
+            }
+            Node::List(items) => self.evaluate_list(world, active, stack, indexed, items),
+            Node::Property(base, name) => {
+                self.evaluate_property(world, active, stack, indexed, base, name)
+            }
+            Node::VerbCall(base, name, items) => {
+                self.evaluate_verb_call(world, active, stack, indexed, base, name, items)
+            }
+            Node::Call(name, items) => {
+                self.evaluate_call(world, active, stack, indexed, name, items)
+            }
+            Node::Assign(target, value) => {
+                self.evaluate_assign(world, active, stack, indexed, target, value)
+            }
+            Node::Catch(body, codes, other) => {
+                self.evaluate_catch(world, active, stack, indexed, body, codes, other)
+            }
         }
     }
 
@@ -238,53 +234,6 @@ impl Task {
         )
     }
 
-    #[cycle(evaluation)]
-    fn compute(
-        &mut self,
-        world: &mut World,
-        active: &mut Activation,
-        stack: &CallStack<'_>,
-        indexed: Option<&Value>,
-        expr: &Expr,
-    ) -> Result<Value, Failure>
-        ensures meaning { IsKnownFailure result → Computes Faults (context_of stack.now indexed.entry) (tree expr.now) (state_of self.old world.old active.old) (seen_answer result) (state_of self.new world.new active.new) }
-        ensures ticks { self.new.ticks_left ≤ self.old.ticks_left }
-    {
-        match expr {
-            Expr::Literal(literal) => Ok(literal_value(literal)?),
-            Expr::Variable(name) => read_variable(active, name),
-            Expr::Length => measure(indexed),
-            Expr::Unary(operator, operand) => {
-                self.unary(world, active, stack, indexed, *operator, operand)
-            }
-            Expr::Binary(operator, left, right) => {
-                self.binary(world, active, stack, indexed, *operator, left, right)
-            }
-            Expr::Logic(operator, left, right) => {
-                self.logic(world, active, stack, indexed, *operator, left, right)
-            }
-            Expr::Conditional(test, first, second) => {
-                self.conditional(world, active, stack, indexed, test, first, second)
-            }
-            Expr::Index(base, place) => self.index(world, active, stack, indexed, base, place),
-            Expr::Range(base, low, high) => self.range(
-                world, active, stack, indexed, base, low, high,
-            ),
-            Expr::List(items) => self.list(world, active, stack, indexed, items),
-            Expr::Property(base, name) => self.property(world, active, stack, indexed, base, name),
-            Expr::VerbCall(base, name, items) => {
-                self.verb_call(world, active, stack, indexed, base, name, items)
-            }
-            Expr::Call(name, items) => self.call(world, active, stack, indexed, name, items),
-            Expr::Assign(target, value) => self.assign(
-                world, active, stack, indexed, target, value,
-            ),
-            Expr::Catch(body, codes, other) => {
-                self.catch(world, active, stack, indexed, body, codes, other)
-            }
-        }
-    }
-
     /// Evaluates items from left to right. Inlined, so that nested lists and calls need its stack space once.
     #[cycle(evaluation)]
     #[inline(always)]
@@ -294,38 +243,27 @@ impl Task {
         active: &mut Activation,
         stack: &CallStack<'_>,
         indexed: Option<&Value>,
-        items: &[Item],
+        items: &[NodeItem],
     ) -> Result<Gathered, Failure>
-        ensures meaning { IsKnownFailure result → EvaluatesAll Faults (context_of stack.now indexed.entry) (items_of items.now) (state_of self.old world.old active.old) (seen_by (λ values. values) result) (state_of self.new world.new active.new) }
+        ensures meaning { IsKnownFailure result → EvaluatesAll Faults (context_of stack.now indexed.entry) (source_items items.now) (state_of self.old world.old active.old) (seen_by (λ values. values) result) (state_of self.new world.new active.new) }
         ensures ticks { self.new.ticks_left ≤ self.old.ticks_left }
     {
         let mut values = Gathered::with_room(self.alloc, items.len())?;
         for item in items {
             match item {
-                Item::Element(expr) => {
-                    let value = self.evaluate_part(world, active, stack, indexed, expr)?;
+                NodeItem::Element(node) => {
+                    let value = self.evaluate(world, active, stack, indexed, node)?;
                     values.push(value)?;
                 }
-                Item::Splice(expr) => {
-                    let value = self.evaluate_part(world, active, stack, indexed, expr)?;
+                NodeItem::Splice(node) => {
+                    let value = self.evaluate(world, active, stack, indexed, node)?;
                     values.splice(self.alloc, value)?;
                 }
-                Item::Optional(_) | Item::Defaulted(_, _) => return Err(Failure::Fails(
-                    ErrorCode::TypeMismatch,
-                )),
+                NodeItem::Optional(_) | NodeItem::Defaulted(_, _) => {
+                    return Err(Failure::Fails(ErrorCode::TypeMismatch));
+                }
             }
         }
         Ok(values)
-    }
-}
-
-// Returns whether the fast path may handle a part of an expression. Of calls only `length` is included, and no list
-// and no range is, so that nested ones need only the stack space of `evaluate_node`.
-#[inline]
-fn may_be_known_within(expr: &Expr) -> bool {
-    match expr {
-        Expr::Call(name, _) => matches!(name.as_bytes(), [b'l' | b'L', _, _, _, _, _]),
-        Expr::List(_) | Expr::Range(..) => false,
-        _ => may_have_worth(expr),
     }
 }

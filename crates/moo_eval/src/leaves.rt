@@ -1,23 +1,31 @@
-//! Expressions without parts.
-ghost use Rattle.std.specs.Prelude.{◌≡◌, ◌≤◌, Option, Err};
+//! Evaluates variables and literals.
+ghost use Rattle.std.specs.Prelude.{◌≡◌, ◌≤◌, Option, Ok, Err, IfSome, IfNone};
 ghost use Rattle.std.specs.Borrow.{Bor};
+ghost use Rattle.moo_value.specs.View.{tree};
 ghost use Rattle.moo_value.specs.declared.value.Value.{Value as ValueModel};
 ghost use Rattle.moo_value.specs.declared.error_code.ErrorCode.TheVariants.{VariableNotFound};
-ghost use Rattle.moo_syntax_ast.specs.Tree.{literal as literal_node, variable};
+ghost use Rattle.moo_syntax_ast.specs.declared.tree.Literal.{Literal};
+ghost use Rattle.moo_syntax_ast.specs.declared.tree.Literal.TheVariants.{Str};
+ghost use Rattle.moo_syntax_ast.specs.Tree.{literal, literal_value, variable, length_mark};
+ghost use Rattle.moo_syntax_lower.specs.Source.{source};
+ghost use Rattle.moo_eval_frame.specs.State.{Context};
 ghost use Rattle.moo_eval_frame.specs.Outcome.{fails, settled};
-ghost use Rattle.moo_eval_frame.specs.Seen.{context_of, seen_value, trace_of, IsKnown};
+ghost use Rattle.moo_eval_frame.specs.Seen.{context_of, seen_value, trace_of, variables_of, IsKnown};
+ghost use Rattle.moo_eval.specs.Leaves.{GivesLeaf};
 ghost use Rattle.moo_world_table.specs.World.{World};
 ghost use Rattle.moo_builtin.specs.Telling.{Faults};
 ghost use Rattle.moo_eval_semantics.specs.Meaning.{Evaluates};
 ghost use Rattle.moo_eval.specs.Seen.{state_of};
 
 use crate::interpreter::Task;
-use moo_eval_frame::{Activation, CallStack, Failure, Stop, literal_value, settle};
-use moo_syntax_ast::{Literal, Name};
+use moo_eval_frame::{Activation, CallStack, Failure, Stop, measure, settle};
+use moo_syntax_ast::{Name, Text};
+use moo_syntax_lower::Node;
 use moo_value::{ErrorCode, Value};
 
 impl Task {
-    /// The value of a variable, which takes a tick, whatever `$` measures.
+    /// Returns the value of a variable, which takes a tick, whatever `$` measures.
+    #[inline(never)]
     pub(crate) fn variable(
         &mut self,
         active: &Activation,
@@ -34,7 +42,7 @@ impl Task {
         }
     }
 
-    // What a variable gives that isn't set.
+    // Returns the outcome of a variable that isn't set.
     #[cold]
     #[inline(never)]
     fn unset(&self, active: &Activation, stack: &CallStack<'_>) -> Result<Value, Stop>
@@ -44,17 +52,89 @@ impl Task {
         settle(self.alloc(), stack, active, outcome)
     }
 
-    /// The value of a literal, which takes a tick, whatever `$` measures.
+    /// Returns the value of a variable, of an integer or of an object's number, and takes its tick. `None` for another node,
+    /// for a variable that isn't set, or if ticks or memory are missing; then nothing has changed.
+    #[inline(always)]
+    pub(crate) fn try_leaf(&mut self, active: &Activation, node: &Node) -> Option<Value>
+        ensures some { IfSome result (λ v. (w : World) (c : Context) → Evaluates Faults c (source node.now) (state_of self.old w active.now) (Ok (tree v)) (state_of self.new w active.now)) }
+        ensures none { IfNone result (self.new ≡ self.old) }
+        ensures ticks { self.new.ticks_left ≤ self.old.ticks_left }
+    {
+        let value = leaf_value(active, node)?;
+        if !self.ticks_left.take() {
+            return None;
+        }
+        Some(value)
+    }
+
+    /// Returns the value of a literal, which takes a tick, whatever `$` measures.
+    #[inline(never)]
     pub(crate) fn literal(
         &mut self,
         active: &Activation,
         stack: &CallStack<'_>,
-        literal: &Literal,
+        value: Value,
     ) -> Result<Value, Stop>
-        ensures meaning { (indexed : Option (Bor ValueModel)) (w : World) → IsKnown result → Evaluates Faults (context_of stack.now indexed) (literal_node literal.now) (state_of self.old w active.now) (seen_value result) (state_of self.new w active.now) }
+        ensures meaning { (l : Literal) (indexed : Option (Bor ValueModel)) (w : World) → tree value ≡ literal_value l → IsKnown result → Evaluates Faults (context_of stack.now indexed) (literal l) (state_of self.old w active.now) (seen_value result) (state_of self.new w active.now) }
         ensures ticks { self.new.ticks_left ≤ self.old.ticks_left }
     {
         self.take_tick(active, stack)?;
-        Ok(literal_value(literal)?)
+        Ok(value)
+    }
+
+    /// Returns the value of a literal string, which takes a tick, whatever `$` measures.
+    #[inline(never)]
+    pub(crate) fn text(
+        &mut self,
+        active: &Activation,
+        stack: &CallStack<'_>,
+        text: &Text,
+    ) -> Result<Value, Stop>
+        ensures meaning { (indexed : Option (Bor ValueModel)) (w : World) → IsKnown result → Evaluates Faults (context_of stack.now indexed) (literal (Str text.now)) (state_of self.old w active.now) (seen_value result) (state_of self.new w active.now) }
+        ensures ticks { self.new.ticks_left ≤ self.old.ticks_left }
+    {
+        self.take_tick(active, stack)?;
+        Ok(Value::Str(text.string().try_clone()?))
+    }
+
+    /// Returns the length of the indexed value, which takes a tick.
+    #[inline(never)]
+    pub(crate) fn length(
+        &mut self,
+        active: &Activation,
+        stack: &CallStack<'_>,
+        indexed: Option<&Value>,
+    ) -> Result<Value, Stop>
+        ensures meaning { (w : World) → IsKnown result → Evaluates Faults (context_of stack.now indexed.entry) length_mark (state_of self.old w active.now) (seen_value result) (state_of self.new w active.now) }
+        ensures ticks { self.new.ticks_left ≤ self.old.ticks_left }
+    {
+        self.take_tick(active, stack)?;
+        match measure(indexed) {
+            Ok(value) => Ok(value),
+            Err(failure) => self.settled(active, stack, failure),
+        }
+    }
+}
+
+// Returns the value of a variable, of an integer or of an object's number, if it has one.
+#[inline(always)]
+fn leaf_value(active: &Activation, node: &Node) -> Option<Value>
+    ensures { IfSome result (λ v. GivesLeaf (variables_of active.now.variables) (source node.now) (tree v)) }
+{
+    match node {
+        Node::Variable(name) => copied(active.variables.get(name)?),
+        Node::Integer(number) => Some(Value::Int(*number)),
+        Node::Object(number) => Some(Value::Obj(*number)),
+        _ => None,
+    }
+}
+
+#[inline(always)]
+fn copied(value: &Value) -> Option<Value>
+    ensures { IfSome result (λ copy. tree copy ≡ tree value.now) }
+{
+    match value.try_clone() {
+        Ok(copy) => Some(copy),
+        Err(_) => None,
     }
 }

@@ -1,33 +1,26 @@
 //! Runs programs: their expressions and statements, and their budget of ticks.
 #![tactic(auto)]
 
-mod ahead;
-mod appending;
+mod arithmetic;
 mod assignment;
-mod branching;
 mod calls;
-mod completing;
+mod conditions;
 mod deciding;
 mod element;
-mod growing;
+mod extension;
 mod hooks;
 mod interpreter;
 pub mod laws;
 mod leaves;
 mod line;
 mod loops;
+mod nodes;
 mod operators;
-mod parts;
-mod readied;
-mod returning;
-mod scattering;
+mod property;
 mod statement;
 mod task;
 mod trying;
-mod turning;
-mod turns;
 mod typed;
-mod writing;
 
 pub use line::{EvalLine, eval_line};
 pub use moo_eval_call::typed_frame;

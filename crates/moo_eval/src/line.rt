@@ -13,13 +13,13 @@ use moo_value::{MooStr, WEIGHT_LIMIT, is_text};
 use moo_world::World;
 use std::alloc::{AllocError, Global};
 
-/// The status of a line that was run.
+/// Is the status of a line that was run.
 const RUN: u8 = 0;
 
-/// The status of a line that was refused.
+/// Is the status of a line that was refused.
 const REFUSED: u8 = 5;
 
-/// The result of a line of input.
+/// Holds the result of a line of input.
 #[derive(Drop)]
 pub struct EvalLine {
     /// The lines to print, each without an end of line.

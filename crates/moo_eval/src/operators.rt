@@ -1,27 +1,31 @@
 //! Evaluates operators, indexes, ranges and lists.
-ghost use Rattle.std.specs.Prelude.{◌≡◌, ◌≤◌};
+ghost use Rattle.std.specs.Prelude.{◌≡◌, ◌≤◌, Ok, IfSome, IfNone};
+ghost use Rattle.moo_value.specs.View.{tree};
 ghost use Rattle.moo_syntax_ast.specs.Tree.{unary, binary, index, range, list};
-ghost use Rattle.moo_syntax_ast.specs.View.{tree, items_of};
+ghost use Rattle.moo_syntax_lower.specs.Source.{source, source_items};
 ghost use Rattle.moo_builtin_operator.specs.Places.{made_list};
+ghost use Rattle.moo_world_table.specs.World.{World as WorldModel};
 ghost use Rattle.moo_eval_frame.specs.Outcome.{answers};
+ghost use Rattle.moo_eval_frame.specs.State.{Context};
 ghost use Rattle.moo_eval_frame.specs.Seen.{context_of, seen_answer, IsKnownFailure};
 ghost use Rattle.moo_builtin.specs.Telling.{Faults};
-ghost use Rattle.moo_eval_semantics.specs.Meaning.{Computes};
+ghost use Rattle.moo_eval_semantics.specs.Meaning.{Evaluates, Computes};
 ghost use Rattle.moo_eval.specs.Seen.{state_of};
 
 use crate::interpreter::Task;
 use moo_builtin_operator as operation;
-use moo_eval_fast_expr::integers;
+use moo_eval_access::binary;
 use moo_eval_frame::{Activation, CallStack, Failure, Gathered};
+use moo_eval_integer::element_of;
 use moo_syntax_ast::operator::{BinaryOperator, UnaryOperator};
-use moo_syntax_ast::{Expr, Item};
+use moo_syntax_lower::{Node, NodeItem};
 use moo_value::Value;
 use moo_world::World;
 use std::alloc::Global;
 
 impl Task {
     #[cycle(evaluation)]
-    #[inline(never)]
+    #[inline(always)]
     pub(crate) fn unary(
         &mut self,
         world: &mut World,
@@ -29,9 +33,9 @@ impl Task {
         stack: &CallStack<'_>,
         indexed: Option<&Value>,
         operator: UnaryOperator,
-        operand: &Expr,
+        operand: &Node,
     ) -> Result<Value, Failure>
-        ensures meaning { IsKnownFailure result → Computes Faults (context_of stack.now indexed.entry) (unary operator (tree operand.now)) (state_of self.old world.old active.old) (seen_answer result) (state_of self.new world.new active.new) }
+        ensures meaning { IsKnownFailure result → Computes Faults (context_of stack.now indexed.entry) (unary operator (source operand.now)) (state_of self.old world.old active.old) (seen_answer result) (state_of self.new world.new active.new) }
         ensures ticks { self.new.ticks_left ≤ self.old.ticks_left }
     {
         let operand = self.evaluate(world, active, stack, indexed, operand)?;
@@ -39,7 +43,7 @@ impl Task {
     }
 
     #[cycle(evaluation)]
-    #[inline(never)]
+    #[inline(always)]
     pub(crate) fn binary(
         &mut self,
         world: &mut World,
@@ -47,73 +51,95 @@ impl Task {
         stack: &CallStack<'_>,
         indexed: Option<&Value>,
         operator: BinaryOperator,
-        left: &Expr,
-        right: &Expr,
+        left: &Node,
+        right: &Node,
     ) -> Result<Value, Failure>
-        ensures meaning { IsKnownFailure result → Computes Faults (context_of stack.now indexed.entry) (binary operator (tree left.now) (tree right.now)) (state_of self.old world.old active.old) (seen_answer result) (state_of self.new world.new active.new) }
+        ensures meaning { IsKnownFailure result → Computes Faults (context_of stack.now indexed.entry) (binary operator (source left.now) (source right.now)) (state_of self.old world.old active.old) (seen_answer result) (state_of self.new world.new active.new) }
         ensures ticks { self.new.ticks_left ≤ self.old.ticks_left }
     {
         let left = self.evaluate(world, active, stack, indexed, left)?;
         let right = self.evaluate(world, active, stack, indexed, right)?;
-        Ok(integers::binary(self.alloc, operator, &left, &right)?)
+        Ok(binary(self.alloc(), operator, &left, &right)?)
+    }
+
+    /// Returns `base[place]` if the base is a variable and the place is computed from integers and variables alone, and takes
+    /// its ticks. `None` if that can't be; then nothing has changed.
+    #[inline(always)]
+    pub(crate) fn try_element(
+        &mut self,
+        active: &Activation,
+        base: &Node,
+        place: &Node,
+    ) -> Option<Value>
+        ensures some { IfSome result (λ v. (w : WorldModel) (c : Context) → Evaluates Faults c (index (source base.now) (source place.now)) (state_of self.old w active.now) (Ok (tree v)) (state_of self.new w active.now)) }
+        ensures none { IfNone result (self.new ≡ self.old) }
+        ensures ticks { self.new.ticks_left ≤ self.old.ticks_left }
+    {
+        let Node::Variable(name) = base else {
+            return None;
+        };
+        let mut left = self.ticks_left.left() as u32;
+        let value = element_of(self.alloc(), active, &mut left, name, place)?;
+        self.ticks_left.leave(left);
+        Some(value)
     }
 
     // Evaluates `base[index]`; in the index `$` is the length of the base.
     #[cycle(evaluation)]
-    #[inline(never)]
+    #[inline(always)]
     pub(crate) fn index(
         &mut self,
         world: &mut World,
         active: &mut Activation,
         stack: &CallStack<'_>,
         indexed: Option<&Value>,
-        base: &Expr,
-        place: &Expr,
+        base: &Node,
+        place: &Node,
     ) -> Result<Value, Failure>
-        ensures meaning { IsKnownFailure result → Computes Faults (context_of stack.now indexed.entry) (index (tree base.now) (tree place.now)) (state_of self.old world.old active.old) (seen_answer result) (state_of self.new world.new active.new) }
+        ensures meaning { IsKnownFailure result → Computes Faults (context_of stack.now indexed.entry) (index (source base.now) (source place.now)) (state_of self.old world.old active.old) (seen_answer result) (state_of self.new world.new active.new) }
         ensures ticks { self.new.ticks_left ≤ self.old.ticks_left }
     {
         let base = self.evaluate(world, active, stack, indexed, base)?;
         let place = self.evaluate(world, active, stack, Some(&base), place)?;
-        Ok(operation::index(self.alloc, &base, &place)?)
+        Ok(operation::index(self.alloc(), &base, &place)?)
     }
 
     #[cycle(evaluation)]
-    #[inline(never)]
+    #[inline(always)]
     pub(crate) fn range(
         &mut self,
         world: &mut World,
         active: &mut Activation,
         stack: &CallStack<'_>,
         indexed: Option<&Value>,
-        base: &Expr,
-        low: &Expr,
-        high: &Expr,
+        base: &Node,
+        low: &Node,
+        high: &Node,
     ) -> Result<Value, Failure>
-        ensures meaning { IsKnownFailure result → Computes Faults (context_of stack.now indexed.entry) (range (tree base.now) (tree low.now) (tree high.now)) (state_of self.old world.old active.old) (seen_answer result) (state_of self.new world.new active.new) }
+        ensures meaning { IsKnownFailure result → Computes Faults (context_of stack.now indexed.entry) (range (source base.now) (source low.now) (source high.now)) (state_of self.old world.old active.old) (seen_answer result) (state_of self.new world.new active.new) }
         ensures ticks { self.new.ticks_left ≤ self.old.ticks_left }
     {
         let base = self.evaluate(world, active, stack, indexed, base)?;
-        let low = self.evaluate_part(world, active, stack, Some(&base), low)?;
-        let high = self.evaluate_part(world, active, stack, Some(&base), high)?;
-        Ok(operation::range(self.alloc, &base, &low, &high)?)
+        let low = self.evaluate(world, active, stack, Some(&base), low)?;
+        let high = self.evaluate(world, active, stack, Some(&base), high)?;
+        Ok(operation::range(self.alloc(), &base, &low, &high)?)
     }
 
     #[cycle(evaluation)]
-    #[inline(never)]
+    #[inline(always)]
     pub(crate) fn list(
         &mut self,
         world: &mut World,
         active: &mut Activation,
         stack: &CallStack<'_>,
         indexed: Option<&Value>,
-        items: &[Item],
+        items: &[NodeItem],
     ) -> Result<Value, Failure>
-        ensures meaning { IsKnownFailure result → Computes Faults (context_of stack.now indexed.entry) (list (items_of items.now)) (state_of self.old world.old active.old) (seen_answer result) (state_of self.new world.new active.new) }
+        ensures meaning { IsKnownFailure result → Computes Faults (context_of stack.now indexed.entry) (list (source_items items.now)) (state_of self.old world.old active.old) (seen_answer result) (state_of self.new world.new active.new) }
         ensures ticks { self.new.ticks_left ≤ self.old.ticks_left }
     {
         let values = self.evaluate_all(world, active, stack, indexed, items)?;
-        listed(self.alloc, values)
+        listed(self.alloc(), values)
     }
 }
 

@@ -1,71 +1,76 @@
 //! Runs statements.
 ghost use Rattle.std.specs.Prelude.{◌≢◌, ◌≤◌, ◌<◌, None, OnOk};
-ghost use Rattle.moo_syntax_ast.specs.declared.tree.Stmt.TheVariants.{Return};
-ghost use Rattle.moo_syntax_ast.specs.Tree.{performs, branches, no_statement};
-ghost use Rattle.moo_syntax_ast.specs.View.{tree, statement as statement_of, block, arms_of};
+ghost use Rattle.moo_syntax_ast.specs.Tree.{assign, performs, branches, no_statement};
+ghost use Rattle.moo_syntax_lower.specs.declared.statement.NodeStmt.TheVariants.{Return};
+ghost use Rattle.moo_syntax_lower.specs.Source.{source};
+ghost use Rattle.moo_syntax_lower.specs.Blocks.{source_statement, source_block, source_arm_list};
 ghost use Rattle.moo_eval_semantics.specs.Meaning.{Runs, Does, RunsAll, Selects};
 ghost use Rattle.moo_eval_frame.specs.Seen.{context_of, seen_flow, IsKnown};
 ghost use Rattle.moo_builtin.specs.Telling.{Faults};
 ghost use Rattle.moo_eval.specs.Seen.{state_of};
 
 use crate::interpreter::Task;
-use moo_eval_fast_stmt::{as_appended, as_assignment, as_longer, as_place_assignment};
 use moo_eval_frame::{Activation, CallStack, Flow, Stop, copied_name};
-use moo_syntax_ast::{Arm, Expr, Stmt};
+use moo_syntax_lower::{Node, NodeArm, NodeStmt};
 use moo_value::Value;
 use moo_world::World;
 
 impl Task {
-    // Runs a statement, which takes a tick as it begins. A statement that the fast path has tried isn't tried again.
+    // Runs a statement, which takes a tick as it begins.
     #[cycle(evaluation)]
+    #[inline(always)]
     fn run(
         &mut self,
         world: &mut World,
         active: &mut Activation,
         stack: &CallStack<'_>,
-        statement: &Stmt,
-        tried: bool,
+        statement: &NodeStmt,
     ) -> Result<Flow, Stop>
-        ensures meaning { IsKnown result → Runs Faults (context_of stack.now None) (statement_of statement.now) (state_of self.old world.old active.old) (seen_flow result) (state_of self.new world.new active.new) }
+        ensures meaning { IsKnown result → Runs Faults (context_of stack.now None) (source_statement statement.now) (state_of self.old world.old active.old) (seen_flow result) (state_of self.new world.new active.new) }
         ensures ticks { self.new.ticks_left ≤ self.old.ticks_left }
         ensures fewer { OnOk result (self.new.ticks_left < self.old.ticks_left) }
     {
-        let completed = self.completes_untried(world, active, statement, tried)?;
-        if completed {
-            return Ok(Flow::Next);
-        }
         self.take_tick(active, stack)?;
         self.perform(world, active, stack, statement)
     }
 
     #[cycle(evaluation)]
+    #[inline(always)]
     fn perform(
         &mut self,
         world: &mut World,
         active: &mut Activation,
         stack: &CallStack<'_>,
-        statement: &Stmt,
+        statement: &NodeStmt,
     ) -> Result<Flow, Stop>
-        ensures meaning { IsKnown result → Does Faults (context_of stack.now None) (statement_of statement.now) (state_of self.old world.old active.old) (seen_flow result) (state_of self.new world.new active.new) }
+        ensures meaning { IsKnown result → Does Faults (context_of stack.now None) (source_statement statement.now) (state_of self.old world.old active.old) (seen_flow result) (state_of self.new world.new active.new) }
         ensures ticks { self.new.ticks_left ≤ self.old.ticks_left }
     {
         match statement {
-            Stmt::Return(expr) => self.give(world, active, stack, expr),
-            Stmt::Expression(expr) => self.evaluate_alone(world, active, stack, expr),
-            Stmt::If(test, body, arms) => self.branch(world, active, stack, test, body, arms),
-            Stmt::ForList(name, list, body) => self.for_list(
+            NodeStmt::Return(value) => self.give(world, active, stack, value),
+            NodeStmt::Expression(node) => self.evaluate_alone(world, active, stack, node),
+            NodeStmt::Set(name, value) => self.assign_alone(world, active, stack, name, value),
+            NodeStmt::Lengthen(name, last) => self.lengthen(world, active, stack, name, last),
+            NodeStmt::Extend(name, last) => self.extend(world, active, stack, name, last),
+            NodeStmt::Put(name, place, value) => {
+                self.set_place(world, active, stack, name, place, value)
+            }
+            NodeStmt::If(test, body, arms) => self.branch(world, active, stack, test, body, arms),
+            NodeStmt::ForList(name, list, body) => self.for_list(
                 world, active, stack, name, list, body,
             ),
-            Stmt::ForRange(name, low, high, body) => {
+            NodeStmt::ForRange(name, low, high, body) => {
                 self.for_range(world, active, stack, name, low, high, body)
             }
-            Stmt::While(name, test, body) => self.repeat(world, active, stack, name, test, body),
-            Stmt::Break(name) => Ok(Flow::Break(copied_name(name)?)),
-            Stmt::Continue(name) => Ok(Flow::Continue(copied_name(name)?)),
-            Stmt::TryExcept(body, handlers) => self.try_except(
+            NodeStmt::While(name, test, body) => self.repeat(
+                world, active, stack, name, test, body,
+            ),
+            NodeStmt::Break(name) => Ok(Flow::Break(copied_name(name)?)),
+            NodeStmt::Continue(name) => Ok(Flow::Continue(copied_name(name)?)),
+            NodeStmt::TryExcept(body, handlers) => self.try_except(
                 world, active, stack, body, handlers,
             ),
-            Stmt::TryFinally(body, cleanup) => self.try_finally(
+            NodeStmt::TryFinally(body, cleanup) => self.try_finally(
                 world, active, stack, body, cleanup,
             ),
         }
@@ -73,19 +78,20 @@ impl Task {
 
     // Returns the value of the expression as the flow of a `return`, or 0 if there is none.
     #[cycle(evaluation)]
+    #[inline(never)]
     fn give(
         &mut self,
         world: &mut World,
         active: &mut Activation,
         stack: &CallStack<'_>,
-        expr: &Option<Box<Expr>>,
+        value: &Option<Box<Node>>,
     ) -> Result<Flow, Stop>
-        ensures meaning { IsKnown result → Does Faults (context_of stack.now None) (statement_of (Return expr.now)) (state_of self.old world.old active.old) (seen_flow result) (state_of self.new world.new active.new) }
+        ensures meaning { IsKnown result → Does Faults (context_of stack.now None) (source_statement (Return value.now)) (state_of self.old world.old active.old) (seen_flow result) (state_of self.new world.new active.new) }
         ensures ticks { self.new.ticks_left ≤ self.old.ticks_left }
     {
-        match expr {
+        match value {
             None => Ok(Flow::Return(Value::Int(0))),
-            Some(expr) => Ok(Flow::Return(self.evaluate_part(world, active, stack, None, expr)?)),
+            Some(node) => Ok(Flow::Return(self.evaluate(world, active, stack, None, node)?)),
         }
     }
 
@@ -96,70 +102,116 @@ impl Task {
         world: &mut World,
         active: &mut Activation,
         stack: &CallStack<'_>,
-        expr: &Expr,
+        node: &Node,
     ) -> Result<Flow, Stop>
-        ensures meaning { IsKnown result → Does Faults (context_of stack.now None) (performs (tree expr.now)) (state_of self.old world.old active.old) (seen_flow result) (state_of self.new world.new active.new) }
+        ensures meaning { IsKnown result → Does Faults (context_of stack.now None) (performs (source node.now)) (state_of self.old world.old active.old) (seen_flow result) (state_of self.new world.new active.new) }
         ensures ticks { self.new.ticks_left ≤ self.old.ticks_left }
     {
-        if let Some((name, value)) = as_assignment(expr) {
-            if let Some(last) = as_longer(name, value) {
-                return self.lengthen(world, active, stack, name, last);
+        match node {
+            Node::Assign(target, value) => {
+                self.assign_target(world, active, stack, target, value)
             }
-            if let Some(last) = as_appended(name, value) {
-                return self.append(world, active, stack, name, last);
+            _ => self.drop_value(world, active, stack, node),
+        }
+    }
+
+    // Runs an assignment whose own value is not used.
+    #[cycle(evaluation)]
+    #[inline(always)]
+    fn assign_target(
+        &mut self,
+        world: &mut World,
+        active: &mut Activation,
+        stack: &CallStack<'_>,
+        target: &Node,
+        value: &Node,
+    ) -> Result<Flow, Stop>
+        ensures meaning { IsKnown result → Does Faults (context_of stack.now None) (performs (assign (source target.now) (source value.now))) (state_of self.old world.old active.old) (seen_flow result) (state_of self.new world.new active.new) }
+        ensures ticks { self.new.ticks_left ≤ self.old.ticks_left }
+    {
+        match target {
+            Node::Property(base, name) => {
+                self.set_property(world, active, stack, base, name, value)
             }
-            return self.assign_alone(world, active, stack, name, value);
+            Node::List(items) => self.scatter_alone(world, active, stack, items, value),
+            _ => self.drop_assigned(world, active, stack, target, value),
         }
-        if let Some((name, place, value)) = as_place_assignment(expr) {
-            return self.set_place(world, active, stack, name, place, value);
-        }
-        let _value = self.evaluate_part(world, active, stack, None, expr)?;
+    }
+
+    // Evaluates an assignment to another target, and drops its value.
+    #[cycle(evaluation)]
+    #[inline(never)]
+    fn drop_assigned(
+        &mut self,
+        world: &mut World,
+        active: &mut Activation,
+        stack: &CallStack<'_>,
+        target: &Node,
+        value: &Node,
+    ) -> Result<Flow, Stop>
+        ensures meaning { IsKnown result → Does Faults (context_of stack.now None) (performs (assign (source target.now) (source value.now))) (state_of self.old world.old active.old) (seen_flow result) (state_of self.new world.new active.new) }
+        ensures ticks { self.new.ticks_left ≤ self.old.ticks_left }
+    {
+        let _value = self.evaluate_assign(world, active, stack, None, target, value)?;
         Ok(Flow::Next)
     }
 
-    /// Runs statements in order, up to one that leads elsewhere. `tried` is true if the fast path has tried the first
-    /// one.
+    // Evaluates an expression of any kind, and drops its value. Not inlined, so that nested statements need no stack space
+    // for it.
     #[cycle(evaluation)]
+    #[inline(never)]
+    fn drop_value(
+        &mut self,
+        world: &mut World,
+        active: &mut Activation,
+        stack: &CallStack<'_>,
+        node: &Node,
+    ) -> Result<Flow, Stop>
+        ensures meaning { IsKnown result → Does Faults (context_of stack.now None) (performs (source node.now)) (state_of self.old world.old active.old) (seen_flow result) (state_of self.new world.new active.new) }
+        ensures ticks { self.new.ticks_left ≤ self.old.ticks_left }
+    {
+        let _value = self.evaluate(world, active, stack, None, node)?;
+        Ok(Flow::Next)
+    }
+
+    /// Runs statements in order, up to one that leads elsewhere.
+    #[cycle(evaluation)]
+    #[inline(never)]
     pub(crate) fn run_all(
         &mut self,
         world: &mut World,
         active: &mut Activation,
         stack: &CallStack<'_>,
-        statements: &[Stmt],
-        tried: bool,
+        statements: &[NodeStmt],
     ) -> Result<Flow, Stop>
-        ensures meaning { IsKnown result → RunsAll Faults (context_of stack.now None) (block statements.now) (state_of self.old world.old active.old) (seen_flow result) (state_of self.new world.new active.new) }
+        ensures meaning { IsKnown result → RunsAll Faults (context_of stack.now None) (source_block statements.now) (state_of self.old world.old active.old) (seen_flow result) (state_of self.new world.new active.new) }
         ensures ticks { self.new.ticks_left ≤ self.old.ticks_left }
-        ensures fewer { OnOk result (block statements.now ≢ no_statement → self.new.ticks_left < self.old.ticks_left) }
+        ensures fewer { OnOk result (source_block statements.now ≢ no_statement → self.new.ticks_left < self.old.ticks_left) }
     {
-        let mut tried = tried;
-        for statement in statements {
-            match self.run(world, active, stack, statement, tried)? {
-                Flow::Next => tried = false,
-                flow => return Ok(flow),
-            }
-        }
-        Ok(Flow::Next)
+        self.run_block(world, active, stack, statements)
     }
 
-    /// Runs the statements of a loop or of an arm. The fast path runs the first of them as far as it can.
+    /// Runs statements in order, up to one that leads elsewhere. Inlined, so that a turn of a loop needs no call.
     #[cycle(evaluation)]
     #[inline(always)]
-    pub(crate) fn run_body(
+    pub(crate) fn run_block(
         &mut self,
         world: &mut World,
         active: &mut Activation,
         stack: &CallStack<'_>,
-        body: &[Stmt],
+        statements: &[NodeStmt],
     ) -> Result<Flow, Stop>
-        ensures meaning { IsKnown result → RunsAll Faults (context_of stack.now None) (block body.now) (state_of self.old world.old active.old) (seen_flow result) (state_of self.new world.new active.new) }
+        ensures meaning { IsKnown result → RunsAll Faults (context_of stack.now None) (source_block statements.now) (state_of self.old world.old active.old) (seen_flow result) (state_of self.new world.new active.new) }
         ensures ticks { self.new.ticks_left ≤ self.old.ticks_left }
+        ensures fewer { OnOk result (source_block statements.now ≢ no_statement → self.new.ticks_left < self.old.ticks_left) }
     {
-        let rest = self.run_ahead(world, active, body, stack)?;
-        if rest.is_empty() {
-            return Ok(Flow::Next);
+        for statement in statements {
+            match self.run(world, active, stack, statement)? {
+                Flow::Next => {}
+                flow => return Ok(flow),
+            }
         }
-        self.run_all(world, active, stack, rest, true)
+        Ok(Flow::Next)
     }
 
     // Runs the first arm of an `if` whose condition is true.
@@ -170,16 +222,16 @@ impl Task {
         world: &mut World,
         active: &mut Activation,
         stack: &CallStack<'_>,
-        test: &Expr,
-        body: &[Stmt],
-        arms: &[Arm],
+        test: &Node,
+        body: &[NodeStmt],
+        arms: &[NodeArm],
     ) -> Result<Flow, Stop>
-        ensures meaning { IsKnown result → Does Faults (context_of stack.now None) (branches (tree test.now) (block body.now) (arms_of arms.now)) (state_of self.old world.old active.old) (seen_flow result) (state_of self.new world.new active.new) }
+        ensures meaning { IsKnown result → Does Faults (context_of stack.now None) (branches (source test.now) (source_block body.now) (source_arm_list arms.now)) (state_of self.old world.old active.old) (seen_flow result) (state_of self.new world.new active.new) }
         ensures ticks { self.new.ticks_left ≤ self.old.ticks_left }
     {
         let passes = self.passes(world, active, stack, None, test)?;
         if passes {
-            return self.run_body(world, active, stack, body);
+            return self.run_all(world, active, stack, body);
         }
         self.select(world, active, stack, arms)
     }
@@ -191,20 +243,20 @@ impl Task {
         world: &mut World,
         active: &mut Activation,
         stack: &CallStack<'_>,
-        arms: &[Arm],
+        arms: &[NodeArm],
     ) -> Result<Flow, Stop>
-        ensures meaning { IsKnown result → Selects Faults (context_of stack.now None) (arms_of arms.now) (state_of self.old world.old active.old) (seen_flow result) (state_of self.new world.new active.new) }
+        ensures meaning { IsKnown result → Selects Faults (context_of stack.now None) (source_arm_list arms.now) (state_of self.old world.old active.old) (seen_flow result) (state_of self.new world.new active.new) }
         ensures ticks { self.new.ticks_left ≤ self.old.ticks_left }
     {
         for arm in arms {
             match arm {
-                Arm::ElseIf(test, body) => {
+                NodeArm::ElseIf(test, body) => {
                     let passes = self.passes(world, active, stack, None, test)?;
                     if passes {
-                        return self.run_body(world, active, stack, body);
+                        return self.run_all(world, active, stack, body);
                     }
                 }
-                Arm::Else(body) => return self.run_body(world, active, stack, body),
+                NodeArm::Else(body) => return self.run_all(world, active, stack, body),
             }
         }
         Ok(Flow::Next)

@@ -1,4 +1,5 @@
-//! Runs whole tasks: 'MOO Tasks' of the LambdaMOO Programmer's Manual, 'Tracebacks' and 'Limits' of docs/reference/language.md.
+//! Runs whole tasks: 'MOO Tasks' of the LambdaMOO Programmer's Manual, 'Tracebacks' and 'Limits' of
+//! docs/reference/language.md.
 ghost use Rattle.std.specs.Prelude.{◌≡◌};
 ghost use Rattle.moo_eval_frame.specs.Seen.{seen_flow, IsKnown};
 ghost use Rattle.moo_eval_frame.specs.Variables.{first_bindings, value_of_name};
@@ -15,7 +16,7 @@ use moo_value::Value;
 use moo_world::World;
 use std::alloc::{AllocError, Global};
 
-/// How a task ended.
+/// Holds how a task ended.
 #[derive(Drop)]
 pub enum Ended {
     /// With a value: the one that it returned, or 0.
@@ -44,7 +45,7 @@ pub fn run_task(alloc: Global, world: &mut World, start: Frame, env: &mut TaskEn
     }
 }
 
-#[tactic(auto, using(crate::proofs::Ending::behind, crate::proofs::Ending::unchanged))]
+#[tactic(auto, using(crate::proofs::Ending::followed, crate::proofs::Ending::unchanged))]
 fn run_frame(
     alloc: Global,
     world: &mut World,
@@ -67,13 +68,8 @@ fn run_frame(
         surroundings: &env.surroundings,
     };
     let mut task = Task::new(alloc);
-    let outcome = task.run_all(
-        world,
-        &mut active,
-        &stack,
-        stack.running.program.statements(),
-        false,
-    );
+    let statements = stack.running.program.code();
+    let outcome = task.run_all(world, &mut active, &stack, statements);
     let Ok(()) = task.leave_notices(&mut env.notices) else {
         return Ended::Memory;
     };

@@ -1,7 +1,7 @@
 //! Runs `try`, with handlers or with a cleanup.
 ghost use Rattle.std.specs.Prelude.{◌≤◌, None, Result, Err, IfOk, IfErr, map};
 ghost use Rattle.moo_syntax_ast.specs.Tree.{try_except, try_finally};
-ghost use Rattle.moo_syntax_ast.specs.View.{block, handlers_of};
+ghost use Rattle.moo_syntax_lower.specs.Blocks.{source_block, source_handler_list};
 ghost use Rattle.moo_eval_semantics.specs.Meaning.{Does, RunsAll, Prepares, Takes};
 ghost use Rattle.moo_eval_frame.specs.Handling.{chosen};
 ghost use Rattle.moo_eval_frame.specs.Outcome.{Flow as Flowing, Stop as Stopped};
@@ -17,7 +17,7 @@ use moo_eval_frame::{
     Activation, CallStack, Flow, Guarded, Raise, Stop, after_finally, chosen, handler_parts,
     push_guarded, runs_finally, set_caught, settle_codes,
 };
-use moo_syntax_ast::{Handler, Stmt};
+use moo_syntax_lower::{NodeHandler, NodeStmt};
 use moo_world::World;
 
 impl Task {
@@ -29,14 +29,14 @@ impl Task {
         world: &mut World,
         active: &mut Activation,
         stack: &CallStack<'_>,
-        body: &[Stmt],
-        handlers: &[Handler],
+        body: &[NodeStmt],
+        handlers: &[NodeHandler],
     ) -> Result<Flow, Stop>
-        ensures meaning { IsKnown result → Does Faults (context_of stack.now None) (try_except (block body.now) (handlers_of handlers.now)) (state_of self.old world.old active.old) (seen_flow result) (state_of self.new world.new active.new) }
+        ensures meaning { IsKnown result → Does Faults (context_of stack.now None) (try_except (source_block body.now) (source_handler_list handlers.now)) (state_of self.old world.old active.old) (seen_flow result) (state_of self.new world.new active.new) }
         ensures ticks { self.new.ticks_left ≤ self.old.ticks_left }
     {
         let guarded = self.prepare(world, active, stack, handlers)?;
-        match self.run_all(world, active, stack, body, false) {
+        match self.run_all(world, active, stack, body) {
             Ok(flow) => Ok(flow),
             Err(Stop::Raised(raise)) => self.handle(world, active, stack, &guarded, raise),
             Err(Stop::OutOfTicks(trace)) => Err(Stop::OutOfTicks(trace)),
@@ -52,9 +52,9 @@ impl Task {
         world: &mut World,
         active: &mut Activation,
         stack: &CallStack<'_>,
-        handlers: &'a [Handler],
+        handlers: &'a [NodeHandler],
     ) -> Result<Vec<Guarded<'a>>, Stop>
-        ensures meaning { IsKnown result → Prepares Faults (context_of stack.now None) (handlers_of handlers.now) (state_of self.old world.old active.old) (seen_guarded result) (state_of self.new world.new active.new) }
+        ensures meaning { IsKnown result → Prepares Faults (context_of stack.now None) (source_handler_list handlers.now) (state_of self.old world.old active.old) (seen_guarded result) (state_of self.new world.new active.new) }
         ensures ticks { self.new.ticks_left ≤ self.old.ticks_left }
     {
         let mut guarded = Vec::new(self.alloc());
@@ -82,7 +82,7 @@ impl Task {
         ensures ticks { self.new.ticks_left ≤ self.old.ticks_left }
     {
         let body = self.begin_handler(active, stack, guarded, raise)?;
-        self.run_all(world, active, stack, body, false)
+        self.run_all(world, active, stack, body)
     }
 
     // Returns the statements of the first handler that names the error, and sets its variable. Err is the error
@@ -94,8 +94,8 @@ impl Task {
         stack: &CallStack<'_>,
         guarded: &[Guarded<'a>],
         raise: Raise,
-    ) -> Result<&'a [Stmt], Stop>
-        ensures ok { IfOk result (λ body. (w : WorldModel) (o : Result Flowing Stopped) (s : State) → RunsAll Faults (context_of stack.now None) (block body.now) (state_of self.now w active.new) o s → Takes Faults (context_of stack.now None) (chosen (map guarded_of guarded.now) raise.code) (raise_of raise) (state_of self.now w active.old) o s) }
+    ) -> Result<&'a [NodeStmt], Stop>
+        ensures ok { IfOk result (λ body. (w : WorldModel) (o : Result Flowing Stopped) (s : State) → RunsAll Faults (context_of stack.now None) (source_block body.now) (state_of self.now w active.new) o s → Takes Faults (context_of stack.now None) (chosen (map guarded_of guarded.now) raise.code) (raise_of raise) (state_of self.now w active.old) o s) }
         ensures err { IfErr result (λ stop. HadMemory stop → (w : WorldModel) → Takes Faults (context_of stack.now None) (chosen (map guarded_of guarded.now) raise.code) (raise_of raise) (state_of self.now w active.old) (Err (stop_of stop)) (state_of self.now w active.new)) }
     {
         let Some(taken) = chosen(guarded, raise.code) else {
@@ -113,17 +113,17 @@ impl Task {
         world: &mut World,
         active: &mut Activation,
         stack: &CallStack<'_>,
-        body: &[Stmt],
-        cleanup: &[Stmt],
+        body: &[NodeStmt],
+        cleanup: &[NodeStmt],
     ) -> Result<Flow, Stop>
-        ensures meaning { IsKnown result → Does Faults (context_of stack.now None) (try_finally (block body.now) (block cleanup.now)) (state_of self.old world.old active.old) (seen_flow result) (state_of self.new world.new active.new) }
+        ensures meaning { IsKnown result → Does Faults (context_of stack.now None) (try_finally (source_block body.now) (source_block cleanup.now)) (state_of self.old world.old active.old) (seen_flow result) (state_of self.new world.new active.new) }
         ensures ticks { self.new.ticks_left ≤ self.old.ticks_left }
     {
-        let outcome = self.run_all(world, active, stack, body, false);
+        let outcome = self.run_all(world, active, stack, body);
         if !runs_finally(&outcome) {
             return outcome;
         }
-        let last = self.run_all(world, active, stack, cleanup, false);
+        let last = self.run_all(world, active, stack, cleanup);
         after_finally(outcome, last)
     }
 }

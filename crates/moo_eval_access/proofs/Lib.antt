@@ -2,3 +2,5 @@ pub mod Containers
 pub mod Entered
 pub mod LettingGo
 pub mod Written
+pub mod Longer
+pub mod Refused

@@ -3,8 +3,7 @@ use Rattle.std.specs.Prelude.{List, [], ◌∷◌, map, reverse}
 use Rattle.moo_value.specs.Tree.{Tree}
 use Rattle.moo_value.specs.View.{tree}
 use Rattle.moo_syntax_ast.specs.Tree.{Items, no_items, element}
-use Rattle.moo_syntax_ast.specs.View as view
-use Rattle.moo_syntax_ast.specs.View.{items_of}
+use Rattle.moo_syntax_lower.specs.Source.{source, source_items}
 use Rattle.moo_eval_access.specs.declared.target.Root as code_root
 use Rattle.moo_eval_access.specs.declared.target.Root.TheVariants as root_case
 use Rattle.moo_eval_access.specs.declared.target.Places.{Places}
@@ -18,7 +17,7 @@ use Rattle.moo_eval_access.specs.Target.{Root, named, owned, scattered, Step, Pa
 abbrev pub root_seen : code_root.Root → Root
 root_seen (root_case.Variable x) = named x.now
 root_seen (root_case.Property base name) = owned (tree base) (tree name)
-root_seen (root_case.Scatter items) = scattered (items_of items.now)
+root_seen (root_case.Scatter items) = scattered (source_items items.now)
 
 abbrev pub places_of : Places → List Tree
 places_of (places_case.Element place) = tree place ∷ []
@@ -35,5 +34,5 @@ abbrev pub path_of : code_path.Path → Path
 path_of path = record { root = root_seen path.root; steps = steps_of path.steps.items }
 
 abbrev pub spot_of : Spot → Items
-spot_of (spot_case.Element place) = element (view.tree place.now) no_items
-spot_of (spot_case.Part low high) = element (view.tree low.now) (element (view.tree high.now) no_items)
+spot_of (spot_case.Element place) = element (source place.now) no_items
+spot_of (spot_case.Part low high) = element (source low.now) (element (source high.now) no_items)

@@ -1,10 +1,13 @@
-//! Accesses of evaluation to a world: properties, verbs to run, and targets of assignments. An internal crate of
-//! `moo_eval`.
+//! Accesses of evaluation to a world and to variables: properties, verbs to run, targets of assignments, and operators
+//! between values. An internal crate of `moo_eval`.
 #![tactic(auto)]
 
 mod entering;
 mod fault;
+mod growth;
+mod integers;
 mod object;
+mod place;
 mod target;
 
 pub use entering::{
@@ -13,7 +16,10 @@ pub use entering::{
     verb_frame, verb_there,
 };
 pub use fault::failed;
-pub use object::{read_property, write_property};
+pub use growth::{set_longer, set_sum};
+pub use integers::{binary, number_of};
+pub use object::{read_property, read_written, write_property, write_written};
+pub use place::set_at;
 pub use target::{
     Path, Places, Root, Spot, Step, Target, as_property, push_step, rebuilt, root_alone,
     set_variable, taken_apart,

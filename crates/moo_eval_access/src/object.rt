@@ -9,6 +9,7 @@ ghost use Rattle.moo_eval_frame.specs.Seen.{seen_answer, seen_by, IsKnownFailure
 
 use crate::fault::failed;
 use moo_eval_frame::Failure;
+use moo_syntax_ast::Text;
 use moo_value::{ErrorCode, MooStr, Value};
 use moo_world::{Rights, World};
 use std::alloc::Global;
@@ -32,6 +33,27 @@ pub fn read_property(
     match world.readable_value(programmer, *o, name.as_bytes()) {
         Some(value) => Ok(value.try_clone()?),
         None => read_in_order(alloc, world, programmer, *o, name),
+    }
+}
+
+/// Returns the value of a property whose name is a literal, as `read_property` does.
+#[inline(always)]
+pub fn read_written(
+    alloc: Global,
+    world: &World,
+    programmer: i32,
+    base: &Value,
+    name: &Text,
+) -> Result<Value, Failure>
+    ensures value { IsKnownFailure result → answers (read_property world.now programmer (tree base.now) (string name.now)) ≡ seen_answer result }
+    ensures memory { IfErr result (LacksOnlyIn (read_raises world.now (tree base.now) (string name.now) ≡ None)) }
+{
+    let Value::Obj(o) = base else {
+        return Err(Failure::Fails(ErrorCode::TypeMismatch));
+    };
+    match world.readable_written(programmer, *o, name) {
+        Some(value) => Ok(value.try_clone()?),
+        None => read_in_order(alloc, world, programmer, *o, name.string()),
     }
 }
 
@@ -72,6 +94,27 @@ pub fn write_property(
         return Err(Failure::Fails(ErrorCode::TypeMismatch));
     };
     match world.set_by(programmer, *o, name.as_bytes(), value) {
+        Ok(()) => Ok(()),
+        Err(fault) => Err(failed(fault)),
+    }
+}
+
+/// Sets a property whose name is a literal, as `write_property` does.
+#[inline(always)]
+pub fn write_written(
+    world: &mut World,
+    programmer: i32,
+    base: &Value,
+    name: &Text,
+    value: Value,
+) -> Result<(), Failure>
+    ensures world { answers (write_property world.old programmer (tree base.now) (string name.now) (tree value)) ≡ seen_by (λ _. world.new) result }
+    ensures kept { IfErr result (λ _. world.new ≡ world.old) }
+{
+    let Value::Obj(o) = base else {
+        return Err(Failure::Fails(ErrorCode::TypeMismatch));
+    };
+    match world.set_written_by(programmer, *o, name, value) {
         Ok(()) => Ok(()),
         Err(fault) => Err(failed(fault)),
     }

@@ -3,7 +3,7 @@
 ghost use Rattle.std.specs.Prelude.{◌≡◌, ◌∷◌, [], Ok, Err, map, IfOk, IfErr, IfSome, IfNone, OnOk};
 ghost use Rattle.moo_value.specs.Tree.{Tree};
 ghost use Rattle.moo_value.specs.View.{tree};
-ghost use Rattle.moo_syntax_ast.specs.View.{tree as expression};
+ghost use Rattle.moo_syntax_lower.specs.Source.{source};
 ghost use Rattle.moo_syntax_ast.specs.Tree.{property, no_items};
 ghost use Rattle.moo_builtin_operator.specs.Answer.{Gives};
 ghost use Rattle.moo_eval_frame.specs.Outcome.{answers};
@@ -17,7 +17,8 @@ use crate::object::read_property;
 use moo_builtin_operator as operation;
 use moo_builtin_operator::OperationFault;
 use moo_eval_frame::{Activation, Failure, Variables, read_variable};
-use moo_syntax_ast::{Expr, Item, Name};
+use moo_syntax_ast::Name;
+use moo_syntax_lower::{Node, NodeItem};
 use moo_value::{ErrorCode, Value};
 use moo_world::World;
 use std::alloc::{AllocError, Global};
@@ -25,15 +26,15 @@ use std::alloc::{AllocError, Global};
 /// The syntax of a target: the root, and the indexes and ranges that follow it.
 #[derive(Drop)]
 pub struct Target<'a> {
-    pub root: &'a Expr,
+    pub root: &'a Node,
     pub spots: Vec<Spot<'a>>,
 }
 
 /// An index or a range in a target.
 #[derive(Drop)]
 pub enum Spot<'a> {
-    Element(&'a Expr),
-    Part(&'a Expr, &'a Expr),
+    Element(&'a Node),
+    Part(&'a Node, &'a Node),
 }
 
 /// What an assignment sets.
@@ -42,7 +43,7 @@ pub enum Root<'a> {
     Variable(&'a Name),
     /// A property, by the values of its base and of its name.
     Property(Value, Value),
-    Scatter(&'a [Item]),
+    Scatter(&'a [NodeItem]),
 }
 
 /// The places in a container.
@@ -68,17 +69,17 @@ pub struct Path<'a> {
 }
 
 /// Splits a target into its root and its indexes and ranges.
-pub fn taken_apart<'a>(alloc: Global, target: &'a Expr) -> Result<Target<'a>, AllocError>
-    ensures root { IfOk result (λ t. expression t.root.now ≡ root_of (expression target.now)) }
-    ensures spots { IfOk result (λ t. map spot_of t.spots.items ≡ spots (expression target.now)) }
+pub fn taken_apart<'a>(alloc: Global, target: &'a Node) -> Result<Target<'a>, AllocError>
+    ensures root { IfOk result (λ t. source t.root.now ≡ root_of (source target.now)) }
+    ensures spots { IfOk result (λ t. map spot_of t.spots.items ≡ spots (source target.now)) }
 {
     match target {
-        Expr::Index(base, place) => {
+        Node::Index(base, place) => {
             let mut parts = taken_apart(alloc, base)?;
             parts.spots.push(Spot::Element(place))?;
             Ok(parts)
         }
-        Expr::Range(base, low, high) => {
+        Node::Range(base, low, high) => {
             let mut parts = taken_apart(alloc, base)?;
             parts.spots.push(Spot::Part(low, high))?;
             Ok(parts)
@@ -91,24 +92,24 @@ pub fn taken_apart<'a>(alloc: Global, target: &'a Expr) -> Result<Target<'a>, Al
 }
 
 /// Returns the base and the name of a property expression.
-pub fn as_property(root: &Expr) -> Option<(&Expr, &Expr)>
-    ensures some { IfSome result (λ p. expression root.now ≡ property (expression p.0.now) (expression p.1.now)) }
-    ensures none { IfNone result (root_parts (expression root.now) ≡ no_items) }
+pub fn as_property(root: &Node) -> Option<(&Node, &Node)>
+    ensures some { IfSome result (λ p. source root.now ≡ property (source p.0.now) (source p.1.now)) }
+    ensures none { IfNone result (root_parts (source root.now) ≡ no_items) }
 {
     match root {
-        Expr::Property(base, name) => Some((base, name)),
+        Node::Property(base, name) => Some((base, name)),
         _ => None,
     }
 }
 
 /// Returns what a root without indexes names. An expression that is no target is E_TYPE; no program has it before
 /// `=`.
-pub fn root_alone(root: &Expr) -> Result<Root<'_>, Failure>
-    ensures { answers (root_from (expression root.now) []) ≡ seen_by root_seen result }
+pub fn root_alone(root: &Node) -> Result<Root<'_>, Failure>
+    ensures { answers (root_from (source root.now) []) ≡ seen_by root_seen result }
 {
     match root {
-        Expr::Variable(name) => Ok(Root::Variable(name)),
-        Expr::List(items) => Ok(Root::Scatter(items)),
+        Node::Variable(name) => Ok(Root::Variable(name)),
+        Node::List(items) => Ok(Root::Scatter(items)),
         _ => Err(Failure::Fails(ErrorCode::TypeMismatch)),
     }
 }

@@ -11,4 +11,3 @@ pub mod Stored
 pub mod Told
 pub mod Measured
 pub mod Rows
-pub mod Staying

@@ -6,13 +6,13 @@ use Rattle.moo_value.specs.declared.error_code.ErrorCode.TheVariants.{Arguments}
 use Rattle.moo_value.specs.Tree.{Tree, list_of}
 use Rattle.moo_value.specs.TreeCode.{trees_of-elements_of}
 use Rattle.moo_eval_frame.specs.Scatter.{fits, dealt}
-use Rattle.moo_syntax_ast.specs.declared.tree.Item.{Item}
+use Rattle.moo_syntax_lower.specs.declared.node.NodeItem.{NodeItem}
 use Rattle.moo_syntax_ast.specs.Tree.{Items}
-use Rattle.moo_syntax_ast.specs.View.{with_item, items_of}
+use Rattle.moo_syntax_lower.specs.Source.{with_source, source_items}
 
 -- a fact of the items that are left is one of the next and of those after it
-pub items_next : {X : Type 0} (f : Items → X) (items : List Item) (i : ℕ) (item : Item) → i < length items → item ≡ get_or items i item → f (items_of (drop i items)) ≡ f (with_item item (items_of (drop (i + 1) items)))
-items_next f items i item h e = at_drop_more (λ r. f (items_of r)) items i item h ∙ ap (λ x. f (with_item x (items_of (drop (i + 1) items)))) (sym e)
+pub items_next : {X : Type 0} (f : Items → X) (items : List NodeItem) (i : ℕ) (item : NodeItem) → i < length items → item ≡ get_or items i item → f (source_items (drop i items)) ≡ f (with_source item (source_items (drop (i + 1) items)))
+items_next f items i item h e = at_drop_more (λ r. f (source_items r)) items i item h ∙ ap (λ x. f (with_source x (source_items (drop (i + 1) items)))) (sym e)
 
 pub list_any-map : {X Y : Type 0} (f : X → Y) (p : Y → Bool) (xs : List X) → list_any p (map f xs) ≡ list_any (λ x. p (f x)) xs
 list_any-map f p [] = refl

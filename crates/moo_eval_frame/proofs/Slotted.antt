@@ -47,14 +47,6 @@ value_set slots names i s v a h e =
 pub held_at : (slots : List Slot) (i : ℕ) (s : Slot) → i < length slots → s ≡ get_or slots i s → get_or (values_in slots) i None ≡ value_in s
 held_at slots i s h e = get_or-map value_in slots i s None h ∙ ap value_in (sym e)
 
--- if one is set
-set_in : (s : Slot) (v : Value) → value_in s ≡ Some v → s.value ≡ v
-set_in s v e = flag s.is_set e
-  where
-    flag : (b : Bool) → cond b (Some s.value) None ≡ Some v → s.value ≡ v
-    flag true e = cc
-    flag false e = absurd cc
-
 -- the numbers of a slot determine the place of the name
 module _ (p : Block) (slots : List Slot) (i : ℕ) (s : Slot) (name : List ℕ) (are : AreSlotsOf slots (program.slots p)) (within : i < length slots) (at : s ≡ get_or slots i s) (text : IsText name) (known : s.number ≢ 0 → (given_of name ≡ None) × AreNumbersOf s.number s.further name) (unknown : s.number ≡ 0 → s.further ≡ 0) where
   own : IsSlotOf (get_or (program.slots p) i []) s
@@ -111,15 +103,6 @@ module _ (held : Held) (p : Block) (slots : List Slot) (i : ℕ) (is : seen p sl
   module _ (h : IsHeld held i) where
     pub within : i < length slots
     within = place h.0
-
-    -- the value that is set
-    pub held_value : (s : Slot) → s ≡ get_or slots i s → get_or held.values i None ≡ Some s.value
-    held_value s at =
-        let there : value_in s ≡ Some h.1 = sym (held_at slots i s within at) ∙ ap (λ x. get_or x.values i None) is ∙ h.2 in
-        h.2 ∙ ap (λ v. Some v) (sym (set_in s h.1 there))
-
-    pub held_there : get_or held.values i None ≡ Some (get_or slots i unset_slot).value
-    held_there = let s = get_or slots i unset_slot in held_value s (get_or_default slots i unset_slot s within)
 
     -- another in its place
     pub changed : (new : List Slot) (v : Value) → new ≡ set slots i (with_value (get_or slots i unset_slot) v) → seen p new ≡ with_held held i v

@@ -18,4 +18,3 @@ pub mod Seen
 pub mod SeenScatter
 pub mod SeenHandling
 pub mod Fault
-pub mod Standing

@@ -8,9 +8,9 @@ use Rattle.moo_value.specs.declared.value.Value.{Value}
 use Rattle.moo_value.specs.Tree.{Tree}
 use Rattle.moo_value.specs.Compare.{folded}
 use Rattle.moo_value.specs.View.{tree, trees}
-use Rattle.moo_syntax_ast.specs.declared.tree.Expr as code_expr
+use Rattle.moo_syntax_lower.specs.declared.node.Node.{Node}
 use Rattle.moo_syntax_ast.specs.Tree.{Expr, catch, catch_or, Codes}
-use Rattle.moo_syntax_ast.specs.View.{root}
+use Rattle.moo_syntax_lower.specs.Source.{source}
 use Rattle.moo_eval_frame.specs.declared.frame.CallStack.{CallStack}
 use Rattle.moo_eval_frame.specs.declared.frame.Activation.{Activation}
 use Rattle.moo_eval_frame.specs.declared.surroundings.Surroundings as code_surroundings
@@ -134,9 +134,9 @@ seen_codes (Ok vs) = Ok (trees vs.items)
 seen_codes (Err stop) = Err (stop_of stop)
 
 -- a catch, with or without what it goes on to
-abbrev pub catch_of : Expr → Codes → Option (Box code_expr.Expr Global) → Expr
+abbrev pub catch_of : Expr → Codes → Option (Box Node Global) → Expr
 catch_of a codes None = catch a codes
-catch_of a codes (Some b) = catch_or a codes (root b)
+catch_of a codes (Some b) = catch_or a codes (source b.value)
 
 -- there was memory enough
 abbrev pub HadMemory : code_stop.Stop → Type 0

@@ -3,13 +3,13 @@ use Rattle.std.specs.Prelude.{ℕ, List, [], ◌∷◌, Option, Some, None}
 use Rattle.std.specs.Borrow.{Bor}
 use Rattle.moo_value.specs.declared.value.Value.{Value}
 use Rattle.moo_value.specs.View.{tree}
-use Rattle.moo_syntax_ast.specs.View as view
+use Rattle.moo_syntax_lower.specs.Source.{source}
 use Rattle.moo_eval_frame.specs.Variables.{Binding, bind}
 use Rattle.moo_eval_frame.specs.declared.scatter.LeftOut as code_left_out
 use Rattle.moo_eval_frame.specs.Scatter.{LeftOut}
 
 abbrev pub left_out_of : code_left_out.LeftOut → LeftOut
-left_out_of d = record { name = d.name.now; value = view.tree d.value.now }
+left_out_of d = record { name = d.name.now; value = source d.value.now }
 
 abbrev pub left_out_by : Option code_left_out.LeftOut → List LeftOut
 left_out_by None = []

@@ -1,10 +1,9 @@
 //! Values that a node reads or gathers.
-ghost use Rattle.std.specs.Prelude.{◌≡◌, ◌++◌, ◌∷◌, [], IfOk, IfErr, OnOk, OnErr, IsSomeAnd};
+ghost use Rattle.std.specs.Prelude.{◌≡◌, ◌++◌, ◌∷◌, [], IfErr, OnOk, IsSomeAnd};
 ghost use Rattle.moo_value.specs.Faults.{TakesMemory};
 ghost use Rattle.moo_value.specs.declared.error_code.ErrorCode.TheVariants.{VariableNotFound};
 ghost use Rattle.moo_value.specs.Compare.{folded};
 ghost use Rattle.moo_value.specs.View.{tree};
-ghost use Rattle.moo_syntax_ast.specs.Tree.{literal_value};
 ghost use Rattle.moo_eval_frame.specs.Outcome.{answers, or_error};
 ghost use Rattle.moo_eval_frame.specs.State.{measured};
 ghost use Rattle.moo_eval_frame.specs.Seen.{variables_of, indexed_of, failure_of, seen_answer, IsKnownFailure, LacksOnlyIn};
@@ -12,22 +11,9 @@ ghost use Rattle.moo_eval_frame.specs.Seen.{variables_of, indexed_of, failure_of
 use crate::frame::Activation;
 use crate::outcome::Failure;
 use moo_builtin_operator::length_of;
-use moo_syntax_ast::{Literal, Name};
+use moo_syntax_ast::Name;
 use moo_value::{ErrorCode, Value};
 use std::alloc::AllocError;
-
-/// Returns the value of a literal.
-pub fn literal_value(literal: &Literal) -> Result<Value, AllocError>
-    ensures value { IfOk result (λ v. tree v ≡ literal_value literal.now) }
-    ensures memory { OnErr result (TakesMemory (literal_value literal.now)) }
-{
-    match literal {
-        Literal::Integer(number) => Ok(Value::Int(*number)),
-        Literal::Object(number) => Ok(Value::Obj(*number)),
-        Literal::Error(code) => Ok(Value::Err(*code)),
-        Literal::Str(text) => Ok(Value::Str(text.string().try_clone()?)),
-    }
-}
 
 /// Returns the value of a variable.
 pub fn read_variable(active: &Activation, name: &Name) -> Result<Value, Failure>

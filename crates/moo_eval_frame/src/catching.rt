@@ -4,13 +4,13 @@ ghost use Rattle.std.specs.List.{list_any};
 ghost use Rattle.moo_value.specs.Tree.{error};
 ghost use Rattle.moo_value.specs.View.{tree, trees};
 ghost use Rattle.moo_builtin_operator.specs.Truth.{same_tree};
-ghost use Rattle.moo_syntax_ast.specs.View.{codes_of};
+ghost use Rattle.moo_syntax_lower.specs.Source.{source_codes};
 ghost use Rattle.moo_eval_frame.specs.Catching.{is_caught, caught, coded};
 ghost use Rattle.moo_eval_frame.specs.Seen.{seen_value, seen_answers, seen_codes, trace_of, IsKnown, IsKnownFailure, LacksOnlyWhere, MayLack};
 
 use crate::frame::{Activation, CallStack};
 use crate::outcome::{Failure, Stop, raised};
-use moo_syntax_ast::Codes;
+use moo_syntax_lower::NodeCodes;
 use moo_value::{ErrorCode, Value};
 use std::alloc::Global;
 
@@ -33,8 +33,12 @@ pub fn settle_codes(
 }
 
 /// Returns the error that a catch of these codes handles, if one was raised. `values` are the values of the codes.
-pub fn caught(codes: &Codes, values: &[Value], outcome: &Result<Value, Stop>) -> Option<ErrorCode>
-    ensures { result ≡ caught (codes_of codes.now) (trees values.now) (seen_value outcome.now) }
+pub fn caught(
+    codes: &NodeCodes,
+    values: &[Value],
+    outcome: &Result<Value, Stop>,
+) -> Option<ErrorCode>
+    ensures { result ≡ caught (source_codes codes.now) (trees values.now) (seen_value outcome.now) }
 {
     match outcome {
         Err(Stop::Raised(raise)) if is_caught(codes, values, raise.code) => Some(raise.code),
@@ -42,12 +46,12 @@ pub fn caught(codes: &Codes, values: &[Value], outcome: &Result<Value, Stop>) ->
     }
 }
 
-pub(crate) fn is_caught(codes: &Codes, values: &[Value], code: ErrorCode) -> bool
-    ensures { result ≡ is_caught (codes_of codes.now) (trees values.now) code }
+pub(crate) fn is_caught(codes: &NodeCodes, values: &[Value], code: ErrorCode) -> bool
+    ensures { result ≡ is_caught (source_codes codes.now) (trees values.now) code }
 {
     match codes {
-        Codes::Any => true,
-        Codes::Listed(_) => is_among(code, values),
+        NodeCodes::Any => true,
+        NodeCodes::Listed(_) => is_among(code, values),
     }
 }
 

@@ -135,20 +135,4 @@ impl GivenValues {
         }
         Ok(())
     }
-
-    /// Sets the value of a name that the frame doesn't share, and returns whether it is one.
-    pub(crate) fn put(&mut self, given: Given, value: Value) -> bool
-        ensures put { IsTrue result → given_values self.new ≡ set (given_values self.old) (given_slot given) (Some value) }
-        ensures kept { IsFalse result → self.new ≡ self.old }
-    {
-        match given {
-            Given::Player => self.player = value,
-            Given::This => self.this = value,
-            Given::Caller => self.caller = value,
-            Given::Verb => self.verb = value,
-            Given::Args => self.args = value,
-            _ => return false,
-        }
-        true
-    }
 }

@@ -3,7 +3,8 @@ ghost use Rattle.std.specs.Prelude.{◌≡◌, ◌++◌, ◌∷◌, [], List, Ok
 ghost use Rattle.moo_value.specs.Tree.{Tree};
 ghost use Rattle.moo_value.specs.View.{trees};
 ghost use Rattle.moo_syntax_ast.specs.Tree.{Handlers, handler};
-ghost use Rattle.moo_syntax_ast.specs.View.{with_handler, codes_of, block};
+ghost use Rattle.moo_syntax_lower.specs.Source.{source_codes};
+ghost use Rattle.moo_syntax_lower.specs.Blocks.{source_block, with_source_handler};
 ghost use Rattle.moo_eval_frame.specs.Outcome as meaning;
 ghost use Rattle.moo_eval_frame.specs.Outcome.{answers, raised_by};
 ghost use Rattle.moo_eval_frame.specs.Variables.{Binding, with_all};
@@ -18,7 +19,8 @@ use crate::catching::is_caught;
 use crate::frame::{Activation, CallStack, TraceEntry, TraceFrame};
 use crate::outcome::{Failure, Raise, Stop, raised};
 use moo_builtin_operator as operation;
-use moo_syntax_ast::{Codes, Handler, Name, Stmt};
+use moo_syntax_ast::Name;
+use moo_syntax_lower::{NodeCodes, NodeHandler, NodeStmt};
 use moo_value::{ErrorCode, Value};
 use std::alloc::{AllocError, Global};
 
@@ -26,30 +28,30 @@ use std::alloc::{AllocError, Global};
 #[derive(Drop)]
 pub struct HandlerParts<'a> {
     pub name: Option<&'a Name>,
-    pub codes: &'a Codes,
-    pub body: &'a [Stmt],
+    pub codes: &'a NodeCodes,
+    pub body: &'a [NodeStmt],
 }
 
 /// A handler with the values of its codes.
 #[derive(Drop)]
 pub struct Guarded<'a> {
     pub name: Option<&'a Name>,
-    pub codes: &'a Codes,
-    pub body: &'a [Stmt],
+    pub codes: &'a NodeCodes,
+    pub body: &'a [NodeStmt],
     pub values: Vec<Value>,
 }
 
 /// Returns the parts of a handler.
-pub fn handler_parts(value: &Handler) -> HandlerParts<'_>
-    ensures { (hs : Handlers) → with_handler value.now hs ≡ handler (option_copied result.name) (codes_of result.codes.now) (block result.body.now) hs }
+pub fn handler_parts(value: &NodeHandler) -> HandlerParts<'_>
+    ensures { (hs : Handlers) → with_source_handler value.now hs ≡ handler (option_copied result.name) (source_codes result.codes.now) (source_block result.body.now) hs }
 {
     match value {
-        Handler::Except(codes, body) => HandlerParts {
+        NodeHandler::Except(codes, body) => HandlerParts {
             name: None,
             codes,
             body,
         },
-        Handler::ExceptAs(name, codes, body) => HandlerParts {
+        NodeHandler::ExceptAs(name, codes, body) => HandlerParts {
             name: Some(name),
             codes,
             body,
@@ -63,7 +65,7 @@ pub fn push_guarded<'a>(
     parts: HandlerParts<'a>,
     values: Vec<Value>,
 ) -> Result<(), AllocError>
-    ensures { OnOk result (map guarded_of all.new.items ≡ map guarded_of all.old.items ++ guarded (option_copied parts.entry.name) (codes_of parts.entry.codes.now) (block parts.entry.body.now) (trees values.items) ∷ []) }
+    ensures { OnOk result (map guarded_of all.new.items ≡ map guarded_of all.old.items ++ guarded (option_copied parts.entry.name) (source_codes parts.entry.codes.now) (source_block parts.entry.body.now) (trees values.items) ∷ []) }
 {
     all.push(Guarded {
         name: parts.name,
@@ -76,7 +78,7 @@ pub fn push_guarded<'a>(
 
 impl Guarded<'_> {
     fn takes(&self, code: ErrorCode) -> bool
-        ensures { result ≡ is_caught (codes_of self.now.codes.now) (trees self.now.values.items) code }
+        ensures { result ≡ is_caught (source_codes self.now.codes.now) (trees self.now.values.items) code }
     {
         is_caught(self.codes, &self.values, code)
     }

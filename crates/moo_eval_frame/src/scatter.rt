@@ -2,15 +2,15 @@
 ghost use Rattle.std.specs.Prelude.{◌≡◌, ◌+◌, ◌||◌, ◌++◌, ◌∷◌, [], ◌≤◌, cond, Ok, Err, map, drop, length, IfOk, IfErr, OnOk, IfSome, IfNone};
 ghost use Rattle.moo_value.specs.View.{tree};
 ghost use Rattle.moo_syntax_ast.specs.Tree.{Items, element, splice, optional};
-ghost use Rattle.moo_syntax_ast.specs.View.{items_of, with_item};
-ghost use Rattle.moo_syntax_ast.specs.View as view;
+ghost use Rattle.moo_syntax_lower.specs.Source.{source, source_items, with_source};
 ghost use Rattle.moo_eval_frame.specs.Variables.{with_all};
 ghost use Rattle.moo_eval_frame.specs.Scatter.{required, optionals, takes_rest, fits, dealt, binds, shares, lacking, given, missing};
 ghost use Rattle.moo_eval_frame.specs.Seen.{variables_of};
 ghost use Rattle.moo_eval_frame.specs.SeenScatter.{left_out_of, left_out_by, share_of};
 
 use crate::frame::Activation;
-use moo_syntax_ast::{Expr, Item, Name};
+use moo_syntax_ast::Name;
+use moo_syntax_lower::{Node, NodeItem};
 use moo_value::{ErrorCode, MooList, Value};
 use std::alloc::{AllocError, Global};
 
@@ -18,13 +18,13 @@ use std::alloc::{AllocError, Global};
 #[derive(Drop)]
 pub struct LeftOut<'a> {
     pub name: &'a Name,
-    pub value: &'a Expr,
+    pub value: &'a Node,
 }
 
 /// Returns the list whose elements are assigned: E_TYPE for a value that is no list, E_ARGS for a wrong count.
-pub fn dealt<'a>(items: &[Item], value: &'a Value) -> Result<&'a MooList, ErrorCode>
-    ensures ok { IfOk result (λ list. dealt (items_of items.now) (tree value.now) ≡ Ok list.now) }
-    ensures err { IfErr result (λ code. dealt (items_of items.now) (tree value.now) ≡ Err code) }
+pub fn dealt<'a>(items: &[NodeItem], value: &'a Value) -> Result<&'a MooList, ErrorCode>
+    ensures ok { IfOk result (λ list. dealt (source_items items.now) (tree value.now) ≡ Ok list.now) }
+    ensures err { IfErr result (λ code. dealt (source_items items.now) (tree value.now) ≡ Err code) }
 {
     let Value::List(list) = value else {
         return Err(ErrorCode::TypeMismatch);
@@ -36,8 +36,8 @@ pub fn dealt<'a>(items: &[Item], value: &'a Value) -> Result<&'a MooList, ErrorC
     }
 }
 
-fn fits(items: &[Item], count: usize) -> bool
-    ensures { result ≡ fits (items_of items.now) count }
+fn fits(items: &[NodeItem], count: usize) -> bool
+    ensures { result ≡ fits (source_items items.now) count }
 {
     let required = required(items);
     if count < required {
@@ -46,27 +46,27 @@ fn fits(items: &[Item], count: usize) -> bool
     takes_rest(items) || count - required <= optionals(items)
 }
 
-fn is_required(item: &Item) -> bool
-    ensures { (xs : Items) → required (with_item item.now xs) ≡ cond result 1 0 + required xs }
+fn is_required(item: &NodeItem) -> bool
+    ensures { (xs : Items) → required (with_source item.now xs) ≡ cond result 1 0 + required xs }
 {
-    matches!(item, Item::Element(_))
+    matches!(item, NodeItem::Element(_))
 }
 
-fn is_optional(item: &Item) -> bool
-    ensures { (xs : Items) → optionals (with_item item.now xs) ≡ cond result 1 0 + optionals xs }
+fn is_optional(item: &NodeItem) -> bool
+    ensures { (xs : Items) → optionals (with_source item.now xs) ≡ cond result 1 0 + optionals xs }
 {
-    matches!(item, Item::Optional(_) | Item::Defaulted(_, _))
+    matches!(item, NodeItem::Optional(_) | NodeItem::Defaulted(_, _))
 }
 
-fn is_rest(item: &Item) -> bool
-    ensures { (xs : Items) → takes_rest (with_item item.now xs) ≡ (result || takes_rest xs) }
+fn is_rest(item: &NodeItem) -> bool
+    ensures { (xs : Items) → takes_rest (with_source item.now xs) ≡ (result || takes_rest xs) }
 {
-    matches!(item, Item::Splice(_))
+    matches!(item, NodeItem::Splice(_))
 }
 
 // Returns how many names have to get a value.
-fn required(items: &[Item]) -> usize
-    ensures count { result ≡ required (items_of items.now) }
+fn required(items: &[NodeItem]) -> usize
+    ensures count { result ≡ required (source_items items.now) }
     ensures bound { result ≤ length items.now }
 {
     let mut count = 0;
@@ -77,8 +77,8 @@ fn required(items: &[Item]) -> usize
 }
 
 // Returns how many names may be left out.
-fn optionals(items: &[Item]) -> usize
-    ensures count { result ≡ optionals (items_of items.now) }
+fn optionals(items: &[NodeItem]) -> usize
+    ensures count { result ≡ optionals (source_items items.now) }
     ensures bound { result ≤ length items.now }
 {
     let mut count = 0;
@@ -89,8 +89,8 @@ fn optionals(items: &[Item]) -> usize
 }
 
 // Returns whether a name takes all that the others leave.
-fn takes_rest(items: &[Item]) -> bool
-    ensures { result ≡ takes_rest (items_of items.now) }
+fn takes_rest(items: &[NodeItem]) -> bool
+    ensures { result ≡ takes_rest (source_items items.now) }
 {
     for item in items {
         if is_rest(item) {
@@ -114,10 +114,10 @@ struct Dealing<'a> {
 pub fn set_shares(
     alloc: Global,
     active: &mut Activation,
-    items: &[Item],
+    items: &[NodeItem],
     list: &MooList,
 ) -> Result<(), AllocError>
-    ensures variables { OnOk result (variables_of active.new.variables ≡ with_all (variables_of active.old.variables) (given (items_of items.now) list.now)) }
+    ensures variables { OnOk result (variables_of active.new.variables ≡ with_all (variables_of active.old.variables) (given (source_items items.now) list.now)) }
     ensures programmer { OnOk result (active.new.programmer ≡ active.old.programmer) }
 {
     let spare = list.len().saturating_sub(required(items));
@@ -149,20 +149,20 @@ impl<'a> Dealing<'a> {
     fn share<'b>(
         &mut self,
         alloc: Global,
-        item: &'b Item,
+        item: &'b NodeItem,
     ) -> Result<Option<(&'b Name, Value)>, AllocError>
-        ensures share { IfOk result (λ share. (xs : Items) → shares (with_item item.now xs) self.old.spare self.old.rest (drop self.old.next self.old.list.now) ≡ share_of share ++ shares xs self.new.spare self.new.rest (drop self.new.next self.new.list.now)) }
+        ensures share { IfOk result (λ share. (xs : Items) → shares (with_source item.now xs) self.old.spare self.old.rest (drop self.old.next self.old.list.now) ≡ share_of share ++ shares xs self.new.spare self.new.rest (drop self.new.next self.new.list.now)) }
     {
         match item {
-            Item::Element(target) => self.one(target),
-            Item::Splice(target) => self.others(alloc, target),
-            Item::Optional(name) | Item::Defaulted(name, _) => self.spared(name),
+            NodeItem::Element(target) => self.one(target),
+            NodeItem::Splice(target) => self.others(alloc, target),
+            NodeItem::Optional(name) | NodeItem::Defaulted(name, _) => self.spared(name),
         }
     }
 
     // Returns the next value, for a name that has to get one.
-    fn one<'b>(&mut self, target: &'b Expr) -> Result<Option<(&'b Name, Value)>, AllocError>
-        ensures share { IfOk result (λ share. (xs : Items) → shares (element (view.tree target.now) xs) self.old.spare self.old.rest (drop self.old.next self.old.list.now) ≡ share_of share ++ shares xs self.new.spare self.new.rest (drop self.new.next self.new.list.now)) }
+    fn one<'b>(&mut self, target: &'b Node) -> Result<Option<(&'b Name, Value)>, AllocError>
+        ensures share { IfOk result (λ share. (xs : Items) → shares (element (source target.now) xs) self.old.spare self.old.rest (drop self.old.next self.old.list.now) ≡ share_of share ++ shares xs self.new.spare self.new.rest (drop self.new.next self.new.list.now)) }
     {
         match self.next_value()? {
             Some(value) => Ok(named(target, value)),
@@ -188,9 +188,9 @@ impl<'a> Dealing<'a> {
     fn others<'b>(
         &mut self,
         alloc: Global,
-        target: &'b Expr,
+        target: &'b Node,
     ) -> Result<Option<(&'b Name, Value)>, AllocError>
-        ensures share { IfOk result (λ share. (xs : Items) → shares (splice (view.tree target.now) xs) self.old.spare self.old.rest (drop self.old.next self.old.list.now) ≡ share_of share ++ shares xs self.new.spare self.new.rest (drop self.new.next self.new.list.now)) }
+        ensures share { IfOk result (λ share. (xs : Items) → shares (splice (source target.now) xs) self.old.spare self.old.rest (drop self.old.next self.old.list.now) ≡ share_of share ++ shares xs self.new.spare self.new.rest (drop self.new.next self.new.list.now)) }
     {
         let from = self.next.min(self.list.len());
         let to = from.saturating_add(self.rest).min(self.list.len());
@@ -217,11 +217,11 @@ impl<'a> Dealing<'a> {
 }
 
 // Returns a value for a variable. A scatter of a program has no other targets.
-fn named(target: &Expr, value: Value) -> Option<(&Name, Value)>
-    ensures { share_of result ≡ binds (view.tree target.now) (tree value) }
+fn named(target: &Node, value: Value) -> Option<(&Name, Value)>
+    ensures { share_of result ≡ binds (source target.now) (tree value) }
 {
     match target {
-        Expr::Variable(name) => Some((name, value)),
+        Node::Variable(name) => Some((name, value)),
         _ => None,
     }
 }
@@ -229,10 +229,10 @@ fn named(target: &Expr, value: Value) -> Option<(&Name, Value)>
 /// Returns the names that the list leaves out, if they have a default.
 pub fn missing<'a>(
     alloc: Global,
-    items: &'a [Item],
+    items: &'a [NodeItem],
     list: &MooList,
 ) -> Result<Vec<LeftOut<'a>>, AllocError>
-    ensures { IfOk result (λ names. map left_out_of names.items ≡ missing (items_of items.now) list.now) }
+    ensures { IfOk result (λ names. map left_out_of names.items ≡ missing (source_items items.now) list.now) }
 {
     let mut spare = list.len().saturating_sub(required(items));
     let mut names = Vec::new(alloc);
@@ -243,13 +243,13 @@ pub fn missing<'a>(
 }
 
 // Returns the name of an item, if no value is left for it and it has a default.
-fn left_out<'a>(spare: &mut usize, item: &'a Item) -> Option<LeftOut<'a>>
-    ensures { (xs : Items) → lacking (with_item item.now xs) spare.old ≡ left_out_by result ++ lacking xs spare.new }
+fn left_out<'a>(spare: &mut usize, item: &'a NodeItem) -> Option<LeftOut<'a>>
+    ensures { (xs : Items) → lacking (with_source item.now xs) spare.old ≡ left_out_by result ++ lacking xs spare.new }
 {
     let default = match item {
-        Item::Element(_) | Item::Splice(_) => return None,
-        Item::Optional(_) => None,
-        Item::Defaulted(name, value) => Some(LeftOut { name, value }),
+        NodeItem::Element(_) | NodeItem::Splice(_) => return None,
+        NodeItem::Optional(_) => None,
+        NodeItem::Defaulted(name, value) => Some(LeftOut { name, value }),
     };
     if *spare > 0 {
         *spare -= 1;

@@ -1,11 +1,9 @@
 //! The slots of the variables of a program.
-ghost use Rattle.std.specs.Prelude.{◌≡◌, ◌≢◌, ℕ, [], ◌∷◌, ◌+◌, ◌<◌, ◌≤◌, ◌++◌, List, Some, None, map, set, position, length, get_or, option_map, vec_len, vec_capacity, IsTrue, IsFalse, IfOk, IfSome, IfNone};
+ghost use Rattle.std.specs.Prelude.{◌≡◌, ◌≢◌, ℕ, [], ◌+◌, ◌<◌, ◌≤◌, ◌++◌, Some, None, map, set, position, length, get_or, option_map, vec_len, vec_capacity, IsTrue, IfOk, IfSome, IfNone};
 ghost use Rattle.std.specs.Str.{bytes_eq};
-ghost use Rattle.moo_value.specs.Tree.{Tree, IsText, integer, list_of};
-ghost use Rattle.moo_value.specs.Size.{IsWithinLimits};
+ghost use Rattle.moo_value.specs.Tree.{IsText};
 ghost use Rattle.moo_value.specs.View.{tree};
 ghost use Rattle.moo_value.specs.Compare.{folded};
-ghost use Rattle.moo_value.specs.declared.value.Value.TheVariants.{Int, List as ListOf};
 ghost use Rattle.moo_syntax_ast.specs.Given.{given_of};
 ghost use Rattle.moo_syntax_ast.specs.Spelling.{AreNumbersOf};
 ghost use Rattle.moo_syntax_ast.specs.Slots.{slots};
@@ -14,8 +12,6 @@ ghost use Rattle.moo_eval_frame.specs.Held.{with_held, IsHeld};
 ghost use Rattle.moo_eval_frame.specs.Seen.{slot_value};
 ghost use Rattle.moo_eval_frame.specs.Slotted.{values_in, unset_slot, with_value, AreSlotsOf};
 
-use crate::growing::push_in;
-use crate::integers::{put_element_in, set_integer};
 use moo_syntax_ast::Name;
 use moo_syntax_grammar::Program;
 use moo_value::Value;
@@ -126,37 +122,6 @@ impl Slots {
         put_value(&mut self.slots, slot, value);
     }
 
-    /// Overwrites a slot that is set with an integer. A slot that holds an integer is changed in place.
-    #[inline(always)]
-    pub(crate) fn set_held_integer(&mut self, slot: usize, number: i32)
-        requires { IsHeld self.old slot }
-        ensures { self.new ≡ with_held self.old slot (Int number) }
-    {
-        put_integer(&mut self.slots, slot, number);
-    }
-
-    /// Replaces an integer at a place of the list in a set slot by another, if nothing else shares the list, and
-    /// returns whether it did. Allocates nothing.
-    #[inline(always)]
-    pub(crate) fn put_held_element(&mut self, slot: usize, index: usize, number: i32) -> bool
-        requires { IsHeld self.old slot }
-        ensures put { IsTrue result → (ts : List Tree) × (get_or self.old.values slot None ≡ Some (ListOf ts)) × (index < length ts) × IsWithinLimits (list_of (set ts index (integer number))) × (self.new ≡ with_held self.old slot (ListOf (set ts index (integer number)))) }
-        ensures kept { IsFalse result → self.new ≡ self.old }
-    {
-        put_element(&mut self.slots, slot, index, number)
-    }
-
-    /// Appends a value to the list in a set slot, and returns whether it did. Nothing else may share the list, the
-    /// longer list has to be within the limits, and memory has to be available; else the value is dropped.
-    #[inline(always)]
-    pub(crate) fn push_held(&mut self, slot: usize, value: Value) -> bool
-        requires { IsHeld self.old slot }
-        ensures put { IsTrue result → (ts : List Tree) × (get_or self.old.values slot None ≡ Some (ListOf ts)) × IsWithinLimits (list_of (ts ++ tree value ∷ [])) × (self.new ≡ with_held self.old slot (ListOf (ts ++ tree value ∷ []))) }
-        ensures kept { IsFalse result → self.new ≡ self.old }
-    {
-        push_value(&mut self.slots, slot, value)
-    }
-
     /// Sets a slot, and with it the numbers of its name.
     pub(crate) fn set(&mut self, slot: usize, value: Value)
         requires { slot < length self.old.values }
@@ -217,37 +182,6 @@ fn put_value(all: &mut Vec<Slot>, slot: usize, value: Value)
     ensures { all.new.items ≡ set all.old.items slot (with_value (get_or all.old.items slot unset_slot) value) }
 {
     all[slot].value = value;
-}
-
-// Overwrites the value in a slot with an integer.
-#[inline(always)]
-fn put_integer(all: &mut Vec<Slot>, slot: usize, number: i32)
-    requires { slot < length all.old.items }
-    ensures { all.new.items ≡ set all.old.items slot (with_value (get_or all.old.items slot unset_slot) (Int number)) }
-{
-    set_integer(&mut all[slot].value, number);
-}
-
-// Replaces an integer at a place of the list in a slot by another, and returns whether it did.
-#[inline(always)]
-fn put_element(all: &mut Vec<Slot>, slot: usize, index: usize, number: i32) -> bool
-    requires { slot < length all.old.items }
-    ensures put { IsTrue result → (ts : List Tree) × ((get_or all.old.items slot unset_slot).value ≡ ListOf ts) × (index < length ts) × IsWithinLimits (list_of (set ts index (integer number))) × (all.new.items ≡ set all.old.items slot (with_value (get_or all.old.items slot unset_slot) (ListOf (set ts index (integer number))))) }
-    ensures are { (names : List (List ℕ)) → AreSlotsOf all.old.items names → AreSlotsOf all.new.items names }
-    ensures kept { IsFalse result → all.new.items ≡ all.old.items }
-{
-    put_element_in(&mut all[slot].value, index, number)
-}
-
-// Appends a value to the list in a slot, and returns whether it did.
-#[inline(always)]
-fn push_value(all: &mut Vec<Slot>, slot: usize, value: Value) -> bool
-    requires { slot < length all.old.items }
-    ensures put { IsTrue result → (ts : List Tree) × ((get_or all.old.items slot unset_slot).value ≡ ListOf ts) × IsWithinLimits (list_of (ts ++ tree value ∷ [])) × (all.new.items ≡ set all.old.items slot (with_value (get_or all.old.items slot unset_slot) (ListOf (ts ++ tree value ∷ [])))) }
-    ensures are { (names : List (List ℕ)) → AreSlotsOf all.old.items names → AreSlotsOf all.new.items names }
-    ensures kept { IsFalse result → all.new.items ≡ all.old.items }
-{
-    push_in(&mut all[slot].value, value)
 }
 
 // Returns the slots of these names, none set. If every frame has all of the names, there are no slots.

@@ -6,10 +6,12 @@ ghost use Rattle.moo_syntax_ast.specs.Tree.{no_statement};
 ghost use Rattle.moo_syntax_ast.specs.View.{block};
 ghost use Rattle.moo_syntax_ast.specs.Limits.{IsWithinLimits};
 ghost use Rattle.moo_syntax_ast.specs.Slots.{slots};
+ghost use Rattle.moo_syntax_lower.specs.Blocks.{source_block};
 ghost use Rattle.moo_syntax_grammar.specs.Texts.{HasText};
 
 use crate::order::{Slot, ordered_slots, slot_among};
 use moo_syntax_ast::{Name, Stmt, variable_names};
+use moo_syntax_lower::{NodeStmt, lower_block};
 use moo_value::MooStr;
 use std::alloc::{AllocError, Global};
 use std::marker::Model;
@@ -25,6 +27,8 @@ pub struct Program {
 #[derive(Drop)]
 struct Parts {
     statements: Vec<Stmt>,
+    /// The lowered statements.
+    body: Vec<NodeStmt>,
     names: Vec<Name>,
     /// The spellings of the names.
     texts: Vec<MooStr>,
@@ -40,6 +44,7 @@ impl Model for Program {
     ghost use Rattle.std.specs.Prelude.{◌≡◌};
     ghost use Rattle.moo_syntax_ast.specs.Limits.{IsWithinLimits};
     ghost use Rattle.moo_syntax_ast.specs.Slots.{slots};
+    ghost use Rattle.moo_syntax_lower.specs.Blocks.{source_block};
     ghost use Rattle.moo_syntax_grammar.specs.Texts.{HasText};
     ghost use Rattle.moo_syntax_grammar.specs.Order.{AreOrdered};
 
@@ -49,7 +54,7 @@ impl Model for Program {
 
     ghost view = { λ p. block p.parts.value.statements.items };
 
-    ghost invariant = { λ p. IsWithinLimits (block p.parts.value.statements.items) × HasText (block p.parts.value.statements.items) × (p.parts.value.names.items ≡ slots (block p.parts.value.statements.items)) × AreOrdered p.parts.value.names.items p.parts.value.order.items × (p.parts.value.texts.items ≡ slots (block p.parts.value.statements.items)) };
+    ghost invariant = { λ p. IsWithinLimits (block p.parts.value.statements.items) × HasText (block p.parts.value.statements.items) × (p.parts.value.names.items ≡ slots (block p.parts.value.statements.items)) × AreOrdered p.parts.value.names.items p.parts.value.order.items × (p.parts.value.texts.items ≡ slots (block p.parts.value.statements.items)) × (source_block p.parts.value.body.items ≡ block p.parts.value.statements.items) };
 }
 
 impl Program {
@@ -60,6 +65,7 @@ impl Program {
         requires text { HasText (block statements.items) }
         ensures { IfOk result (λ p. p ≡ block statements.items) }
     {
+        let body = lower_block(alloc, &statements)?;
         let names = variable_names(alloc, &statements)?;
         let texts = texts_of(alloc, &names)?;
         let order = ordered_slots(alloc, &names)?;
@@ -67,6 +73,7 @@ impl Program {
             alloc,
             Parts {
                 statements,
+                body,
                 names,
                 texts,
                 order,
@@ -98,6 +105,14 @@ impl Program {
         ensures text { HasText self.now }
     {
         self.parts.statements.as_slice()
+    }
+
+    /// Returns the lowered statements, in order.
+    #[inline(always)]
+    pub fn code(&self) -> &[NodeStmt]
+        ensures { source_block result.now ≡ self.now }
+    {
+        self.parts.body.as_slice()
     }
 
     /// Returns the names of the program's variables in lower case, each once, in the order of their first occurrences.

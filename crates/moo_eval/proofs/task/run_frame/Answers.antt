@@ -10,4 +10,4 @@ pub returns-clause-ends : goal.returns-clause-ends
 returns-clause-ends c =
     let f : SFits w32 c.args.start.programmer = search rules in
     task_ends _ _ _ _ _ _ (state_of c.run_all-outcome.new.self c.run_all-outcome.new.world c.run_all-outcome.new.active) (seen_flow c.run_all-outcome.result) (IsKnown c.run_all-outcome.result) c.end_of_task.ensures.end c.end_of_task.ensures.known
-    (λ k. first_runs _ c.args.start _ _ _ _ _ _ _ _ _ c.none.ensures c.new-task.ensures.ticks c.requires (to_z-of_z w32 c.args.start.programmer f) c.new-task.ensures.notices c.statements.ensures.statements (c.run_all-outcome.ensures.meaning k)) c.in-Ok.ensures.left
+    (λ k. first_runs _ c.args.start _ _ _ _ _ _ _ _ _ c.none.ensures c.new-task.ensures.ticks c.requires (to_z-of_z w32 c.args.start.programmer f) c.new-task.ensures.notices c.code-statements.ensures (c.run_all-outcome.ensures.meaning k)) c.in-Ok.ensures.left

@@ -1,93 +1,250 @@
-use Rattle.std.proofs.Common.{⊎_elim, ◌∷◌, [], Ok, Err, refl, sym, ap, subst, ◌∙◌, arith, rules, Some, None, ◌+◌, drop, map, pos, ◌+ℤ◌}
-use Rattle.std.proofs.lemmas.Result.{err_from_is_err_and, on_ok_weaker}
+use Rattle.std.proofs.Common.{not, ⊎_elim, ◌∷◌, [], Ok, Err, refl, sym, ap, subst, ◌∙◌, arith, rules, Some, None, ◌+◌, drop, map, pos, ◌+ℤ◌}
+use Rattle.std.proofs.lemmas.Result.{IfOk-weaker, err_from_is_err_and, on_ok_weaker}
 use Rattle.std.proofs.lemmas.List.{append-nil}
 use Rattle.std.proofs.lemmas.Int.{to_z-of_z}
 use Rattle.std.proofs.Math.ListN.{drop_of_length-le}
 use Rattle.moo_eval_frame.specs.Outcome.{fails, stops, answers, passes, next}
-use Rattle.moo_value.specs.Tree.{integer}
+use Rattle.moo_value.specs.Tree.{integer, object}
+use Rattle.moo_syntax_ast.specs.declared.tree.Literal.TheVariants as literal
 use Rattle.moo_value.specs.View.{tree, trees}
-use Rattle.moo_syntax_ast.specs.View.{tree as expression, items_of, codes_of, block, handlers_of}
+use Rattle.moo_syntax_lower.specs.Source.{source, source_items, source_codes}
+use Rattle.moo_syntax_lower.specs.Blocks.{source_block, source_handler_list}
 use Rattle.moo_eval.specs.declared.interpreter.Task.{Task}
 use Rattle.moo_eval_frame.specs.Seen.{context_of, stop_of, failure_of, seen_value, flow_of}
 use Rattle.moo_builtin.specs.Telling.{Faults}
-use Rattle.moo_syntax_function.specs.Names.{function_of}
 use Rattle.moo_eval_call.specs.VerbCalls.{verb_caller}
 use Rattle.moo_eval.specs.Seen.{state_of}
 use Rattle.moo_eval_semantics.specs.Meaning.{Computes, EvaluatesAll, spent, begins, operands_end, places_end, applies, no_more, element_stops, element_then, splice_stops, splice_fails, splice_then, literal_is, variable_is, length_is, unary_is, binary_is, logic_decides, logic_goes_on, conditional_true, conditional_false, index_is, range_is, list_is, property_is, verb_fails, verb_runs, call_is, call_runs, is_done, hook_stops, hook_then, assign_is, catch_gives, catch_or_goes_on, target_ends, value_stops, assigns, root_ends, locates, parts_end, finds, inside, step_ends, enters, unread, spot_ends, steps_in, no_store, stores, none_missing, default_stops, default_then, Counts, statement_spent, statement_begins, selects, list_stops, list_fails, visits, span_stops, span_fails, counts, loops, breaks_out, continues_on, unprepared, tries, finally_skipped, finally_runs, ends, leaves, proceeds, none_selected, else_runs, test_stops, arm_runs, arm_passed, turn_spent, turns, loop_stops, loop_ends, loop_left, loop_then, all_visited, visit_left, visit_then, all_counted, count_left, count_then, nothing_raised, ticks_out, handles, Prepares, no_codes, codes_stop, codes_then, gives_zero, gives, evaluates}
 use Rattle.moo_value.specs.declared.error_code.ErrorCode.TheVariants.{TypeMismatch}
 use Rattle.moo_eval_access.specs.SeenTarget.{path_of}
 use Rattle.moo_eval_access.specs.SeenCalled.{entered_of}
-use Rattle.moo_eval_fast_stmt.proofs.Refused.{none_left}
-use Rattle.moo_eval.proofs.Hooking.{comes_on, takes_one}
+use Rattle.moo_eval.proofs.Hooking.{comes_on}
 use Rattle.moo_eval.proofs.Caught.{guards_end, passes_on, known_caught}
 use Rattle.moo_syntax_ast.specs.Tree as program
-use Rattle.moo_syntax_ast.specs.Tree.{variable, splice, element, no_items}
+use Rattle.moo_syntax_ast.specs.declared.operator.BinaryOperator.TheVariants.{Add}
+use Rattle.moo_syntax_ast.specs.Tree.{variable, binary, splice, element, no_items}
 use Rattle.moo_eval.proofs.Lengthened.{lengthened, too_long, first_stops, first_fails, unspliced, second_stops, set_longer, set_error, not_set}
-use Rattle.moo_eval.specs.Growth.{SettlesAs}
-use Rattle.moo_eval.proofs.Appended.{appended, past_limits, no_list, variable_stops, last_stops}
-use Rattle.moo_eval_fast_stmt.specs.Element.{sets_place}
+use Rattle.moo_eval.specs.Element.{sets_place}
 use Rattle.moo_eval.proofs.Placed.{put, not_put, unheld, place_ends, value_ends, put_alone, passed_over, stopped}
-use Rattle.std.proofs.lemmas.Bool.{eqb-true}
-use Rattle.moo_eval.proofs.Foreseen.{nothing_left}
-use Rattle.moo_eval.proofs.Direct.{assigned, unassigned, performed, unperformed}
-use Rattle.moo_eval.proofs.Exits.{refused, gathered, unlisted, same_state, optional_ends, goes_on-not, state_at, guarded_on, property_put, runs_at}
+use Rattle.moo_eval.proofs.Direct.{assigned, unassigned, performed, unperformed, literal_read}
+use Rattle.moo_eval.proofs.Extended.{extended, unextended}
+use Rattle.moo_eval.proofs.Properties as property
+use Rattle.moo_builtin_operator.specs.Truth.{is_true, truth_value}
+use Rattle.moo_eval.proofs.Passing.{undecided, decided, operand_stops, negated, not_stops, truth_of, if_err}
+use Rattle.moo_eval.proofs.Exits.{none_left, refused, gathered, unlisted, same_state, optional_ends, goes_on-not, state_at, guarded_on, property_put, runs_at}
 use Rattle.moo_eval_frame.proofs.Rest.{drop_next}
-use Rattle.moo_syntax_ast.proofs.Rows.{row_items, row_block, row_arms, row_handlers}
+use Rattle.moo_syntax_lower.proofs.Rows.{row_items}
+use Rattle.moo_syntax_lower.proofs.StatementRows.{row_block, row_arms, row_handlers}
 use Rattle.std.specs.Prelude.{◌≤ℤ◌, true, false, option_copied}
 use mir.Syntax.{w32, w64}
 use mir.Val.{SFits, to_z, of_z}
 use Rattle.moo_eval_frame.specs.Leading.{after_turn, numbered}
 use Rattle.moo_eval_frame.specs.SeenHandling.{guarded_of}
-use Rattle.moo_eval.proofs.Counting.{after, between, narrow, next_number, not_before, not_below, reached}
-use Rattle.moo_eval.specs.Turning.{turn_left, turn_done}
-use Rattle.moo_eval.proofs.interpreter.Task.+evaluation.Goals.{visit_all-in-Some+in_ok-flow, visit_all-in_default+in-Some-get+in_ok-value+in_ok-flow-2, count-in-Some+in_ok-flow, count-in_default+then-number-from+in_ok-flow-2}
+use Rattle.moo_eval.proofs.Counting.{after, between, narrow, next_number, not_below, reached}
 use Rattle.moo_eval_frame.specs.Handling.{guarded}
 use Rattle.moo_eval_semantics.specs.Operands.{before}
 use Rattle.moo_eval.proofs.interpreter.Task.+evaluation.Goals as goal
 use Rattle.moo_eval.proofs.interpreter.Task.+evaluation.Goals.{evaluate_all-in-Element+in_ok-value-in-Element+in_ok-push-in-Element, evaluate_all-in-Splice+in_ok-value-in-Splice+in_ok-splice-in-Splice}
 
-pub evaluate_node-returns-in-Ok-clause-meaning : goal.evaluate_node-returns-in-Ok-clause-meaning
-evaluate_node-returns-in-Ok-clause-meaning t c =
-    λ k. begins c.in_ok-take_tick.ensures.taken (rw (c.in_ok-take_tick.ensures.left, c.in-Ok.is) at (c.compute.ensures.meaning (rw c.in-Ok.is tt))) refl
+pub logic_passes-returns-clause-ok : goal.logic_passes-returns-clause-ok
+logic_passes-returns-clause-ok t c =
+    let first = c.in_ok-first.ensures.ok in
+    let d = rw c.in_ok-take_tick.ensures.left at first.1 in
+    IfOk-weaker c.passes-2.result _ _ (λ b h. (h.0, undecided c.in_ok-take_tick.ensures.taken d (c.decides.ensures first.0 first.2 ∙ c.if-decides.false) h.1, h.2)) c.passes-2.ensures.ok
 
-pub evaluate_node-returns-in-Err-clause-meaning : goal.evaluate_node-returns-in-Err-clause-meaning
-evaluate_node-returns-in-Err-clause-meaning t c =
-    λ k. begins c.in_ok-take_tick.ensures.taken (rw (c.in_ok-take_tick.ensures.left, c.in-Err.is) at (c.compute.ensures.meaning (rw c.in-Err.is (c.settled.ensures.known k)))) (c.settled.ensures.outcome k)
+pub logic_passes-returns-clause-err : goal.logic_passes-returns-clause-err
+logic_passes-returns-clause-err t c =
+    let first = c.in_ok-first.ensures.ok in
+    let d = rw c.in_ok-take_tick.ensures.left at first.1 in
+    if_err c.passes-2.result (λ e h k. undecided c.in_ok-take_tick.ensures.taken d (c.decides.ensures first.0 first.2 ∙ c.if-decides.false) (h k)) c.passes-2.ensures.err
 
-pub evaluate_node-returns-in_err-take_tick-clause-meaning : goal.evaluate_node-returns-in_err-take_tick-clause-meaning
-evaluate_node-returns-in_err-take_tick-clause-meaning t c =
+pub logic_passes-returns-then-decides-clause-ok : goal.logic_passes-returns-then-decides-clause-ok
+logic_passes-returns-then-decides-clause-ok t c =
+    let first = c.in_ok-first.ensures.ok in
+    let d = rw c.in_ok-take_tick.ensures.left at first.1 in
+    (first.0, decided c.in_ok-take_tick.ensures.taken d (c.decides.ensures first.0 first.2 ∙ c.if-decides.true), first.2)
+
+pub logic_passes-returns-in_err-first-clause-err : goal.logic_passes-returns-in_err-first-clause-err
+logic_passes-returns-in_err-first-clause-err t c =
+    let p = err_from_is_err_and c.from_residual-in_err-first.result c.from_residual-in_err-first.ensures.1 in rw (p.1, p.2) (λ k. operand_stops c.in_ok-take_tick.ensures.taken (rw c.in_ok-take_tick.ensures.left at (c.in_err-first.ensures.err k)))
+
+pub logic_passes-returns-in_err-take_tick-clause-err : goal.logic_passes-returns-in_err-take_tick-clause-err
+logic_passes-returns-in_err-take_tick-clause-err t c =
     let p = err_from_is_err_and c.from_residual.result c.from_residual.ensures.1 in rw (p.1, p.2) (λ k. let h = c.in_err-take_tick.ensures.spent k in rw (c.in_err-take_tick.ensures.kept, h.1) (spent h.0))
 
-pub evaluate-returns-in-Variable-clause-meaning : goal.evaluate-returns-in-Variable-clause-meaning
-evaluate-returns-in-Variable-clause-meaning t c =
-    let kept = c.in_default.ensures.none in
-    λ k. rw (c.in-Variable.is, ← kept) (c.variable.ensures.meaning c.args.indexed c.args.world.now k)
+pub not_passes-returns-clause-ok : goal.not_passes-returns-clause-ok
+not_passes-returns-clause-ok t c =
+    let operand = c.in_ok-passes.ensures.ok in
+    let d = rw c.in_ok-take_tick.ensures.left at operand.1 in
+    (truth_value (not (is_true operand.0)), negated c.in_ok-take_tick.ensures.taken d, truth_of (not (is_true operand.0)) ∙ ap not operand.2)
 
-pub evaluate-returns-in-Literal-clause-meaning : goal.evaluate-returns-in-Literal-clause-meaning
-evaluate-returns-in-Literal-clause-meaning t c =
-    let kept = c.in_default.ensures.none in
-    λ k. rw (c.in-Literal.is, ← kept) (c.literal.ensures.meaning c.args.indexed c.args.world.now k)
+pub not_passes-returns-in_err-passes-clause-err : goal.not_passes-returns-in_err-passes-clause-err
+not_passes-returns-in_err-passes-clause-err t c =
+    let p = err_from_is_err_and c.from_residual-in_err-passes.result c.from_residual-in_err-passes.ensures.1 in rw (p.1, p.2) (λ k. not_stops c.in_ok-take_tick.ensures.taken (rw c.in_ok-take_tick.ensures.left at (c.in_err-passes.ensures.err k)))
 
-pub passes-returns-in-Some-clause-ok : goal.passes-returns-in-Some-clause-ok
-passes-returns-in-Some-clause-ok t c =
-    let number : SFits w32 c.in-Some.number = search rules in
-    (integer c.in-Some.number, c.in-Some.ensures.some (context_of c.args.stack.now c.args.indexed), sym (rw (to_z-of_z w32 c.in-Some.number number) at c.is_other_than_0.ensures))
+pub not_passes-returns-in_err-take_tick-clause-err : goal.not_passes-returns-in_err-take_tick-clause-err
+not_passes-returns-in_err-take_tick-clause-err t c =
+    let p = err_from_is_err_and c.from_residual.result c.from_residual.ensures.1 in rw (p.1, p.2) (λ k. let h = c.in_err-take_tick.ensures.spent k in rw (c.in_err-take_tick.ensures.kept, h.1) (spent h.0))
 
-pub compute-returns-in-Variable-clause-meaning : goal.compute-returns-in-Variable-clause-meaning
-compute-returns-in-Variable-clause-meaning t c =
-    λ k. rw c.in-Variable.is (applies no_more no_more (variable_is (c.read_variable.ensures.value k)))
+pub evaluate_node-returns-in-List-clause-meaning : goal.evaluate_node-returns-in-List-clause-meaning
+evaluate_node-returns-in-List-clause-meaning t c =
+    λ k. rw (c.in-List.is, row_items, ← c.deref-in-List.ensures.value) (c.evaluate_list.ensures.meaning k)
 
-pub compute-returns-in-Length-clause-meaning : goal.compute-returns-in-Length-clause-meaning
-compute-returns-in-Length-clause-meaning t c =
-    λ k. rw c.in-Length.is (applies no_more no_more (length_is c.measure.ensures))
+pub evaluate_unary-returns-in-Ok-clause-meaning : goal.evaluate_unary-returns-in-Ok-clause-meaning
+evaluate_unary-returns-in-Ok-clause-meaning t c =
+    λ k. begins c.in_ok-take_tick.ensures.taken (rw (c.in_ok-take_tick.ensures.left, c.in-Ok.is) at (c.unary.ensures.meaning (rw c.in-Ok.is tt))) refl
 
-pub compute-returns-in-List-clause-meaning : goal.compute-returns-in-List-clause-meaning
-compute-returns-in-List-clause-meaning t c =
-    λ k. rw (c.in-List.is, row_items, ← c.deref-in-List.ensures.value) (c.list.ensures.meaning k)
+pub evaluate_unary-returns-in-Err-clause-meaning : goal.evaluate_unary-returns-in-Err-clause-meaning
+evaluate_unary-returns-in-Err-clause-meaning t c =
+    λ k. begins c.in_ok-take_tick.ensures.taken (rw (c.in_ok-take_tick.ensures.left, c.in-Err.is) at (c.unary.ensures.meaning (rw c.in-Err.is (c.settled.ensures.known k)))) (c.settled.ensures.outcome k)
 
-pub compute-returns-in_ok-literal_value-in-Literal-clause-meaning : goal.compute-returns-in_ok-literal_value-in-Literal-clause-meaning
-compute-returns-in_ok-literal_value-in-Literal-clause-meaning t c =
-    λ k. rw (c.in-Literal.is, c.in_ok-literal_value-in-Literal.ensures.value) (applies no_more no_more literal_is)
+pub evaluate_unary-returns-in_err-take_tick-clause-meaning : goal.evaluate_unary-returns-in_err-take_tick-clause-meaning
+evaluate_unary-returns-in_err-take_tick-clause-meaning t c =
+    let p = err_from_is_err_and c.from_residual.result c.from_residual.ensures.1 in rw (p.1, p.2) (λ k. let h = c.in_err-take_tick.ensures.spent k in rw (c.in_err-take_tick.ensures.kept, h.1) (spent h.0))
+
+pub evaluate_binary-returns-in-Ok-clause-meaning : goal.evaluate_binary-returns-in-Ok-clause-meaning
+evaluate_binary-returns-in-Ok-clause-meaning t c =
+    λ k. begins c.in_ok-take_tick.ensures.taken (rw (c.in_ok-take_tick.ensures.left, c.in-Ok.is) at (c.binary.ensures.meaning (rw c.in-Ok.is tt))) refl
+
+pub evaluate_binary-returns-in-Err-clause-meaning : goal.evaluate_binary-returns-in-Err-clause-meaning
+evaluate_binary-returns-in-Err-clause-meaning t c =
+    λ k. begins c.in_ok-take_tick.ensures.taken (rw (c.in_ok-take_tick.ensures.left, c.in-Err.is) at (c.binary.ensures.meaning (rw c.in-Err.is (c.settled.ensures.known k)))) (c.settled.ensures.outcome k)
+
+pub evaluate_binary-returns-in_err-take_tick-clause-meaning : goal.evaluate_binary-returns-in_err-take_tick-clause-meaning
+evaluate_binary-returns-in_err-take_tick-clause-meaning t c =
+    let p = err_from_is_err_and c.from_residual.result c.from_residual.ensures.1 in rw (p.1, p.2) (λ k. let h = c.in_err-take_tick.ensures.spent k in rw (c.in_err-take_tick.ensures.kept, h.1) (spent h.0))
+
+pub evaluate_arithmetic-returns-in-Ok-clause-meaning : goal.evaluate_arithmetic-returns-in-Ok-clause-meaning
+evaluate_arithmetic-returns-in-Ok-clause-meaning t c =
+    λ k. begins c.in_ok-take_tick.ensures.taken (rw (c.in_ok-take_tick.ensures.left, c.in-Ok.is) at (c.arithmetic.ensures.meaning (rw c.in-Ok.is tt))) refl
+
+pub evaluate_arithmetic-returns-in-Err-clause-meaning : goal.evaluate_arithmetic-returns-in-Err-clause-meaning
+evaluate_arithmetic-returns-in-Err-clause-meaning t c =
+    λ k. begins c.in_ok-take_tick.ensures.taken (rw (c.in_ok-take_tick.ensures.left, c.in-Err.is) at (c.arithmetic.ensures.meaning (rw c.in-Err.is (c.settled.ensures.known k)))) (c.settled.ensures.outcome k)
+
+pub evaluate_arithmetic-returns-in_err-take_tick-clause-meaning : goal.evaluate_arithmetic-returns-in_err-take_tick-clause-meaning
+evaluate_arithmetic-returns-in_err-take_tick-clause-meaning t c =
+    let p = err_from_is_err_and c.from_residual.result c.from_residual.ensures.1 in rw (p.1, p.2) (λ k. let h = c.in_err-take_tick.ensures.spent k in rw (c.in_err-take_tick.ensures.kept, h.1) (spent h.0))
+
+pub evaluate_logic-returns-in-Ok-clause-meaning : goal.evaluate_logic-returns-in-Ok-clause-meaning
+evaluate_logic-returns-in-Ok-clause-meaning t c =
+    λ k. begins c.in_ok-take_tick.ensures.taken (rw (c.in_ok-take_tick.ensures.left, c.in-Ok.is) at (c.logic.ensures.meaning (rw c.in-Ok.is tt))) refl
+
+pub evaluate_logic-returns-in-Err-clause-meaning : goal.evaluate_logic-returns-in-Err-clause-meaning
+evaluate_logic-returns-in-Err-clause-meaning t c =
+    λ k. begins c.in_ok-take_tick.ensures.taken (rw (c.in_ok-take_tick.ensures.left, c.in-Err.is) at (c.logic.ensures.meaning (rw c.in-Err.is (c.settled.ensures.known k)))) (c.settled.ensures.outcome k)
+
+pub evaluate_logic-returns-in_err-take_tick-clause-meaning : goal.evaluate_logic-returns-in_err-take_tick-clause-meaning
+evaluate_logic-returns-in_err-take_tick-clause-meaning t c =
+    let p = err_from_is_err_and c.from_residual.result c.from_residual.ensures.1 in rw (p.1, p.2) (λ k. let h = c.in_err-take_tick.ensures.spent k in rw (c.in_err-take_tick.ensures.kept, h.1) (spent h.0))
+
+pub evaluate_conditional-returns-in-Ok-clause-meaning : goal.evaluate_conditional-returns-in-Ok-clause-meaning
+evaluate_conditional-returns-in-Ok-clause-meaning t c =
+    λ k. begins c.in_ok-take_tick.ensures.taken (rw (c.in_ok-take_tick.ensures.left, c.in-Ok.is) at (c.conditional.ensures.meaning (rw c.in-Ok.is tt))) refl
+
+pub evaluate_conditional-returns-in-Err-clause-meaning : goal.evaluate_conditional-returns-in-Err-clause-meaning
+evaluate_conditional-returns-in-Err-clause-meaning t c =
+    λ k. begins c.in_ok-take_tick.ensures.taken (rw (c.in_ok-take_tick.ensures.left, c.in-Err.is) at (c.conditional.ensures.meaning (rw c.in-Err.is (c.settled.ensures.known k)))) (c.settled.ensures.outcome k)
+
+pub evaluate_conditional-returns-in_err-take_tick-clause-meaning : goal.evaluate_conditional-returns-in_err-take_tick-clause-meaning
+evaluate_conditional-returns-in_err-take_tick-clause-meaning t c =
+    let p = err_from_is_err_and c.from_residual.result c.from_residual.ensures.1 in rw (p.1, p.2) (λ k. let h = c.in_err-take_tick.ensures.spent k in rw (c.in_err-take_tick.ensures.kept, h.1) (spent h.0))
+
+pub evaluate_element-returns-in-Ok-clause-meaning : goal.evaluate_element-returns-in-Ok-clause-meaning
+evaluate_element-returns-in-Ok-clause-meaning t c =
+    λ k. begins c.in_ok-take_tick.ensures.taken (rw (c.in_ok-take_tick.ensures.left, c.in-Ok.is) at (c.index.ensures.meaning (rw c.in-Ok.is tt))) refl
+
+pub evaluate_element-returns-in-Err-clause-meaning : goal.evaluate_element-returns-in-Err-clause-meaning
+evaluate_element-returns-in-Err-clause-meaning t c =
+    λ k. begins c.in_ok-take_tick.ensures.taken (rw (c.in_ok-take_tick.ensures.left, c.in-Err.is) at (c.index.ensures.meaning (rw c.in-Err.is (c.settled.ensures.known k)))) (c.settled.ensures.outcome k)
+
+pub evaluate_element-returns-in_err-take_tick-clause-meaning : goal.evaluate_element-returns-in_err-take_tick-clause-meaning
+evaluate_element-returns-in_err-take_tick-clause-meaning t c =
+    let p = err_from_is_err_and c.from_residual.result c.from_residual.ensures.1 in rw (p.1, p.2) (λ k. let h = c.in_err-take_tick.ensures.spent k in rw (c.in_err-take_tick.ensures.kept, h.1) (spent h.0))
+
+pub evaluate_range-returns-in-Ok-clause-meaning : goal.evaluate_range-returns-in-Ok-clause-meaning
+evaluate_range-returns-in-Ok-clause-meaning t c =
+    λ k. begins c.in_ok-take_tick.ensures.taken (rw (c.in_ok-take_tick.ensures.left, c.in-Ok.is) at (c.range.ensures.meaning (rw c.in-Ok.is tt))) refl
+
+pub evaluate_range-returns-in-Err-clause-meaning : goal.evaluate_range-returns-in-Err-clause-meaning
+evaluate_range-returns-in-Err-clause-meaning t c =
+    λ k. begins c.in_ok-take_tick.ensures.taken (rw (c.in_ok-take_tick.ensures.left, c.in-Err.is) at (c.range.ensures.meaning (rw c.in-Err.is (c.settled.ensures.known k)))) (c.settled.ensures.outcome k)
+
+pub evaluate_range-returns-in_err-take_tick-clause-meaning : goal.evaluate_range-returns-in_err-take_tick-clause-meaning
+evaluate_range-returns-in_err-take_tick-clause-meaning t c =
+    let p = err_from_is_err_and c.from_residual.result c.from_residual.ensures.1 in rw (p.1, p.2) (λ k. let h = c.in_err-take_tick.ensures.spent k in rw (c.in_err-take_tick.ensures.kept, h.1) (spent h.0))
+
+pub evaluate_list-returns-in-Ok-clause-meaning : goal.evaluate_list-returns-in-Ok-clause-meaning
+evaluate_list-returns-in-Ok-clause-meaning t c =
+    λ k. begins c.in_ok-take_tick.ensures.taken (rw (c.in_ok-take_tick.ensures.left, c.in-Ok.is) at (c.list.ensures.meaning (rw c.in-Ok.is tt))) refl
+
+pub evaluate_list-returns-in-Err-clause-meaning : goal.evaluate_list-returns-in-Err-clause-meaning
+evaluate_list-returns-in-Err-clause-meaning t c =
+    λ k. begins c.in_ok-take_tick.ensures.taken (rw (c.in_ok-take_tick.ensures.left, c.in-Err.is) at (c.list.ensures.meaning (rw c.in-Err.is (c.settled.ensures.known k)))) (c.settled.ensures.outcome k)
+
+pub evaluate_list-returns-in_err-take_tick-clause-meaning : goal.evaluate_list-returns-in_err-take_tick-clause-meaning
+evaluate_list-returns-in_err-take_tick-clause-meaning t c =
+    let p = err_from_is_err_and c.from_residual.result c.from_residual.ensures.1 in rw (p.1, p.2) (λ k. let h = c.in_err-take_tick.ensures.spent k in rw (c.in_err-take_tick.ensures.kept, h.1) (spent h.0))
+
+pub evaluate_property-returns-in-Ok-clause-meaning : goal.evaluate_property-returns-in-Ok-clause-meaning
+evaluate_property-returns-in-Ok-clause-meaning t c =
+    λ k. begins c.in_ok-take_tick.ensures.taken (rw (c.in_ok-take_tick.ensures.left, c.in-Ok.is) at (c.property.ensures.meaning (rw c.in-Ok.is tt))) refl
+
+pub evaluate_property-returns-in-Err-clause-meaning : goal.evaluate_property-returns-in-Err-clause-meaning
+evaluate_property-returns-in-Err-clause-meaning t c =
+    λ k. begins c.in_ok-take_tick.ensures.taken (rw (c.in_ok-take_tick.ensures.left, c.in-Err.is) at (c.property.ensures.meaning (rw c.in-Err.is (c.settled.ensures.known k)))) (c.settled.ensures.outcome k)
+
+pub evaluate_property-returns-in_err-take_tick-clause-meaning : goal.evaluate_property-returns-in_err-take_tick-clause-meaning
+evaluate_property-returns-in_err-take_tick-clause-meaning t c =
+    let p = err_from_is_err_and c.from_residual.result c.from_residual.ensures.1 in rw (p.1, p.2) (λ k. let h = c.in_err-take_tick.ensures.spent k in rw (c.in_err-take_tick.ensures.kept, h.1) (spent h.0))
+
+pub evaluate_verb_call-returns-in-Ok-clause-meaning : goal.evaluate_verb_call-returns-in-Ok-clause-meaning
+evaluate_verb_call-returns-in-Ok-clause-meaning t c =
+    λ k. begins c.in_ok-take_tick.ensures.taken (rw (c.in_ok-take_tick.ensures.left, c.in-Ok.is) at (c.verb_call.ensures.meaning (rw c.in-Ok.is tt))) refl
+
+pub evaluate_verb_call-returns-in-Err-clause-meaning : goal.evaluate_verb_call-returns-in-Err-clause-meaning
+evaluate_verb_call-returns-in-Err-clause-meaning t c =
+    λ k. begins c.in_ok-take_tick.ensures.taken (rw (c.in_ok-take_tick.ensures.left, c.in-Err.is) at (c.verb_call.ensures.meaning (rw c.in-Err.is (c.settled.ensures.known k)))) (c.settled.ensures.outcome k)
+
+pub evaluate_verb_call-returns-in_err-take_tick-clause-meaning : goal.evaluate_verb_call-returns-in_err-take_tick-clause-meaning
+evaluate_verb_call-returns-in_err-take_tick-clause-meaning t c =
+    let p = err_from_is_err_and c.from_residual.result c.from_residual.ensures.1 in rw (p.1, p.2) (λ k. let h = c.in_err-take_tick.ensures.spent k in rw (c.in_err-take_tick.ensures.kept, h.1) (spent h.0))
+
+pub evaluate_call-returns-in-Ok-clause-meaning : goal.evaluate_call-returns-in-Ok-clause-meaning
+evaluate_call-returns-in-Ok-clause-meaning t c =
+    λ k. begins c.in_ok-take_tick.ensures.taken (rw (c.in_ok-take_tick.ensures.left, c.in-Ok.is) at (c.call.ensures.meaning (rw c.in-Ok.is tt))) refl
+
+pub evaluate_call-returns-in-Err-clause-meaning : goal.evaluate_call-returns-in-Err-clause-meaning
+evaluate_call-returns-in-Err-clause-meaning t c =
+    λ k. begins c.in_ok-take_tick.ensures.taken (rw (c.in_ok-take_tick.ensures.left, c.in-Err.is) at (c.call.ensures.meaning (rw c.in-Err.is (c.settled.ensures.known k)))) (c.settled.ensures.outcome k)
+
+pub evaluate_call-returns-in_err-take_tick-clause-meaning : goal.evaluate_call-returns-in_err-take_tick-clause-meaning
+evaluate_call-returns-in_err-take_tick-clause-meaning t c =
+    let p = err_from_is_err_and c.from_residual.result c.from_residual.ensures.1 in rw (p.1, p.2) (λ k. let h = c.in_err-take_tick.ensures.spent k in rw (c.in_err-take_tick.ensures.kept, h.1) (spent h.0))
+
+pub evaluate_assign-returns-in-Ok-clause-meaning : goal.evaluate_assign-returns-in-Ok-clause-meaning
+evaluate_assign-returns-in-Ok-clause-meaning t c =
+    λ k. begins c.in_ok-take_tick.ensures.taken (rw (c.in_ok-take_tick.ensures.left, c.in-Ok.is) at (c.assign.ensures.meaning (rw c.in-Ok.is tt))) refl
+
+pub evaluate_assign-returns-in-Err-clause-meaning : goal.evaluate_assign-returns-in-Err-clause-meaning
+evaluate_assign-returns-in-Err-clause-meaning t c =
+    λ k. begins c.in_ok-take_tick.ensures.taken (rw (c.in_ok-take_tick.ensures.left, c.in-Err.is) at (c.assign.ensures.meaning (rw c.in-Err.is (c.settled.ensures.known k)))) (c.settled.ensures.outcome k)
+
+pub evaluate_assign-returns-in_err-take_tick-clause-meaning : goal.evaluate_assign-returns-in_err-take_tick-clause-meaning
+evaluate_assign-returns-in_err-take_tick-clause-meaning t c =
+    let p = err_from_is_err_and c.from_residual.result c.from_residual.ensures.1 in rw (p.1, p.2) (λ k. let h = c.in_err-take_tick.ensures.spent k in rw (c.in_err-take_tick.ensures.kept, h.1) (spent h.0))
+
+pub evaluate_catch-returns-in-Ok-clause-meaning : goal.evaluate_catch-returns-in-Ok-clause-meaning
+evaluate_catch-returns-in-Ok-clause-meaning t c =
+    λ k. begins c.in_ok-take_tick.ensures.taken (rw (c.in_ok-take_tick.ensures.left, c.in-Ok.is) at (c.catch.ensures.meaning (rw c.in-Ok.is tt))) refl
+
+pub evaluate_catch-returns-in-Err-clause-meaning : goal.evaluate_catch-returns-in-Err-clause-meaning
+evaluate_catch-returns-in-Err-clause-meaning t c =
+    λ k. begins c.in_ok-take_tick.ensures.taken (rw (c.in_ok-take_tick.ensures.left, c.in-Err.is) at (c.catch.ensures.meaning (rw c.in-Err.is (c.settled.ensures.known k)))) (c.settled.ensures.outcome k)
+
+pub evaluate_catch-returns-in_err-take_tick-clause-meaning : goal.evaluate_catch-returns-in_err-take_tick-clause-meaning
+evaluate_catch-returns-in_err-take_tick-clause-meaning t c =
+    let p = err_from_is_err_and c.from_residual.result c.from_residual.ensures.1 in rw (p.1, p.2) (λ k. let h = c.in_err-take_tick.ensures.spent k in rw (c.in_err-take_tick.ensures.kept, h.1) (spent h.0))
 
 pub unary-returns-clause-meaning : goal.unary-returns-clause-meaning
 unary-returns-clause-meaning t c =
@@ -117,6 +274,22 @@ pub binary-returns-in_err-binary-clause-meaning : goal.binary-returns-in_err-bin
 binary-returns-in_err-binary-clause-meaning t c =
     let p = err_from_is_err_and c.from_residual-in_err-binary.result c.from_residual-in_err-binary.ensures.1 in rw (p.1, p.2) (λ k. applies (element_then (c.in_ok-left.ensures.meaning tt) (element_then (c.in_ok-right.ensures.meaning tt) no_more refl) refl) no_more (binary_is (refused _ _ c.in_err-binary.ensures k)))
 
+pub arithmetic-returns-clause-meaning : goal.arithmetic-returns-clause-meaning
+arithmetic-returns-clause-meaning t c =
+    λ k. applies (element_then (c.in_ok-left.ensures.meaning tt) (element_then (c.in_ok-right.ensures.meaning tt) no_more refl) refl) no_more (binary_is (ap answers c.in_ok-binary.ensures))
+
+pub arithmetic-returns-in_err-left-clause-meaning : goal.arithmetic-returns-in_err-left-clause-meaning
+arithmetic-returns-in_err-left-clause-meaning t c =
+    let p = err_from_is_err_and c.from_residual.result c.from_residual.ensures.1 in rw (p.1, p.2) (λ k. operands_end (element_stops (c.in_err-left.ensures.meaning k)))
+
+pub arithmetic-returns-in_err-right-clause-meaning : goal.arithmetic-returns-in_err-right-clause-meaning
+arithmetic-returns-in_err-right-clause-meaning t c =
+    let p = err_from_is_err_and c.from_residual-in_err-right.result c.from_residual-in_err-right.ensures.1 in rw (p.1, p.2) (λ k. operands_end (element_then (c.in_ok-left.ensures.meaning tt) (element_stops (c.in_err-right.ensures.meaning k)) refl))
+
+pub arithmetic-returns-in_err-binary-clause-meaning : goal.arithmetic-returns-in_err-binary-clause-meaning
+arithmetic-returns-in_err-binary-clause-meaning t c =
+    let p = err_from_is_err_and c.from_residual-in_err-binary.result c.from_residual-in_err-binary.ensures.1 in rw (p.1, p.2) (λ k. applies (element_then (c.in_ok-left.ensures.meaning tt) (element_then (c.in_ok-right.ensures.meaning tt) no_more refl) refl) no_more (binary_is (refused _ _ c.in_err-binary.ensures k)))
+
 pub logic-returns-clause-meaning : goal.logic-returns-clause-meaning
 logic-returns-clause-meaning t c =
     λ k. applies (element_then (c.in_ok-first.ensures.meaning tt) no_more refl) no_more (logic_goes_on (sym c.is_decided.ensures ∙ c.if-is_decided.false) (c.in_ok-evaluate.ensures.meaning tt) refl)
@@ -135,15 +308,15 @@ logic-returns-in_err-evaluate-clause-meaning t c =
 
 pub conditional-returns-clause-meaning : goal.conditional-returns-clause-meaning
 conditional-returns-clause-meaning t c =
-    λ k. applies (element_then c.in_ok-passes.ensures.ok.1 no_more refl) no_more (conditional_false (c.in_ok-passes.ensures.ok.2 ∙ c.if-passes.false) (c.in_ok-evaluate_part-2.ensures.meaning tt) refl)
+    λ k. applies (element_then c.in_ok-passes.ensures.ok.1 no_more refl) no_more (conditional_false (c.in_ok-passes.ensures.ok.2 ∙ c.if-passes.false) (c.in_ok-evaluate-2.ensures.meaning tt) refl)
 
 pub conditional-returns-in_err-passes-clause-meaning : goal.conditional-returns-in_err-passes-clause-meaning
 conditional-returns-in_err-passes-clause-meaning t c =
     let p = err_from_is_err_and c.from_residual.result c.from_residual.ensures.1 in rw (p.1, p.2) (λ k. operands_end (element_stops (c.in_err-passes.ensures.err k)))
 
-pub conditional-returns-in_err-evaluate_part-clause-meaning : goal.conditional-returns-in_err-evaluate_part-clause-meaning
-conditional-returns-in_err-evaluate_part-clause-meaning t c =
-    let p = err_from_is_err_and c.from_residual-in_err-evaluate_part.result c.from_residual-in_err-evaluate_part.ensures.1 in rw (p.1, p.2) (λ k. applies (element_then c.in_ok-passes.ensures.ok.1 no_more refl) no_more (conditional_true (c.in_ok-passes.ensures.ok.2 ∙ c.if-passes.true) (c.in_err-evaluate_part.ensures.meaning k) refl))
+pub conditional-returns-in_err-evaluate-clause-meaning : goal.conditional-returns-in_err-evaluate-clause-meaning
+conditional-returns-in_err-evaluate-clause-meaning t c =
+    let p = err_from_is_err_and c.from_residual-in_err-evaluate.result c.from_residual-in_err-evaluate.ensures.1 in rw (p.1, p.2) (λ k. applies (element_then c.in_ok-passes.ensures.ok.1 no_more refl) no_more (conditional_true (c.in_ok-passes.ensures.ok.2 ∙ c.if-passes.true) (c.in_err-evaluate.ensures.meaning k) refl))
 
 pub index-returns-clause-meaning : goal.index-returns-clause-meaning
 index-returns-clause-meaning t c =
@@ -194,7 +367,7 @@ evaluate_all-loop-item-preserved t c =
             let e = rw (w.self-is, w.world-is, w.active-is) at d in
             let more = tree w.in_ok-value-in-Element.value ∷ [] in
             let sums = w.values-is ∙ w.in_ok-push-in-Element.ensures in
-            subst (λ r. EvaluatesAll Faults (context_of c.args.stack.now c.args.indexed) (items_of c.args.items.now) (state_of c.args.self.now c.args.world.now c.args.active.now) r s)
+            subst (λ r. EvaluatesAll Faults (context_of c.args.stack.now c.args.indexed) (source_items c.args.items.now) (state_of c.args.self.now c.args.world.now c.args.active.now) r s)
             (gathered c.loop-item.values c.match-item.values more o sums)
             (c.loop-item.invariant.rest (before more o) s (rw (drop_next c.args.items.now c.loop-item.item-index c.item-item.result c.loop-item-test.true c.item-item.is, w.in-Element.is, ← w.deref.ensures) (element_then (w.in_ok-value-in-Element.ensures.meaning tt) e refl)));
       }
@@ -204,7 +377,7 @@ evaluate_all-loop-item-preserved t c =
             let e = rw (w.self-is, w.world-is, w.active-is) at d in
             let more = w.in_ok-splice-in-Splice.ensures.ok.0 in
             let sums = w.values-is ∙ w.in_ok-splice-in-Splice.ensures.ok.2 in
-            subst (λ r. EvaluatesAll Faults (context_of c.args.stack.now c.args.indexed) (items_of c.args.items.now) (state_of c.args.self.now c.args.world.now c.args.active.now) r s)
+            subst (λ r. EvaluatesAll Faults (context_of c.args.stack.now c.args.indexed) (source_items c.args.items.now) (state_of c.args.self.now c.args.world.now c.args.active.now) r s)
             (gathered c.loop-item.values c.match-item.values more o sums)
             (c.loop-item.invariant.rest (before more o) s (rw (drop_next c.args.items.now c.loop-item.item-index c.item-item.result c.loop-item-test.true c.item-item.is, w.in-Splice.is, ← w.deref-in-Splice.ensures) (splice_then (w.in_ok-value-in-Splice.ensures.meaning tt) w.in_ok-splice-in-Splice.ensures.ok.1 e refl)));
       }
@@ -226,13 +399,13 @@ pub evaluate_all-returns-in_err-splice-in-Splice-clause-meaning : goal.evaluate_
 evaluate_all-returns-in_err-splice-in-Splice-clause-meaning t c =
     let p = err_from_is_err_and c.from_residual-in_err-splice-in-Splice.result c.from_residual-in_err-splice-in-Splice.ensures.1 in rw (p.1, p.2) (λ k. c.loop-item.invariant.rest (Err (failure_of c.in_err-splice-in-Splice.field-0.0)) _ (rw (drop_next c.args.items.now c.loop-item.item-index c.item-item.result c.loop-item-test.true c.item-item.is, c.in-Splice.is, ← c.deref-in-Splice.ensures) (splice_fails (c.in_ok-value-in-Splice.ensures.meaning tt) (c.in_err-splice-in-Splice.ensures.err k))))
 
-pub conditional-returns-in_err-evaluate_part-2-clause-meaning : goal.conditional-returns-in_err-evaluate_part-2-clause-meaning
-conditional-returns-in_err-evaluate_part-2-clause-meaning t c =
-    let p = err_from_is_err_and c.from_residual-in_err-evaluate_part-2.result c.from_residual-in_err-evaluate_part-2.ensures.1 in rw (p.1, p.2) (λ k. applies (element_then c.in_ok-passes.ensures.ok.1 no_more refl) no_more (conditional_false (c.in_ok-passes.ensures.ok.2 ∙ c.if-passes.false) (c.in_err-evaluate_part-2.ensures.meaning k) refl))
+pub conditional-returns-in_err-evaluate-2-clause-meaning : goal.conditional-returns-in_err-evaluate-2-clause-meaning
+conditional-returns-in_err-evaluate-2-clause-meaning t c =
+    let p = err_from_is_err_and c.from_residual-in_err-evaluate-2.result c.from_residual-in_err-evaluate-2.ensures.1 in rw (p.1, p.2) (λ k. applies (element_then c.in_ok-passes.ensures.ok.1 no_more refl) no_more (conditional_false (c.in_ok-passes.ensures.ok.2 ∙ c.if-passes.false) (c.in_err-evaluate-2.ensures.meaning k) refl))
 
 pub conditional-returns-then-passes-clause-meaning : goal.conditional-returns-then-passes-clause-meaning
 conditional-returns-then-passes-clause-meaning t c =
-    λ k. applies (element_then c.in_ok-passes.ensures.ok.1 no_more refl) no_more (conditional_true (c.in_ok-passes.ensures.ok.2 ∙ c.if-passes.true) (c.in_ok-evaluate_part.ensures.meaning tt) refl)
+    λ k. applies (element_then c.in_ok-passes.ensures.ok.1 no_more refl) no_more (conditional_true (c.in_ok-passes.ensures.ok.2 ∙ c.if-passes.true) (c.in_ok-evaluate.ensures.meaning tt) refl)
 
 pub assign_path-returns-in_err-path-clause-meaning : goal.assign_path-returns-in_err-path-clause-meaning
 assign_path-returns-in_err-path-clause-meaning t c =
@@ -256,11 +429,11 @@ call-returns-in_err-values-clause-meaning t c =
 
 pub call-returns-in_default-clause-meaning : goal.call-returns-in_default-clause-meaning
 call-returns-in_default-clause-meaning t c =
-    λ k. applies (c.in_ok-values.ensures.meaning tt) no_more (call_is (ap verb_caller (ap function_of (sym c.as_bytes.ensures.value) ∙ sym c.from_name-function.ensures) ∙ sym c.verb_caller.ensures ∙ none_left _ c.in_default.not-Some) (c.call_function.ensures.call c.args.name.now (ap function_of (sym c.as_bytes.ensures.value) ∙ sym c.from_name-function.ensures) k))
+    λ k. applies (c.in_ok-values.ensures.meaning tt) no_more (call_is (ap verb_caller (sym c.function-function.ensures) ∙ sym c.verb_caller.ensures ∙ none_left _ c.in_default.not-Some) (c.call_function.ensures.call c.args.name.now (sym c.function-function.ensures) k))
 
 pub call-returns-clause-meaning : goal.call-returns-clause-meaning
 call-returns-clause-meaning t c =
-    λ k. applies (c.in_ok-values.ensures.meaning tt) no_more (c.call_caller.ensures.meaning c.args.indexed c.args.name.now (items_of c.args.items.now) (ap verb_caller (ap function_of (sym c.as_bytes.ensures.value) ∙ sym c.from_name-function.ensures) ∙ sym c.verb_caller.ensures ∙ c.in-Some.is) k)
+    λ k. applies (c.in_ok-values.ensures.meaning tt) no_more (c.call_caller.ensures.meaning c.args.indexed c.args.name.now (source_items c.args.items.now) (ap verb_caller (sym c.function-function.ensures) ∙ sym c.verb_caller.ensures ∙ c.in-Some.is) k)
 
 pub call_caller-returns-in_err-first-clause-meaning : goal.call_caller-returns-in_err-first-clause-meaning
 call_caller-returns-in_err-first-clause-meaning t c =
@@ -286,109 +459,49 @@ pub property-returns-clause-meaning : goal.property-returns-clause-meaning
 property-returns-clause-meaning t c =
     λ k. applies (element_then (c.in_ok-base.ensures.meaning tt) (element_then (c.in_ok-name.ensures.meaning tt) no_more refl) refl) no_more (let f : SFits w32 c.evaluate-2.new.active.programmer = search rules in property_is (rw (to_z-of_z w32 c.evaluate-2.new.active.programmer f) at (c.read_property.ensures.value k)))
 
-pub callee-returns-in_err-base-clause-stops : goal.callee-returns-in_err-base-clause-stops
-callee-returns-in_err-base-clause-stops t c =
-    let p = err_from_is_err_and c.from_residual.result c.from_residual.ensures.1 in rw (p.1, p.2) (λ k items. element_stops (rw c.in_default.ensures.none at (c.in_err-base.ensures.meaning k)))
-
-pub callee-returns-in_err-name-clause-stops : goal.callee-returns-in_err-name-clause-stops
-callee-returns-in_err-name-clause-stops t c =
-    let p = err_from_is_err_and c.from_residual-in_err-name.result c.from_residual-in_err-name.ensures.1 in rw (p.1, p.2) (λ k items. element_then (rw c.in_default.ensures.none at (c.in_ok-base.ensures.meaning tt)) (element_stops (c.in_err-name.ensures.meaning k)) refl)
-
-pub verb_call-returns-in_err-base-clause-meaning : goal.verb_call-returns-in_err-base-clause-meaning
-verb_call-returns-in_err-base-clause-meaning t c =
-    let p = err_from_is_err_and c.from_residual.result c.from_residual.ensures.1 in rw (p.1, p.2) (λ k. operands_end (c.in_err-base.ensures.stops k (items_of c.args.items.now)))
-
-pub verb_call-returns-in_err-values-clause-meaning : goal.verb_call-returns-in_err-values-clause-meaning
-verb_call-returns-in_err-values-clause-meaning t c =
-    let both = c.in_ok-base.ensures.both in
-    let p = err_from_is_err_and c.from_residual-in_err-values.result c.from_residual-in_err-values.ensures.1 in rw (p.1, p.2) (λ k. operands_end (element_then both.base (element_then both.name (c.in_err-values.ensures.meaning k) refl) refl))
-
-pub verb_call-returns-clause-meaning : goal.verb_call-returns-clause-meaning
-verb_call-returns-clause-meaning t c =
-    let both = c.in_ok-base.ensures.both in
-    λ k. applies (element_then both.base (element_then both.name (c.in_ok-values.ensures.meaning tt) refl) refl) no_more (c.call_verb.ensures.meaning c.args.indexed (expression c.args.base.now) (expression c.args.name.now) (items_of c.args.items.now) k)
-
-pub call_verb-returns-in-Obj-Str-clause-meaning : goal.call_verb-returns-in-Obj-Str-clause-meaning
-call_verb-returns-in-Obj-Str-clause-meaning t c =
-    let fits : SFits w32 c.in-Obj-Str.this = search rules in
-    λ indexed a b items k. rw (c.in-Obj-Str.is-0, c.in-Obj-Str.is-1) (rw (to_z-of_z w32 c.in-Obj-Str.this fits) at (c.call_named.ensures.meaning indexed a b items k))
-
-pub call_named-returns-clause-meaning : goal.call_named-returns-clause-meaning
-call_named-returns-clause-meaning t c =
-    let is = rw (to_z-of_z w32 c.args.this c.ranges.this) at c.sought_verb-sought.ensures in
-    λ indexed a b items k. let h = rw c.in_default.ensures.none at (c.run_called.ensures.meaning c.args.active.now k) in verb_runs (rw c.in_ok-args.ensures.ok at (c.in_ok-called.ensures _ _ is tt)) h.runs h.leaves h.gives
-
-pub call_named-returns-in-Some-clause-meaning : goal.call_named-returns-in-Some-clause-meaning
-call_named-returns-in-Some-clause-meaning t c =
-    let is = rw (to_z-of_z w32 c.args.this c.ranges.this) at c.sought_verb-sought.ensures in
-    λ indexed a b items k. rw (c.deref.ensures.value, c.in_ok-args.ensures.ok) at (c.in-Some.ensures.some indexed a b items _ _ is)
-
-pub call_named-returns-in_err-args-clause-meaning : goal.call_named-returns-in_err-args-clause-meaning
-call_named-returns-in_err-args-clause-meaning t c =
-    let p = err_from_is_err_and c.from_residual.result c.from_residual.ensures.1 in rw (p.1, p.2) (λ indexed a b items k. verb_fails (unlisted _ _ (c.in_err-args.ensures.err k)))
-
-pub call_named-returns-in_err-called-clause-meaning : goal.call_named-returns-in_err-called-clause-meaning
-call_named-returns-in_err-called-clause-meaning t c =
-    let is = rw (to_z-of_z w32 c.args.this c.ranges.this) at c.sought_verb-sought.ensures in
-    let p = err_from_is_err_and c.from_residual-in_err-called.result c.from_residual-in_err-called.ensures.1 in rw (p.1, p.2, c.in_default.ensures.none) (λ indexed a b items k. verb_fails (rw c.in_ok-args.ensures.ok at (c.in_err-called.ensures _ _ is k)))
-
-pub call_unnamed-returns-clause-meaning : goal.call_unnamed-returns-clause-meaning
-call_unnamed-returns-clause-meaning t c =
+pub call_verb-returns-clause-meaning : goal.call_verb-returns-clause-meaning
+call_verb-returns-clause-meaning t c =
     λ indexed a b items k. let h = c.run_called.ensures.meaning c.args.active.now k in verb_runs (rw c.in_ok-args.ensures.ok at (c.in_ok-called.ensures tt)) h.runs h.leaves h.gives
 
-pub call_unnamed-returns-in_err-args-clause-meaning : goal.call_unnamed-returns-in_err-args-clause-meaning
-call_unnamed-returns-in_err-args-clause-meaning t c =
+pub call_verb-returns-in_err-args-clause-meaning : goal.call_verb-returns-in_err-args-clause-meaning
+call_verb-returns-in_err-args-clause-meaning t c =
     let p = err_from_is_err_and c.from_residual.result c.from_residual.ensures.1 in rw (p.1, p.2) (λ indexed a b items k. verb_fails (unlisted _ _ (c.in_err-args.ensures.err k)))
 
-pub call_unnamed-returns-in_err-called-clause-meaning : goal.call_unnamed-returns-in_err-called-clause-meaning
-call_unnamed-returns-in_err-called-clause-meaning t c =
+pub call_verb-returns-in_err-called-clause-meaning : goal.call_verb-returns-in_err-called-clause-meaning
+call_verb-returns-in_err-called-clause-meaning t c =
     let p = err_from_is_err_and c.from_residual-in_err-called.result c.from_residual-in_err-called.ensures.1 in rw (p.1, p.2) (λ indexed a b items k. verb_fails (rw c.in_ok-args.ensures.ok at (c.in_err-called.ensures k)))
-
-pub run_called-returns-in-Some-clause-meaning : goal.run_called-returns-in-Some-clause-meaning
-run_called-returns-in-Some-clause-meaning t c =
-    λ caller k. record { outcome = _; last = _; runs = runs_at c.statements-statements.ensures.statements (c.in_ok-rest.ensures.rest _ _ (c.in-Some.ensures.some (entered_of c.args.called).context)); leaves = refl; gives = refl }
-
-pub run_called-returns-clause-meaning : goal.run_called-returns-clause-meaning
-run_called-returns-clause-meaning t c =
-    λ caller k. record { outcome = _; last = _; runs = runs_at c.statements-statements.ensures.statements (c.in_ok-rest.ensures.rest _ _ (rw c.in_default.ensures.none at (c.run_all.ensures.meaning (c.answered.ensures.known k)))); leaves = refl; gives = c.answered.ensures.answer }
-
-pub run_called-returns-clause-fewer : goal.run_called-returns-clause-fewer
-run_called-returns-clause-fewer t c =
-    let program = c.statements-statements.ensures.statements in
-    let ahead = c.in_ok-rest.ensures in
-    λ begins. comes_on _ c.answered.result c.run_all.result c.answered.ensures.comes (on_ok_weaker c.run_all.result (λ h. takes_one (block c.in_ok-rest.rest.now) (block c.statements-statements.result.now) (λ e. begins (sym program ∙ e)) ahead.fewer ahead.ticks (rw c.in_default.ensures.none at h) (rw c.in_default.ensures.none at c.run_all.ensures.ticks)) c.run_all.ensures.fewer)
 
 pub catch-returns-in_err-values-clause-meaning : goal.catch-returns-in_err-values-clause-meaning
 catch-returns-in_err-values-clause-meaning t c =
-    let p = err_from_is_err_and c.from_residual.result c.from_residual.ensures.1 in rw (p.1, p.2) (λ k. guards_end (expression c.args.body.now) (codes_of c.args.codes.now) c.args.other.now (c.in_err-values.ensures.meaning k))
+    let p = err_from_is_err_and c.from_residual.result c.from_residual.ensures.1 in rw (p.1, p.2) (λ k. guards_end (source c.args.body.now) (source_codes c.args.codes.now) c.args.other.now (c.in_err-values.ensures.meaning k))
 
 pub catch-returns-in_err-outcome-clause-meaning : goal.catch-returns-in_err-outcome-clause-meaning
 catch-returns-in_err-outcome-clause-meaning t c =
-    let p = err_from_is_err_and c.from_residual-in_err-outcome.result c.from_residual-in_err-outcome.ensures.1 in rw (p.1, p.2) (λ k. passes_on (codes_of c.args.codes.now) c.args.other.now (c.in_ok-values.ensures.meaning tt) (c.evaluate_part-outcome.ensures.meaning (rw c.in_err-outcome.was k)) (rw c.deref.ensures.value at (sym c.caught.ensures ∙ none_left _ c.in_default.not-Some)) (ap (λ x. passes (seen_value x)) c.in_err-outcome.was))
+    let p = err_from_is_err_and c.from_residual-in_err-outcome.result c.from_residual-in_err-outcome.ensures.1 in rw (p.1, p.2) (λ k. passes_on (source_codes c.args.codes.now) c.args.other.now (c.in_ok-values.ensures.meaning tt) (c.evaluate-outcome.ensures.meaning (rw c.in_err-outcome.was k)) (rw c.deref.ensures.value at (sym c.caught.ensures ∙ none_left _ c.in_default.not-Some)) (ap (λ x. passes (seen_value x)) c.in_err-outcome.was))
 
 pub catch-returns-in_default-clause-meaning : goal.catch-returns-in_default-clause-meaning
 catch-returns-in_default-clause-meaning t c =
-    λ k. passes_on (codes_of c.args.codes.now) c.args.other.now (c.in_ok-values.ensures.meaning tt) (c.evaluate_part-outcome.ensures.meaning (rw c.in_ok-outcome.was tt)) (rw c.deref.ensures.value at (sym c.caught.ensures ∙ none_left _ c.in_default.not-Some)) (ap (λ x. passes (seen_value x)) c.in_ok-outcome.was)
+    λ k. passes_on (source_codes c.args.codes.now) c.args.other.now (c.in_ok-values.ensures.meaning tt) (c.evaluate-outcome.ensures.meaning (rw c.in_ok-outcome.was tt)) (rw c.deref.ensures.value at (sym c.caught.ensures ∙ none_left _ c.in_default.not-Some)) (ap (λ x. passes (seen_value x)) c.in_ok-outcome.was)
 
 pub catch-returns-in-None-clause-meaning : goal.catch-returns-in-None-clause-meaning
 catch-returns-in-None-clause-meaning t c =
-    λ k. rw c.in-None.is (applies (c.in_ok-values.ensures.meaning tt) no_more (catch_gives (c.evaluate_part-outcome.ensures.meaning (known_caught (codes_of c.args.codes.now) _ c.evaluate_part-outcome.result c.in-Some.code (sym c.caught.ensures ∙ c.in-Some.is))) (rw c.deref.ensures.value at (sym c.caught.ensures ∙ c.in-Some.is))))
+    λ k. rw c.in-None.is (applies (c.in_ok-values.ensures.meaning tt) no_more (catch_gives (c.evaluate-outcome.ensures.meaning (known_caught (source_codes c.args.codes.now) _ c.evaluate-outcome.result c.in-Some.code (sym c.caught.ensures ∙ c.in-Some.is))) (rw c.deref.ensures.value at (sym c.caught.ensures ∙ c.in-Some.is))))
 
-pub catch-returns-in_err-evaluate_part-in-Some-other-clause-meaning : goal.catch-returns-in_err-evaluate_part-in-Some-other-clause-meaning
-catch-returns-in_err-evaluate_part-in-Some-other-clause-meaning t c =
-    let p = err_from_is_err_and c.from_residual-in_err-evaluate_part-in-Some-other.result c.from_residual-in_err-evaluate_part-in-Some-other.ensures.1 in rw (p.1, p.2, c.in-Some-other.is, ← c.deref-in-Some-other.ensures) (λ k. applies (c.in_ok-values.ensures.meaning tt) no_more (catch_or_goes_on (c.evaluate_part-outcome.ensures.meaning (known_caught (codes_of c.args.codes.now) _ c.evaluate_part-outcome.result c.in-Some.code (sym c.caught.ensures ∙ c.in-Some.is))) (rw c.deref.ensures.value at (sym c.caught.ensures ∙ c.in-Some.is)) (c.in_err-evaluate_part-in-Some-other.ensures.meaning k) refl))
+pub catch-returns-in_err-evaluate-in-Some-other-clause-meaning : goal.catch-returns-in_err-evaluate-in-Some-other-clause-meaning
+catch-returns-in_err-evaluate-in-Some-other-clause-meaning t c =
+    let p = err_from_is_err_and c.from_residual-in_err-evaluate-in-Some-other.result c.from_residual-in_err-evaluate-in-Some-other.ensures.1 in rw (p.1, p.2, c.in-Some-other.is, ← c.deref-in-Some-other.ensures) (λ k. applies (c.in_ok-values.ensures.meaning tt) no_more (catch_or_goes_on (c.evaluate-outcome.ensures.meaning (known_caught (source_codes c.args.codes.now) _ c.evaluate-outcome.result c.in-Some.code (sym c.caught.ensures ∙ c.in-Some.is))) (rw c.deref.ensures.value at (sym c.caught.ensures ∙ c.in-Some.is)) (c.in_err-evaluate-in-Some-other.ensures.meaning k) refl))
 
 pub catch-returns-clause-meaning : goal.catch-returns-clause-meaning
 catch-returns-clause-meaning t c =
-    λ k. rw (c.in-Some-other.is, ← c.deref-in-Some-other.ensures) (applies (c.in_ok-values.ensures.meaning tt) no_more (catch_or_goes_on (c.evaluate_part-outcome.ensures.meaning (known_caught (codes_of c.args.codes.now) _ c.evaluate_part-outcome.result c.in-Some.code (sym c.caught.ensures ∙ c.in-Some.is))) (rw c.deref.ensures.value at (sym c.caught.ensures ∙ c.in-Some.is)) (c.in_ok-evaluate_part-in-Some-other.ensures.meaning tt) refl))
+    λ k. rw (c.in-Some-other.is, ← c.deref-in-Some-other.ensures) (applies (c.in_ok-values.ensures.meaning tt) no_more (catch_or_goes_on (c.evaluate-outcome.ensures.meaning (known_caught (source_codes c.args.codes.now) _ c.evaluate-outcome.result c.in-Some.code (sym c.caught.ensures ∙ c.in-Some.is))) (rw c.deref.ensures.value at (sym c.caught.ensures ∙ c.in-Some.is)) (c.in_ok-evaluate-in-Some-other.ensures.meaning tt) refl))
 
-pub compute-returns-in-VerbCall-clause-meaning : goal.compute-returns-in-VerbCall-clause-meaning
-compute-returns-in-VerbCall-clause-meaning t c =
-    λ k. rw (c.in-VerbCall.is, row_items, ← c.deref-in-VerbCall.ensures, ← c.deref-in-VerbCall-2.ensures, ← c.deref-in-VerbCall-3.ensures, ← c.deref-in-VerbCall-4.ensures.value) (c.verb_call.ensures.meaning k)
+pub evaluate_node-returns-in-VerbCall-clause-meaning : goal.evaluate_node-returns-in-VerbCall-clause-meaning
+evaluate_node-returns-in-VerbCall-clause-meaning t c =
+    λ k. rw (c.in-VerbCall.is, row_items, ← c.deref-in-VerbCall.ensures, ← c.deref-in-VerbCall-2.ensures, ← c.deref-in-VerbCall-3.ensures, ← c.deref-in-VerbCall-4.ensures.value) (c.evaluate_verb_call.ensures.meaning k)
 
-pub compute-returns-in-Call-clause-meaning : goal.compute-returns-in-Call-clause-meaning
-compute-returns-in-Call-clause-meaning t c =
-    λ k. rw (c.in-Call.is, row_items, ← c.deref-in-Call.ensures.value) (c.call.ensures.meaning k)
+pub evaluate_node-returns-in-Call-clause-meaning : goal.evaluate_node-returns-in-Call-clause-meaning
+evaluate_node-returns-in-Call-clause-meaning t c =
+    λ k. rw (c.in-Call.is, row_items, ← c.deref-in-Call.ensures.value) (c.evaluate_call.ensures.meaning k)
 
 pub evaluate_all-returns-in-Optional-clause-meaning : goal.evaluate_all-returns-in-Optional-clause-meaning
 evaluate_all-returns-in-Optional-clause-meaning t c =
@@ -494,39 +607,17 @@ pub store-returns-in_err-whole-in-Scatter-clause-meaning : goal.store-returns-in
 store-returns-in_err-whole-in-Scatter-clause-meaning t c =
     let p = err_from_is_err_and c.from_residual-in_err-whole-in-Scatter.result c.from_residual-in_err-whole-in-Scatter.ensures.1 in rw (p.1, p.2) (λ k. no_store (rw c.in_ok-value.ensures.value at (c.in_err-whole-in-Scatter.ensures k)))
 
-pub run-returns-clause-meaning : goal.run-returns-clause-meaning
-run-returns-clause-meaning t c =
-    let kept = c.in_ok-completed.ensures.kept c.if-completed.false in
-    λ k. statement_begins (rw kept.0 at c.in_ok-take_tick.ensures.taken) (rw (c.in_ok-take_tick.ensures.left, kept.0, kept.1, kept.2) at (c.perform.ensures.meaning k))
-
-pub run-returns-then-completed-clause-meaning : goal.run-returns-then-completed-clause-meaning
-run-returns-then-completed-clause-meaning t c =
-    λ k. c.in_ok-completed.ensures.done c.if-completed.true (context_of c.args.stack.now None)
-
-pub run-returns-in_err-take_tick-clause-meaning : goal.run-returns-in_err-take_tick-clause-meaning
-run-returns-in_err-take_tick-clause-meaning t c =
-    let kept = c.in_ok-completed.ensures.kept c.if-completed.false in
-    let p = err_from_is_err_and c.from_residual-in_err-take_tick.result c.from_residual-in_err-take_tick.ensures.1 in rw (p.1, p.2) (λ k. let h = rw (kept.0, kept.2) at (c.in_err-take_tick.ensures.spent k) in rw (c.in_err-take_tick.ensures.kept, kept.0, kept.1, kept.2, h.1) (statement_spent h.0))
-
-pub run_all-returns-in_err-flow-clause-meaning : goal.run_all-returns-in_err-flow-clause-meaning
-run_all-returns-in_err-flow-clause-meaning t c =
+pub run_block-returns-in_err-flow-clause-meaning : goal.run_block-returns-in_err-flow-clause-meaning
+run_block-returns-in_err-flow-clause-meaning t c =
     let p = err_from_is_err_and c.from_residual.result c.from_residual.ensures.1 in rw (p.1, p.2) (λ k. c.loop-statement.invariant.rest (Err (stop_of c.in_err-flow.field-0.0)) _ (rw (drop_next c.args.statements.now c.loop-statement.statement-index c.statement-item.result c.loop-statement-test.true c.statement-item.is) (leaves (c.in_err-flow.ensures.meaning k) refl)))
 
-pub run_all-loop-statement-preserved : goal.run_all-loop-statement-preserved
-run_all-loop-statement-preserved t c =
+pub run_block-loop-statement-preserved : goal.run_block-loop-statement-preserved
+run_block-loop-statement-preserved t c =
     record { ticks = omega arith; fewer = λ z. omega (arith, c.in_ok-flow.ensures.fewer); rest = λ o s d. c.loop-statement.invariant.rest o s (rw (drop_next c.args.statements.now c.loop-statement.statement-index c.statement-item.result c.loop-statement-test.true c.statement-item.is) (proceeds (rw c.in-Next.is at (c.in_ok-flow.ensures.meaning tt)) d)) }
 
-pub run_all-returns-clause-meaning : goal.run_all-returns-clause-meaning
-run_all-returns-clause-meaning t c =
+pub run_block-returns-clause-meaning : goal.run_block-returns-clause-meaning
+run_block-returns-clause-meaning t c =
     λ k. c.loop-statement.invariant.rest (Ok next) _ (rw (drop_of_length-le c.args.statements.now c.loop-statement-test.false) ends)
-
-pub run_body-returns-clause-meaning : goal.run_body-returns-clause-meaning
-run_body-returns-clause-meaning t c =
-    λ k. c.in_ok-rest.ensures.rest _ _ (c.run_all.ensures.meaning k)
-
-pub run_body-returns-then-is_empty-clause-meaning : goal.run_body-returns-then-is_empty-clause-meaning
-run_body-returns-then-is_empty-clause-meaning t c =
-    λ k. c.in_ok-rest.ensures.rest (Ok next) _ (rw (nothing_left c.in_ok-rest.rest.now (eqb-true _ _ (sym c.is_empty.ensures ∙ c.if-is_empty.true))) ends)
 
 pub branch-returns-clause-meaning : goal.branch-returns-clause-meaning
 branch-returns-clause-meaning t c =
@@ -534,7 +625,7 @@ branch-returns-clause-meaning t c =
 
 pub branch-returns-then-passes-clause-meaning : goal.branch-returns-then-passes-clause-meaning
 branch-returns-then-passes-clause-meaning t c =
-    λ k. selects (arm_runs c.in_ok-passes.ensures.ok.1 (c.in_ok-passes.ensures.ok.2 ∙ c.if-passes.true) (c.run_body.ensures.meaning k))
+    λ k. selects (arm_runs c.in_ok-passes.ensures.ok.1 (c.in_ok-passes.ensures.ok.2 ∙ c.if-passes.true) (c.run_all.ensures.meaning k))
 
 pub branch-returns-in_err-passes-clause-meaning : goal.branch-returns-in_err-passes-clause-meaning
 branch-returns-in_err-passes-clause-meaning t c =
@@ -546,7 +637,7 @@ select-returns-clause-meaning t c =
 
 pub select-returns-in-Else-clause-meaning : goal.select-returns-in-Else-clause-meaning
 select-returns-in-Else-clause-meaning t c =
-    λ k. c.loop-arm.invariant.rest _ _ (rw (drop_next c.args.arms.now c.loop-arm.arm-index c.arm-item.result c.loop-arm-test.true c.arm-item.is, c.in-Else.is, row_block, ← c.deref-in-Else.ensures.value) (else_runs (c.run_body-in-Else.ensures.meaning k)))
+    λ k. c.loop-arm.invariant.rest _ _ (rw (drop_next c.args.arms.now c.loop-arm.arm-index c.arm-item.result c.loop-arm-test.true c.arm-item.is, c.in-Else.is, row_block, ← c.deref-in-Else.ensures.value) (else_runs (c.run_all-in-Else.ensures.meaning k)))
 
 pub select-returns-in_err-passes-in-ElseIf-clause-meaning : goal.select-returns-in_err-passes-in-ElseIf-clause-meaning
 select-returns-in_err-passes-in-ElseIf-clause-meaning t c =
@@ -672,13 +763,13 @@ pub perform-returns-in-TryFinally-clause-meaning : goal.perform-returns-in-TryFi
 perform-returns-in-TryFinally-clause-meaning t c =
     λ k. rw (c.in-TryFinally.is, row_block c.in-TryFinally.body, row_block c.in-TryFinally.cleanup, ← c.deref-in-TryFinally.ensures.value, ← c.deref-in-TryFinally-2.ensures.value) (c.try_finally.ensures.meaning k)
 
-pub run_all-returns-in_default : goal.run_all-returns-in_default
-run_all-returns-in_default t c =
+pub run_block-returns-in_default : goal.run_block-returns-in_default
+run_block-returns-in_default t c =
     record { meaning = λ k. c.loop-statement.invariant.rest (Ok (flow_of c.in_ok-flow.flow)) _ (rw (drop_next c.args.statements.now c.loop-statement.statement-index c.statement-item.result c.loop-statement-test.true c.statement-item.is) (leaves (c.in_ok-flow.ensures.meaning tt) (goes_on-not _ c.in_default.not-Next))); ticks = omega arith; fewer = λ some. omega (arith, c.in_ok-flow.ensures.fewer) }
 
 pub select-returns-then-passes-clause-meaning : goal.select-returns-then-passes-clause-meaning
 select-returns-then-passes-clause-meaning t c =
-    λ k. c.loop-arm.invariant.rest _ _ (rw (drop_next c.args.arms.now c.loop-arm.arm-index c.arm-item.result c.loop-arm-test.true c.arm-item.is, c.in-ElseIf.is, row_block, ← c.deref.ensures, ← c.deref-then-passes.ensures.value) (arm_runs c.in_ok-passes-in-ElseIf.ensures.ok.1 (c.in_ok-passes-in-ElseIf.ensures.ok.2 ∙ c.if-passes.true) (c.run_body.ensures.meaning k)))
+    λ k. c.loop-arm.invariant.rest _ _ (rw (drop_next c.args.arms.now c.loop-arm.arm-index c.arm-item.result c.loop-arm-test.true c.arm-item.is, c.in-ElseIf.is, row_block, ← c.deref.ensures, ← c.deref-then-passes.ensures.value) (arm_runs c.in_ok-passes-in-ElseIf.ensures.ok.1 (c.in_ok-passes-in-ElseIf.ensures.ok.2 ∙ c.if-passes.true) (c.run_all.ensures.meaning k)))
 
 pub for_list-returns-clause-meaning : goal.for_list-returns-clause-meaning
 for_list-returns-clause-meaning t c =
@@ -692,10 +783,10 @@ pub prepare-loop-handler-preserved : goal.prepare-loop-handler-preserved
 prepare-loop-handler-preserved t c = record {
   ticks = omega arith;
   rest = λ o s d.
-      let g = guarded (option_copied c.handler_parts-parts.result.name) (codes_of c.handler_parts-parts.result.codes.now) (block c.handler_parts-parts.result.body.now) (trees c.in_ok-values.values.items) in
-      subst (λ r. Prepares Faults (context_of c.args.stack.now None) (handlers_of c.args.handlers.now) (state_of c.args.self.now c.args.world.now c.args.active.now) r s)
+      let g = guarded (option_copied c.handler_parts-parts.result.name) (source_codes c.handler_parts-parts.result.codes.now) (source_block c.handler_parts-parts.result.body.now) (trees c.in_ok-values.values.items) in
+      subst (λ r. Prepares Faults (context_of c.args.stack.now None) (source_handler_list c.args.handlers.now) (state_of c.args.self.now c.args.world.now c.args.active.now) r s)
       (guarded_on (map guarded_of c.loop-handler.guarded.items) _ g o c.in_ok-push_guarded.ensures)
-      (c.loop-handler.invariant.rest _ s (rw (drop_next c.args.handlers.now c.loop-handler.handler-index c.handler-item.result c.loop-handler-test.true c.handler-item.is, c.handler_parts-parts.ensures (handlers_of (drop (c.loop-handler.handler-index + 1) c.args.handlers.now))) (codes_then (c.guards-outcome.ensures.meaning (c.in_ok-values.ensures.known tt)) (c.in_ok-values.ensures.outcome tt) d refl)));
+      (c.loop-handler.invariant.rest _ s (rw (drop_next c.args.handlers.now c.loop-handler.handler-index c.handler-item.result c.loop-handler-test.true c.handler-item.is, c.handler_parts-parts.ensures (source_handler_list (drop (c.loop-handler.handler-index + 1) c.args.handlers.now))) (codes_then (c.guards-outcome.ensures.meaning (c.in_ok-values.ensures.known tt)) (c.in_ok-values.ensures.outcome tt) d refl)));
 }
 
 pub prepare-returns-clause-meaning : goal.prepare-returns-clause-meaning
@@ -705,22 +796,19 @@ prepare-returns-clause-meaning t c =
 pub prepare-returns-in_err-values-clause-meaning : goal.prepare-returns-in_err-values-clause-meaning
 prepare-returns-in_err-values-clause-meaning t c =
     let p = err_from_is_err_and c.from_residual.result c.from_residual.ensures.1 in
-    rw (p.1, p.2) (λ k. c.loop-handler.invariant.rest (Err (stop_of c.in_err-values.field-0.0)) _ (rw (drop_next c.args.handlers.now c.loop-handler.handler-index c.handler-item.result c.loop-handler-test.true c.handler-item.is, c.handler_parts-parts.ensures (handlers_of (drop (c.loop-handler.handler-index + 1) c.args.handlers.now))) (codes_stop (c.guards-outcome.ensures.meaning (c.in_err-values.ensures.known k)) (c.in_err-values.ensures.outcome k))))
+    rw (p.1, p.2) (λ k. c.loop-handler.invariant.rest (Err (stop_of c.in_err-values.field-0.0)) _ (rw (drop_next c.args.handlers.now c.loop-handler.handler-index c.handler-item.result c.loop-handler-test.true c.handler-item.is, c.handler_parts-parts.ensures (source_handler_list (drop (c.loop-handler.handler-index + 1) c.args.handlers.now))) (codes_stop (c.guards-outcome.ensures.meaning (c.in_err-values.ensures.known k)) (c.in_err-values.ensures.outcome k))))
 
 pub give-returns-in-None-clause-meaning : goal.give-returns-in-None-clause-meaning
 give-returns-in-None-clause-meaning t c = rw c.in-None.is (λ k. gives_zero)
 
-pub give-returns-in_ok-evaluate_part-in-Some-clause-meaning : goal.give-returns-in_ok-evaluate_part-in-Some-clause-meaning
-give-returns-in_ok-evaluate_part-in-Some-clause-meaning t c =
-    rw (c.in-Some.is, ← c.deref.ensures) (λ k. gives (c.in_ok-evaluate_part-in-Some.ensures.meaning tt) refl)
+pub give-returns-in_ok-evaluate-in-Some-clause-meaning : goal.give-returns-in_ok-evaluate-in-Some-clause-meaning
+give-returns-in_ok-evaluate-in-Some-clause-meaning t c =
+    rw (c.in-Some.is, ← c.deref.ensures) (λ k. gives (c.in_ok-evaluate-in-Some.ensures.meaning tt) refl)
 
-pub give-returns-in_err-evaluate_part-in-Some-clause-meaning : goal.give-returns-in_err-evaluate_part-in-Some-clause-meaning
-give-returns-in_err-evaluate_part-in-Some-clause-meaning t c =
+pub give-returns-in_err-evaluate-in-Some-clause-meaning : goal.give-returns-in_err-evaluate-in-Some-clause-meaning
+give-returns-in_err-evaluate-in-Some-clause-meaning t c =
     let p = err_from_is_err_and c.from_residual.result c.from_residual.ensures.1 in
-    rw (p.1, p.2, c.in-Some.is, ← c.deref.ensures) (λ k. gives (c.in_err-evaluate_part-in-Some.ensures.meaning k) refl)
-
-pub assign-returns-in-Some-clause-meaning : goal.assign-returns-in-Some-clause-meaning
-assign-returns-in-Some-clause-meaning t c = λ k. rw c.in-Some.ensures (c.assign_variable.ensures.meaning k)
+    rw (p.1, p.2, c.in-Some.is, ← c.deref.ensures) (λ k. gives (c.in_err-evaluate-in-Some.ensures.meaning k) refl)
 
 pub assign_variable-returns-clause-meaning : goal.assign_variable-returns-clause-meaning
 assign_variable-returns-clause-meaning t c =
@@ -730,9 +818,15 @@ pub assign_variable-returns-in_err-value-clause-meaning : goal.assign_variable-r
 assign_variable-returns-in_err-value-clause-meaning t c =
     let p = err_from_is_err_and c.from_residual.result c.from_residual.ensures.1 in rw (p.1, p.2) (λ k. unassigned (c.in_err-value.ensures.meaning k))
 
+pub assign_alone-returns-in-Some-clause-meaning : goal.assign_alone-returns-in-Some-clause-meaning
+assign_alone-returns-in-Some-clause-meaning t c =
+    let number : SFits w32 c.in-Some.number = search rules in
+    let set = rw (to_z-of_z w32 c.in-Some.number number) at c.in_ok-set.ensures in
+    λ k. performed c.in_ok-take_tick.ensures.taken (assigned (rw c.in_ok-take_tick.ensures.left at (c.in-Some.ensures.some c.args.world.now (context_of c.args.stack.now None))) (same_state (sym set) refl))
+
 pub assign_alone-returns-clause-meaning : goal.assign_alone-returns-clause-meaning
 assign_alone-returns-clause-meaning t c =
-    λ k. performed c.in_ok-take_tick.ensures.taken (assigned (rw c.in_ok-take_tick.ensures.left at (c.in_ok-value.ensures.meaning tt)) (same_state (sym c.in_ok-set.ensures) refl))
+    λ k. performed c.in_ok-take_tick.ensures.taken (assigned (rw (c.in_default.ensures.none, c.in_ok-take_tick.ensures.left) at (c.in_ok-value.ensures.meaning tt)) (same_state (sym c.in_ok-set-2.ensures) refl))
 
 pub assign_alone-returns-in_err-take_tick-clause-meaning : goal.assign_alone-returns-in_err-take_tick-clause-meaning
 assign_alone-returns-in_err-take_tick-clause-meaning t c =
@@ -740,7 +834,7 @@ assign_alone-returns-in_err-take_tick-clause-meaning t c =
 
 pub assign_alone-returns-in_err-value-clause-meaning : goal.assign_alone-returns-in_err-value-clause-meaning
 assign_alone-returns-in_err-value-clause-meaning t c =
-    let p = err_from_is_err_and c.from_residual-in_err-value.result c.from_residual-in_err-value.ensures.1 in rw (p.1, p.2) (λ k. unperformed c.in_ok-take_tick.ensures.taken (unassigned (rw c.in_ok-take_tick.ensures.left at (c.in_err-value.ensures.meaning k))))
+    let p = err_from_is_err_and c.from_residual-in_err-value.result c.from_residual-in_err-value.ensures.1 in rw (p.1, p.2) (λ k. unperformed c.in_ok-take_tick.ensures.taken (unassigned (rw (c.in_default.ensures.none, c.in_ok-take_tick.ensures.left) at (c.in_err-value.ensures.meaning k))))
 
 pub lengthen-returns-in-Ok-clause-meaning : goal.lengthen-returns-in-Ok-clause-meaning
 lengthen-returns-in-Ok-clause-meaning t c =
@@ -762,74 +856,75 @@ pub lengthen-returns-in_err-take_tick-2-clause-meaning : goal.lengthen-returns-i
 lengthen-returns-in_err-take_tick-2-clause-meaning t c =
     let p = err_from_is_err_and c.from_residual-in_err-take_tick-2.result c.from_residual-in_err-take_tick-2.ensures.1 in rw (p.1, p.2) (λ k. let h = c.in_err-take_tick-2.ensures.spent k in rw (c.in_err-take_tick-2.ensures.kept, c.in_ok-take_tick.ensures.left, h.1) (unperformed c.in_ok-take_tick.ensures.taken (unassigned (spent (rw c.in_ok-take_tick.ensures.left at h.0)))))
 
-pub put_behind-returns-clause-ok : goal.put_behind-returns-clause-ok
-put_behind-returns-clause-ok t c =
+pub extend-returns-in-Ok-clause-meaning : goal.extend-returns-in-Ok-clause-meaning
+extend-returns-in-Ok-clause-meaning t c =
+    λ k. set_longer c.in_ok-take_tick.ensures.taken (rw (c.in_default.ensures.none, c.in_ok-take_tick.ensures.left) at c.in_ok-take_tick-2.ensures.taken) (rw (c.in_ok-take_tick-2.ensures.left, c.in_default.ensures.none, c.in_ok-take_tick.ensures.left) at c.in-Ok.ensures.ok)
+
+pub extend-returns-in_ok-set-in-Err-clause-meaning : goal.extend-returns-in_ok-set-in-Err-clause-meaning
+extend-returns-in_ok-set-in-Err-clause-meaning t c =
+    λ k. set_error c.in_ok-take_tick.ensures.taken (rw (c.in_default.ensures.none, c.in_ok-take_tick.ensures.left) at c.in_ok-take_tick-2.ensures.taken) (rw (c.in_ok-take_tick-2.ensures.left, c.in_default.ensures.none, c.in_ok-take_tick.ensures.left) at (c.in-Err.ensures.err (c.in_ok-value-in-Err.ensures.known tt))) (c.in_ok-value-in-Err.ensures.outcome tt) (same_state (sym c.in_ok-set-in-Err.ensures) refl)
+
+pub extend-returns-in_err-value-in-Err-clause-meaning : goal.extend-returns-in_err-value-in-Err-clause-meaning
+extend-returns-in_err-value-in-Err-clause-meaning t c =
+    let p = err_from_is_err_and c.from_residual-in_err-value-in-Err.result c.from_residual-in_err-value-in-Err.ensures.1 in rw (p.1, p.2) (λ k. not_set c.in_ok-take_tick.ensures.taken (rw (c.in_default.ensures.none, c.in_ok-take_tick.ensures.left) at c.in_ok-take_tick-2.ensures.taken) (rw (c.in_ok-take_tick-2.ensures.left, c.in_default.ensures.none, c.in_ok-take_tick.ensures.left) at (c.in-Err.ensures.err (c.in_err-value-in-Err.ensures.known k))) (c.in_err-value-in-Err.ensures.outcome k))
+
+pub extend-returns-in_err-take_tick-clause-meaning : goal.extend-returns-in_err-take_tick-clause-meaning
+extend-returns-in_err-take_tick-clause-meaning t c =
+    let p = err_from_is_err_and c.from_residual.result c.from_residual.ensures.1 in rw (p.1, p.2) (λ k. let h = c.in_err-take_tick.ensures.spent k in rw (c.in_err-take_tick.ensures.kept, h.1) (evaluates (spent h.0) refl))
+
+pub extend-returns-in_err-take_tick-2-clause-meaning : goal.extend-returns-in_err-take_tick-2-clause-meaning
+extend-returns-in_err-take_tick-2-clause-meaning t c =
+    let p = err_from_is_err_and c.from_residual-in_err-take_tick-2.result c.from_residual-in_err-take_tick-2.ensures.1 in rw (p.1, p.2) (λ k. let h = c.in_err-take_tick-2.ensures.spent k in rw (c.in_err-take_tick-2.ensures.kept, c.in_default.ensures.none, c.in_ok-take_tick.ensures.left, h.1) (unperformed c.in_ok-take_tick.ensures.taken (unassigned (spent (rw (c.in_default.ensures.none, c.in_ok-take_tick.ensures.left) at h.0)))))
+
+pub extend-returns-in-Some-clause-meaning : goal.extend-returns-in-Some-clause-meaning
+extend-returns-in-Some-clause-meaning t c =
+    let number : SFits w32 c.in-Some.number = search rules in
+    let set = rw (to_z-of_z w32 c.in-Some.number number) at c.in_ok-set.ensures in
+    λ k. performed c.in_ok-take_tick.ensures.taken (assigned (rw c.in_ok-take_tick.ensures.left at (c.in-Some.ensures.some c.args.world.now (context_of c.args.stack.now None))) (same_state (sym set) refl))
+
+pub put_extended-returns-clause-ok : goal.put_extended-returns-clause-ok
+put_extended-returns-clause-ok t c =
+    let h = c.in_ok-set_sum.ensures.ok in
+    extended (c.in_ok-first.ensures.meaning None c.args.world.now tt) (c.in_ok-last.ensures.meaning tt) h.1 (same_state (sym h.2) refl)
+
+pub put_extended-returns-in_err-first-clause-err : goal.put_extended-returns-in_err-first-clause-err
+put_extended-returns-in_err-first-clause-err t c =
+    let p = err_from_is_err_and c.from_residual.result c.from_residual.ensures.1 in rw (p.1, p.2) (λ k. operands_end (element_stops (c.in_err-first.ensures.meaning None c.args.world.now k)))
+
+pub put_extended-returns-in_err-last-clause-err : goal.put_extended-returns-in_err-last-clause-err
+put_extended-returns-in_err-last-clause-err t c =
+    let p = err_from_is_err_and c.from_residual-in_err-last.result c.from_residual-in_err-last.ensures.1 in rw (p.1, p.2) (λ k. operands_end (element_then (c.in_ok-first.ensures.meaning None c.args.world.now tt) (element_stops (c.in_err-last.ensures.meaning k)) refl))
+
+pub put_extended-returns-in_err-set_sum-clause-err : goal.put_extended-returns-in_err-set_sum-clause-err
+put_extended-returns-in_err-set_sum-clause-err t c =
+    let p = err_from_is_err_and c.from_residual-in_err-set_sum.result c.from_residual-in_err-set_sum.ensures.1 in
+    rw (p.1, p.2) (λ k. subst (λ s. Computes Faults (context_of c.args.stack.now None) (binary Add (variable c.args.name.now) (source c.args.last.now)) (state_of c.args.self.now c.args.world.now c.args.active.now) (Err (failure_of c.in_err-set_sum.field-0.0)) s) (same_state (sym (c.in_err-set_sum.ensures.kept k)) refl) (unextended (c.in_ok-first.ensures.meaning None c.args.world.now tt) (c.in_ok-last.ensures.meaning tt) (c.in_err-set_sum.ensures.err k)))
+
+pub perform-returns-in-Extend-clause-meaning : goal.perform-returns-in-Extend-clause-meaning
+perform-returns-in-Extend-clause-meaning t c =
+    λ k. rw (c.in-Extend.is, ← c.deref-in-Extend.ensures) (c.extend.ensures.meaning k)
+
+pub put_longer-returns-clause-ok : goal.put_longer-returns-clause-ok
+put_longer-returns-clause-ok t c =
     let h = c.in_ok-set_longer.ensures.ok in
     lengthened c.in-List.list (rw c.in-List.is at (c.in_ok-found.ensures.meaning None c.args.world.now tt)) (c.in_ok-last.ensures.meaning tt) h.1 (same_state (sym h.2) refl)
 
-pub put_behind-returns-in_err-found-clause-err : goal.put_behind-returns-in_err-found-clause-err
-put_behind-returns-in_err-found-clause-err t c =
+pub put_longer-returns-in_err-found-clause-err : goal.put_longer-returns-in_err-found-clause-err
+put_longer-returns-in_err-found-clause-err t c =
     let p = err_from_is_err_and c.from_residual.result c.from_residual.ensures.1 in rw (p.1, p.2) (λ k. first_stops (c.in_err-found.ensures.meaning None c.args.world.now k))
 
-pub put_behind-returns-in_default-clause-err : goal.put_behind-returns-in_default-clause-err
-put_behind-returns-in_default-clause-err t c =
+pub put_longer-returns-in_default-clause-err : goal.put_longer-returns-in_default-clause-err
+put_longer-returns-in_default-clause-err t c =
     λ k. first_fails (c.in_ok-found.ensures.meaning None c.args.world.now tt) (unspliced _ c.in_default.not-List)
 
-pub put_behind-returns-in_err-last-clause-err : goal.put_behind-returns-in_err-last-clause-err
-put_behind-returns-in_err-last-clause-err t c =
+pub put_longer-returns-in_err-last-clause-err : goal.put_longer-returns-in_err-last-clause-err
+put_longer-returns-in_err-last-clause-err t c =
     let p = err_from_is_err_and c.from_residual-in_err-last.result c.from_residual-in_err-last.ensures.1 in rw (p.1, p.2) (λ k. second_stops c.in-List.list (rw c.in-List.is at (c.in_ok-found.ensures.meaning None c.args.world.now tt)) (c.in_err-last.ensures.meaning k))
 
-pub put_behind-returns-in_err-set_longer-clause-err : goal.put_behind-returns-in_err-set_longer-clause-err
-put_behind-returns-in_err-set_longer-clause-err t c =
+pub put_longer-returns-in_err-set_longer-clause-err : goal.put_longer-returns-in_err-set_longer-clause-err
+put_longer-returns-in_err-set_longer-clause-err t c =
     let p = err_from_is_err_and c.from_residual-in_err-set_longer.result c.from_residual-in_err-set_longer.ensures.1 in
-    rw (p.1, p.2) (λ k. subst (λ s. Computes Faults (context_of c.args.stack.now None) (program.list (splice (variable c.args.name.now) (element (expression c.args.last.now) no_items))) (state_of c.args.self.now c.args.world.now c.args.active.now) (Err (failure_of c.in_err-set_longer.field-0.0)) s) (same_state (sym (c.in_err-set_longer.ensures.kept k)) refl) (too_long c.in-List.list (rw c.in-List.is at (c.in_ok-found.ensures.meaning None c.args.world.now tt)) (c.in_ok-last.ensures.meaning tt) (c.in_err-set_longer.ensures.err k)))
-
-pub evaluate_alone-returns-in-Some-as_longer-clause-meaning : goal.evaluate_alone-returns-in-Some-as_longer-clause-meaning
-evaluate_alone-returns-in-Some-as_longer-clause-meaning t c = λ k. rw (c.in-Some.ensures, c.in-Some-as_longer.ensures) (c.lengthen.ensures.meaning k)
-
-pub append-returns-in-Ok-clause-meaning : goal.append-returns-in-Ok-clause-meaning
-append-returns-in-Ok-clause-meaning t c =
-    λ e a k. set_longer c.in_ok-take_tick.ensures.taken (rw c.in_ok-take_tick.ensures.left at c.in_ok-take_tick-2.ensures.taken) (rw (c.in_ok-take_tick-2.ensures.left, c.in_ok-take_tick.ensures.left) at (c.in-Ok.ensures.ok e a))
-
-pub append-returns-in_ok-set-in-Err-clause-meaning : goal.append-returns-in_ok-set-in-Err-clause-meaning
-append-returns-in_ok-set-in-Err-clause-meaning t c =
-    λ e a k. let h = rw (c.in_ok-take_tick-2.ensures.left, c.in_ok-take_tick.ensures.left) at (c.in-Err.ensures.err (c.in_ok-value-in-Err.ensures.known tt) e a) in set_error c.in_ok-take_tick.ensures.taken (rw c.in_ok-take_tick.ensures.left at c.in_ok-take_tick-2.ensures.taken) h.computes (h.settles ∙ c.in_ok-value-in-Err.ensures.outcome tt) (same_state (sym c.in_ok-set-in-Err.ensures) refl)
-
-pub append-returns-in_err-value-in-Err-clause-meaning : goal.append-returns-in_err-value-in-Err-clause-meaning
-append-returns-in_err-value-in-Err-clause-meaning t c =
-    let p = err_from_is_err_and c.from_residual-in_err-value-in-Err.result c.from_residual-in_err-value-in-Err.ensures.1 in rw (p.1, p.2) (λ e a k. let h = rw (c.in_ok-take_tick-2.ensures.left, c.in_ok-take_tick.ensures.left) at (c.in-Err.ensures.err (c.in_err-value-in-Err.ensures.known k) e a) in not_set c.in_ok-take_tick.ensures.taken (rw c.in_ok-take_tick.ensures.left at c.in_ok-take_tick-2.ensures.taken) h.computes (h.settles ∙ c.in_err-value-in-Err.ensures.outcome k))
-
-pub append-returns-in_err-take_tick-clause-meaning : goal.append-returns-in_err-take_tick-clause-meaning
-append-returns-in_err-take_tick-clause-meaning t c =
-    let p = err_from_is_err_and c.from_residual.result c.from_residual.ensures.1 in rw (p.1, p.2) (λ e a k. let h = c.in_err-take_tick.ensures.spent k in rw (c.in_err-take_tick.ensures.kept, h.1) (evaluates (spent h.0) refl))
-
-pub append-returns-in_err-take_tick-2-clause-meaning : goal.append-returns-in_err-take_tick-2-clause-meaning
-append-returns-in_err-take_tick-2-clause-meaning t c =
-    let p = err_from_is_err_and c.from_residual-in_err-take_tick-2.result c.from_residual-in_err-take_tick-2.ensures.1 in rw (p.1, p.2) (λ e a k. let h = c.in_err-take_tick-2.ensures.spent k in rw (c.in_err-take_tick-2.ensures.kept, c.in_ok-take_tick.ensures.left, h.1) (unperformed c.in_ok-take_tick.ensures.taken (unassigned (spent (rw c.in_ok-take_tick.ensures.left at h.0)))))
-
-pub put_appended-returns-clause-ok : goal.put_appended-returns-clause-ok
-put_appended-returns-clause-ok t c =
-    λ e a. let h = c.in_ok-set_longer.ensures.ok in appended c.in-List.list a (rw c.in-List.is at (c.in_ok-found.ensures.meaning None c.args.world.now tt)) (c.in_ok-last.ensures.meaning tt) h.1 (same_state (sym h.2) refl)
-
-pub put_appended-returns-in_err-found-clause-err : goal.put_appended-returns-in_err-found-clause-err
-put_appended-returns-in_err-found-clause-err t c =
-    let p = err_from_is_err_and c.from_residual.result c.from_residual.ensures.1 in rw (p.1, p.2) (λ k e a. variable_stops a (c.in_err-found.ensures.meaning None c.args.world.now k))
-
-pub put_appended-returns-in_err-last-clause-err : goal.put_appended-returns-in_err-last-clause-err
-put_appended-returns-in_err-last-clause-err t c =
-    let p = err_from_is_err_and c.from_residual-in_err-last.result c.from_residual-in_err-last.ensures.1 in rw (p.1, p.2) (λ k e a. last_stops a (c.in_ok-found.ensures.meaning None c.args.world.now tt) (c.in_err-last.ensures.meaning k))
-
-pub put_appended-returns-in_default-clause-err : goal.put_appended-returns-in_default-clause-err
-put_appended-returns-in_default-clause-err t c =
-    λ k e a. no_list _ c.in_default.not-List a (c.in_ok-found.ensures.meaning None c.args.world.now tt) (c.in_ok-last.ensures.meaning tt)
-
-pub put_appended-returns-in_err-set_longer-clause-err : goal.put_appended-returns-in_err-set_longer-clause-err
-put_appended-returns-in_err-set_longer-clause-err t c =
-    let p = err_from_is_err_and c.from_residual-in_err-set_longer.result c.from_residual-in_err-set_longer.ensures.1 in
-    rw (p.1, p.2) (λ k e a. subst (SettlesAs Faults (context_of c.args.stack.now None) e (state_of c.args.self.now c.args.world.now c.args.active.now) (failure_of c.in_err-set_longer.field-0.0)) (same_state (sym (c.in_err-set_longer.ensures.kept k)) refl) (past_limits c.in-List.list a (rw c.in-List.is at (c.in_ok-found.ensures.meaning None c.args.world.now tt)) (c.in_ok-last.ensures.meaning tt) (c.in_err-set_longer.ensures.err k)))
-
-pub evaluate_alone-returns-in-Some-as_appended-clause-meaning : goal.evaluate_alone-returns-in-Some-as_appended-clause-meaning
-evaluate_alone-returns-in-Some-as_appended-clause-meaning t c = λ k. rw c.in-Some.ensures (c.append.ensures.meaning _ c.in-Some-as_appended.ensures k)
+    rw (p.1, p.2) (λ k. subst (λ s. Computes Faults (context_of c.args.stack.now None) (program.list (splice (variable c.args.name.now) (element (source c.args.last.now) no_items))) (state_of c.args.self.now c.args.world.now c.args.active.now) (Err (failure_of c.in_err-set_longer.field-0.0)) s) (same_state (sym (c.in_err-set_longer.ensures.kept k)) refl) (too_long c.in-List.list (rw c.in-List.is at (c.in_ok-found.ensures.meaning None c.args.world.now tt)) (c.in_ok-last.ensures.meaning tt) (c.in_err-set_longer.ensures.err k)))
 
 pub set_place-returns-in-Ok-clause-meaning : goal.set_place-returns-in-Ok-clause-meaning
 set_place-returns-in-Ok-clause-meaning t c =
@@ -866,19 +961,13 @@ put_at-returns-in_err-value-clause-err t c =
 pub put_at-returns-in_err-set_at-clause-err : goal.put_at-returns-in_err-set_at-clause-err
 put_at-returns-in_err-set_at-clause-err t c =
     let p = err_from_is_err_and c.from_residual-in_err-set_at.result c.from_residual-in_err-set_at.ensures.1 in
-    rw (p.1, p.2) (λ k. subst (λ s. Computes Faults (context_of c.args.stack.now None) (sets_place c.args.name.now (expression c.args.place.now) (expression c.args.value.now)) (state_of c.args.self.now c.args.world.now c.args.active.now) (Err (failure_of c.in_err-set_at.field-0.0)) s) (same_state (sym (c.in_err-set_at.ensures.kept k)) refl) (not_put (c.in_ok-container.ensures.value tt) (c.in_ok-place.ensures.meaning tt) (c.in_ok-value.ensures.meaning tt) (c.in_err-set_at.ensures.err k)))
+    rw (p.1, p.2) (λ k. subst (λ s. Computes Faults (context_of c.args.stack.now None) (sets_place c.args.name.now (source c.args.place.now) (source c.args.value.now)) (state_of c.args.self.now c.args.world.now c.args.active.now) (Err (failure_of c.in_err-set_at.field-0.0)) s) (same_state (sym (c.in_err-set_at.ensures.kept k)) refl) (not_put (c.in_ok-container.ensures.value tt) (c.in_ok-place.ensures.meaning tt) (c.in_ok-value.ensures.meaning tt) (c.in_err-set_at.ensures.err k)))
 
-pub evaluate_alone-returns-in-Some-as_place_assignment-clause-meaning : goal.evaluate_alone-returns-in-Some-as_place_assignment-clause-meaning
-evaluate_alone-returns-in-Some-as_place_assignment-clause-meaning t c = λ k. rw c.in-Some-as_place_assignment.ensures (c.set_place.ensures.meaning k)
+pub drop_value-returns-clause-meaning : goal.drop_value-returns-clause-meaning
+drop_value-returns-clause-meaning t c = λ k. evaluates (c.in_ok-_value.ensures.meaning tt) refl
 
-pub evaluate_alone-returns-in-Some-clause-meaning : goal.evaluate_alone-returns-in-Some-clause-meaning
-evaluate_alone-returns-in-Some-clause-meaning t c = λ k. rw c.in-Some.ensures (c.assign_alone.ensures.meaning k)
-
-pub evaluate_alone-returns-clause-meaning : goal.evaluate_alone-returns-clause-meaning
-evaluate_alone-returns-clause-meaning t c = λ k. evaluates (c.in_ok-_value.ensures.meaning tt) refl
-
-pub evaluate_alone-returns-in_err-_value-clause-meaning : goal.evaluate_alone-returns-in_err-_value-clause-meaning
-evaluate_alone-returns-in_err-_value-clause-meaning t c =
+pub drop_value-returns-in_err-_value-clause-meaning : goal.drop_value-returns-in_err-_value-clause-meaning
+drop_value-returns-in_err-_value-clause-meaning t c =
     let p = err_from_is_err_and c.from_residual.result c.from_residual.ensures.1 in
     rw (p.1, p.2) (λ k. evaluates (c.in_err-_value.ensures.meaning k) refl)
 
@@ -928,168 +1017,215 @@ pub store-returns-in-Variable-clause-meaning : goal.store-returns-in-Variable-cl
 store-returns-in-Variable-clause-meaning t c =
     λ k. rw c.in-Variable.is (rw c.in_ok-value.ensures.value at (c.store_variable.ensures (context_of c.args.stack.now c.args.indexed) c.args.world.now k))
 
-pub end_turn-returns-clause-meaning : goal.end_turn-returns-clause-meaning
-end_turn-returns-clause-meaning t c =
-    λ k. record { outcome = Ok (flow_of c.in_ok-flow.flow); runs = c.in_ok-flow.ensures.meaning tt; leads = sym c.after_turn.ensures }
+pub repeat-returns-then-not-passes-clause-meaning : goal.repeat-returns-then-not-passes-clause-meaning
+repeat-returns-then-not-passes-clause-meaning t c =
+    λ k. c.turns.invariant.rest (Ok next) _ (loop_ends c.in_ok-passes.ensures.ok.1 (c.in_ok-passes.ensures.ok.2 ∙ c.if-not-passes.true))
 
-pub end_turn-returns-in-Next-clause-meaning : goal.end_turn-returns-in-Next-clause-meaning
-end_turn-returns-in-Next-clause-meaning t c =
-    λ k. record { outcome = Ok next; runs = rw c.in-Next.is at (c.in_ok-flow.ensures.meaning tt); leads = refl }
-
-pub end_turn-returns-in_err-flow-clause-meaning : goal.end_turn-returns-in_err-flow-clause-meaning
-end_turn-returns-in_err-flow-clause-meaning t c =
-    let p = err_from_is_err_and c.from_residual.result c.from_residual.ensures.1 in rw (p.1, p.2) (λ k. record { outcome = Err (stop_of c.in_err-flow.field-0.0); runs = c.in_err-flow.ensures.meaning k; leads = refl })
-
-pub repeat-returns-in_err-flow-clause-meaning : goal.repeat-returns-in_err-flow-clause-meaning
-repeat-returns-in_err-flow-clause-meaning t c =
-    let p = err_from_is_err_and c.from_residual-in_err-flow.result c.from_residual-in_err-flow.ensures.1 in rw (p.1, p.2) (λ k. c.turns.invariant.rest (Err (stop_of c.in_err-flow.field-0.0)) _ ((rw c.in-Some.is at c.in_ok-left.ensures.within) c.args.own.now _ _ (turn_left (rw c.as_ref.ensures.value at (c.in_err-flow.ensures.meaning k)))))
-
-pub repeat-returns-in-Some-2-clause-meaning : goal.repeat-returns-in-Some-2-clause-meaning
-repeat-returns-in-Some-2-clause-meaning t c =
-    λ k. c.turns.invariant.rest (Ok (flow_of c.in-Some-2.flow)) _ ((rw c.in-Some.is at c.in_ok-left.ensures.within) c.args.own.now _ _ (turn_left (rw (c.in-Some-2.is, c.as_ref.ensures.value) at (c.in_ok-flow.ensures.meaning tt))))
-
-pub repeat-turns-preserved-in-Some : goal.repeat-turns-preserved-in-Some
-repeat-turns-preserved-in-Some t c =
-    record { ticks = omega arith; rest = λ o s d. c.turns.invariant.rest o s ((rw c.in-Some.is at c.in_ok-left.ensures.within) c.args.own.now o s (turn_done (rw (c.in_default-2.is, c.as_ref.ensures.value) at (c.in_ok-flow.ensures.meaning tt)) d)) }
+pub repeat-returns-in-Some-clause-meaning : goal.repeat-returns-in-Some-clause-meaning
+repeat-returns-in-Some-clause-meaning t c =
+    λ k. c.turns.invariant.rest (Ok (flow_of c.in-Some.flow)) _ (loop_left c.in_ok-passes.ensures.ok.1 (c.in_ok-passes.ensures.ok.2 ∙ c.if-not-passes.false) (rw c.in-Some.is at (c.in_ok-flow.ensures.meaning tt)))
 
 pub repeat-returns-in_err-passes-clause-meaning : goal.repeat-returns-in_err-passes-clause-meaning
 repeat-returns-in_err-passes-clause-meaning t c =
-    let p = err_from_is_err_and c.from_residual-in_err-passes.result c.from_residual-in_err-passes.ensures.1 in rw (p.1, p.2) (λ k. c.turns.invariant.rest (Err (stop_of c.in_err-passes.field-0.0)) _ ((rw c.in_default.is at c.in_ok-left.ensures.before) c.args.own.now _ _ (loop_stops (c.in_err-passes.ensures.err k))))
-
-pub repeat-returns-then-not-passes-clause-meaning : goal.repeat-returns-then-not-passes-clause-meaning
-repeat-returns-then-not-passes-clause-meaning t c =
-    λ k. c.turns.invariant.rest (Ok next) _ ((rw c.in_default.is at c.in_ok-left.ensures.before) c.args.own.now _ _ (loop_ends c.in_ok-passes.ensures.ok.1 (c.in_ok-passes.ensures.ok.2 ∙ c.if-not-passes.true)))
-
-pub repeat-returns-in_err-flow-2-clause-meaning : goal.repeat-returns-in_err-flow-2-clause-meaning
-repeat-returns-in_err-flow-2-clause-meaning t c =
-    let p = err_from_is_err_and c.from_residual-in_err-flow-2.result c.from_residual-in_err-flow-2.ensures.1 in rw (p.1, p.2) (λ k. c.turns.invariant.rest (Err (stop_of c.in_err-flow-2.field-0.0)) _ ((rw c.in_default.is at c.in_ok-left.ensures.before) c.args.own.now _ _ (loop_left c.in_ok-passes.ensures.ok.1 (c.in_ok-passes.ensures.ok.2 ∙ c.if-not-passes.false) (c.in_err-flow-2.ensures.meaning k))))
-
-pub repeat-returns-in-Some-3-clause-meaning : goal.repeat-returns-in-Some-3-clause-meaning
-repeat-returns-in-Some-3-clause-meaning t c =
-    λ k. c.turns.invariant.rest (Ok (flow_of c.in-Some-3.flow)) _ ((rw c.in_default.is at c.in_ok-left.ensures.before) c.args.own.now _ _ (loop_left c.in_ok-passes.ensures.ok.1 (c.in_ok-passes.ensures.ok.2 ∙ c.if-not-passes.false) (rw c.in-Some-3.is at (c.in_ok-flow-2.ensures.meaning tt))))
+    let p = err_from_is_err_and c.from_residual.result c.from_residual.ensures.1 in rw (p.1, p.2) (λ k. c.turns.invariant.rest (Err (stop_of c.in_err-passes.field-0.0)) _ (loop_stops (c.in_err-passes.ensures.err k)))
 
 pub repeat-turns-preserved : goal.repeat-turns-preserved
 repeat-turns-preserved t c =
-    record { ticks = omega arith; rest = λ o s d. c.turns.invariant.rest o s ((rw c.in_default.is at c.in_ok-left.ensures.before) c.args.own.now o s (loop_then c.in_ok-passes.ensures.ok.1 (c.in_ok-passes.ensures.ok.2 ∙ c.if-not-passes.false) (rw c.in_default-3.is at (c.in_ok-flow-2.ensures.meaning tt)) d)) }
+    record { ticks = omega arith; rest = λ o s d. c.turns.invariant.rest o s (loop_then c.in_ok-passes.ensures.ok.1 (c.in_ok-passes.ensures.ok.2 ∙ c.if-not-passes.false) (rw (none_left c.in_ok-flow.field-0 c.in_default.not-Some) at (c.in_ok-flow.ensures.meaning tt)) d) }
+
+pub repeat-returns-in_err-flow-clause-meaning : goal.repeat-returns-in_err-flow-clause-meaning
+repeat-returns-in_err-flow-clause-meaning t c =
+    let p = err_from_is_err_and c.from_residual-in_err-flow.result c.from_residual-in_err-flow.ensures.1 in rw (p.1, p.2) (λ k. c.turns.invariant.rest (Err (stop_of c.in_err-flow.field-0.0)) _ (loop_left c.in_ok-passes.ensures.ok.1 (c.in_ok-passes.ensures.ok.2 ∙ c.if-not-passes.false) (c.in_err-flow.ensures.meaning k)))
+
+pub visit_all-returns-clause-meaning : goal.visit_all-returns-clause-meaning
+visit_all-returns-clause-meaning t c =
+    λ k. c.loop-value.invariant.rest (Ok next) _ (rw (drop_of_length-le c.args.values.now c.loop-value-test.false) all_visited)
+
+pub visit_all-returns-in-Some-clause-meaning : goal.visit_all-returns-in-Some-clause-meaning
+visit_all-returns-in-Some-clause-meaning t c =
+    λ k. c.loop-value.invariant.rest (Ok (flow_of c.in-Some.flow)) _ (rw (drop_next c.args.values.now c.loop-value.value-index c.value-item.result c.loop-value-test.true c.value-item.is) (visit_left (rw (c.in-Some.is, c.in_ok-value.ensures.value) at (c.in_ok-flow.ensures.meaning tt))))
+
+pub visit_all-loop-value-preserved : goal.visit_all-loop-value-preserved
+visit_all-loop-value-preserved t c =
+    record { ticks = omega arith; rest = λ o s d. c.loop-value.invariant.rest o s (rw (drop_next c.args.values.now c.loop-value.value-index c.value-item.result c.loop-value-test.true c.value-item.is) (visit_then (rw ((none_left c.in_ok-flow.field-0 c.in_default.not-Some), c.in_ok-value.ensures.value) at (c.in_ok-flow.ensures.meaning tt)) d)) }
 
 pub visit_all-returns-in_err-flow-clause-meaning : goal.visit_all-returns-in_err-flow-clause-meaning
 visit_all-returns-in_err-flow-clause-meaning t c =
-    let p = err_from_is_err_and c.from_residual-in_err-flow.result c.from_residual-in_err-flow.ensures.1 in rw (p.1, p.2) (λ k. c.values.invariant.rest (Err (stop_of c.in_err-flow.field-0.0)) _ ((rw c.in-Some.is at c.in_ok-left.ensures.within) _ _ (turn_left (rw c.text.ensures at (c.in_err-flow.ensures.meaning k)))))
-
-pub visit_all-returns-in_err-flow-2-clause-meaning : goal.visit_all-returns-in_err-flow-2-clause-meaning
-visit_all-returns-in_err-flow-2-clause-meaning t c =
-    let found = c.in-Some-get.ensures.lookup in
-    let p = err_from_is_err_and c.from_residual-in_err-flow-2.result c.from_residual-in_err-flow-2.ensures.1 in rw (p.1, p.2) (λ k. c.values.invariant.rest (Err (stop_of c.in_err-flow-2.field-0.0)) _ ((rw c.in_default.is at c.in_ok-left.ensures.before) _ _ (rw (drop_next c.args.values.now c.values_ahead.new.next c.in-Some-get.value.now found.3.0 found.1) (visit_left (rw c.in_ok-value.ensures.value at (c.in_err-flow-2.ensures.meaning k))))))
-
-pub visit_all-returns-in_default-get-clause-meaning : goal.visit_all-returns-in_default-get-clause-meaning
-visit_all-returns-in_default-get-clause-meaning t c =
-    λ k. c.values.invariant.rest (Ok next) _ ((rw c.in_default.is at c.in_ok-left.ensures.before) _ _ (rw (drop_of_length-le c.args.values.now c.in_default-get.ensures.lookup.3) all_visited))
-
-pub visit_all-returns-in-Some-flow-clause-meaning : goal.visit_all-returns-in-Some-flow-clause-meaning
-visit_all-returns-in-Some-flow-clause-meaning t c =
-    elim c.match-left.branch [
-      | visit_all-in-Some+in_ok-flow w ↦ λ k. rw (w.self-is, w.world-is, w.active-is) (c.values.invariant.rest (Ok (flow_of c.in-Some-flow.flow)) _ ((rw w.in-Some.is at c.in_ok-left.ensures.within) _ _ (turn_left (rw (sym w.flow-is ∙ c.in-Some-flow.is, w.text.ensures) at (w.in_ok-flow.ensures.meaning tt)))))
-      | visit_all-in_default+in-Some-get+in_ok-value+in_ok-flow-2 w ↦ λ k.
-          let found = w.in-Some-get.ensures.lookup in
-          rw (w.self-is, w.world-is, w.active-is) (c.values.invariant.rest (Ok (flow_of c.in-Some-flow.flow)) _ ((rw w.in_default.is at c.in_ok-left.ensures.before) _ _ (rw (drop_next c.args.values.now c.values_ahead.new.next w.in-Some-get.value.now found.3.0 found.1) (visit_left (rw (sym w.flow-is ∙ c.in-Some-flow.is, w.in_ok-value.ensures.value) at (w.in_ok-flow-2.ensures.meaning tt))))))
-    ]
-
-pub visit_all-values-preserved : goal.visit_all-values-preserved
-visit_all-values-preserved t c =
-    elim c.match-left.branch [
-      | visit_all-in-Some+in_ok-flow w ↦ record {
-        ticks = omega (arith, ap (λ (x : Task). x.ticks_left) w.self-is);
-        rest = λ o s d. c.values.invariant.rest o s ((rw w.in-Some.is at c.in_ok-left.ensures.within) o s (turn_done (rw (sym w.flow-is ∙ c.in_default-flow.is, w.text.ensures) at (w.in_ok-flow.ensures.meaning tt)) (rw (w.self-is, w.world-is, w.active-is) at d)));
-      }
-      | visit_all-in_default+in-Some-get+in_ok-value+in_ok-flow-2 w ↦ record {
-        ticks = omega (arith, ap (λ (x : Task). x.ticks_left) w.self-is);
-        rest = λ o s d.
-            let found = w.in-Some-get.ensures.lookup in
-            c.values.invariant.rest o s ((rw w.in_default.is at c.in_ok-left.ensures.before) o s (rw (drop_next c.args.values.now c.values_ahead.new.next w.in-Some-get.value.now found.3.0 found.1) (visit_then (rw (sym w.flow-is ∙ c.in_default-flow.is, w.in_ok-value.ensures.value) at (w.in_ok-flow-2.ensures.meaning tt)) (rw (w.self-is, w.world-is, w.active-is) at d))));
-      }
-    ]
+    let p = err_from_is_err_and c.from_residual-in_err-flow.result c.from_residual-in_err-flow.ensures.1 in rw (p.1, p.2) (λ k. c.loop-value.invariant.rest (Err (stop_of c.in_err-flow.field-0.0)) _ (rw (drop_next c.args.values.now c.loop-value.value-index c.value-item.result c.loop-value-test.true c.value-item.is) (visit_left (rw c.in_ok-value.ensures.value at (c.in_err-flow.ensures.meaning k)))))
 
 pub count-returns-in_err-flow-clause-meaning : goal.count-returns-in_err-flow-clause-meaning
 count-returns-in_err-flow-clause-meaning t c =
-    let p = err_from_is_err_and c.from_residual-in_err-flow.result c.from_residual-in_err-flow.ensures.1 in rw (p.1, p.2) (λ k. c.numbers.invariant.rest (Err (stop_of c.in_err-flow.field-0.0)) _ ((rw c.in-Some.is at c.in_ok-left.ensures.within) _ _ (turn_left (rw c.text.ensures at (c.in_err-flow.ensures.meaning k)))))
+    let p = err_from_is_err_and c.from_residual.result c.from_residual.ensures.1 in rw (p.1, p.2) (λ k. let f : SFits w32 c.args.span.low = search rules in let g : SFits w32 c.args.span.high = search rules in let h = reached (to_z w64 c.numbers.number-bits) c.from.result c.args.span.high true g c.from.ensures c.numbers-test.true in let e = c.value-value.ensures ∙ ap (numbered c.args.span.are_objects) (narrow c.args.span.low c.args.span.high (to_z w64 c.numbers.number-bits) f g c.numbers.invariant.low h) in c.numbers.invariant.rest (Err (stop_of c.in_err-flow.field-0.0)) _ (count_left h (rw e at (c.in_err-flow.ensures.meaning k))))
 
-pub count-overflow_cast-number : goal.count-overflow_cast-number
-count-overflow_cast-number t c =
-    let f : SFits w32 c.args.span.low = search rules in
-    let g : SFits w32 c.args.span.high = search rules in
-    let wide : SFits w64 c.numbers_ahead.new.next = c.numbers_ahead.ensures.fits in
-    let same = to_z-of_z w64 c.numbers_ahead.new.next wide in
-    let low = not_before c.args.span.low _ c.numbers_ahead.new.next c.numbers.invariant.low c.in_ok-left.ensures.later in
-    rw same (between c.args.span.low c.args.span.high c.numbers_ahead.new.next f g low (reached c.numbers_ahead.new.next c.from.result c.args.span.high true g c.from.ensures (rw same at c.if-number-from.true)))
-
-pub count-returns-in_err-flow-2-clause-meaning : goal.count-returns-in_err-flow-2-clause-meaning
-count-returns-in_err-flow-2-clause-meaning t c =
-    let f : SFits w32 c.args.span.low = search rules in
-    let g : SFits w32 c.args.span.high = search rules in
-    let wide : SFits w64 c.numbers_ahead.new.next = c.numbers_ahead.ensures.fits in
-    let same = to_z-of_z w64 c.numbers_ahead.new.next wide in
-    let low = not_before c.args.span.low _ c.numbers_ahead.new.next c.numbers.invariant.low c.in_ok-left.ensures.later in
-    let h = reached c.numbers_ahead.new.next c.from.result c.args.span.high true g c.from.ensures (rw same at c.if-number-from.true) in
-    let e = c.value-value.ensures ∙ ap (λ x. numbered c.args.span.are_objects (to_z w32 (of_z w32 x))) same ∙ ap (numbered c.args.span.are_objects) (narrow c.args.span.low c.args.span.high c.numbers_ahead.new.next f g low h) in
-    let p = err_from_is_err_and c.from_residual-in_err-flow-2.result c.from_residual-in_err-flow-2.ensures.1 in rw (p.1, p.2) (λ k. c.numbers.invariant.rest (Err (stop_of c.in_err-flow-2.field-0.0)) _ ((rw c.in_default.is at c.in_ok-left.ensures.before) _ _ (count_left h (rw e at (c.in_err-flow-2.ensures.meaning k)))))
-
-pub count-returns-else-number-from-clause-meaning : goal.count-returns-else-number-from-clause-meaning
-count-returns-else-number-from-clause-meaning t c =
-    let g : SFits w32 c.args.span.high = search rules in
-    let wide : SFits w64 c.numbers_ahead.new.next = c.numbers_ahead.ensures.fits in
-    let same = to_z-of_z w64 c.numbers_ahead.new.next wide in
-    λ k. c.numbers.invariant.rest (Ok next) _ ((rw c.in_default.is at c.in_ok-left.ensures.before) _ _ (all_counted (reached c.numbers_ahead.new.next c.from.result c.args.span.high false g c.from.ensures (rw same at c.if-number-from.false))))
-
-pub count-returns-in-Some-flow-clause-meaning : goal.count-returns-in-Some-flow-clause-meaning
-count-returns-in-Some-flow-clause-meaning t c =
-    let f : SFits w32 c.args.span.low = search rules in
-    let g : SFits w32 c.args.span.high = search rules in
-    let wide : SFits w64 c.numbers_ahead.new.next = c.numbers_ahead.ensures.fits in
-    let same = to_z-of_z w64 c.numbers_ahead.new.next wide in
-    let low = not_before c.args.span.low _ c.numbers_ahead.new.next c.numbers.invariant.low c.in_ok-left.ensures.later in
-    elim c.match-left.branch [
-      | count-in-Some+in_ok-flow w ↦ λ k. rw (w.self-is, w.world-is, w.active-is) (c.numbers.invariant.rest (Ok (flow_of c.in-Some-flow.flow)) _ ((rw w.in-Some.is at c.in_ok-left.ensures.within) _ _ (turn_left (rw (sym w.flow-is ∙ c.in-Some-flow.is, w.text.ensures) at (w.in_ok-flow.ensures.meaning tt)))))
-      | count-in_default+then-number-from+in_ok-flow-2 w ↦ λ k.
-          let h = reached c.numbers_ahead.new.next w.from.result c.args.span.high true g w.from.ensures (rw same at w.if-number-from.true) in
-          let e = w.value-value.ensures ∙ ap (λ x. numbered c.args.span.are_objects (to_z w32 (of_z w32 x))) same ∙ ap (numbered c.args.span.are_objects) (narrow c.args.span.low c.args.span.high c.numbers_ahead.new.next f g low h) in
-          rw (w.self-is, w.world-is, w.active-is) (c.numbers.invariant.rest (Ok (flow_of c.in-Some-flow.flow)) _ ((rw w.in_default.is at c.in_ok-left.ensures.before) _ _ (count_left h (rw (sym w.flow-is ∙ c.in-Some-flow.is, e) at (w.in_ok-flow-2.ensures.meaning tt)))))
-    ]
-
-pub count-overflow_add-number : goal.count-overflow_add-number
-count-overflow_add-number t c =
-    let f : SFits w32 c.args.span.low = search rules in
-    let g : SFits w32 c.args.span.high = search rules in
-    let wide : SFits w64 c.numbers_ahead.new.next = c.numbers_ahead.ensures.fits in
-    let same = to_z-of_z w64 c.numbers_ahead.new.next wide in
-    let low = not_before c.args.span.low _ c.numbers_ahead.new.next c.numbers.invariant.low c.in_ok-left.ensures.later in
-    elim c.match-left.branch [
-      | count-in-Some+in_ok-flow w ↦ rw same (after c.numbers_ahead.new.next (between c.args.span.low c.args.span.high c.numbers_ahead.new.next f g low (rw w.in-Some.is at c.in_ok-left.ensures.high)))
-      | count-in_default+then-number-from+in_ok-flow-2 w ↦ rw same (after c.numbers_ahead.new.next (between c.args.span.low c.args.span.high c.numbers_ahead.new.next f g low (reached c.numbers_ahead.new.next w.from.result c.args.span.high true g w.from.ensures (rw same at w.if-number-from.true))))
-    ]
+pub count-returns-in-Some-clause-meaning : goal.count-returns-in-Some-clause-meaning
+count-returns-in-Some-clause-meaning t c =
+    λ k. let f : SFits w32 c.args.span.low = search rules in let g : SFits w32 c.args.span.high = search rules in let h = reached (to_z w64 c.numbers.number-bits) c.from.result c.args.span.high true g c.from.ensures c.numbers-test.true in let e = c.value-value.ensures ∙ ap (numbered c.args.span.are_objects) (narrow c.args.span.low c.args.span.high (to_z w64 c.numbers.number-bits) f g c.numbers.invariant.low h) in c.numbers.invariant.rest (Ok (flow_of c.in-Some.flow)) _ (count_left h (rw (c.in-Some.is, e) at (c.in_ok-flow.ensures.meaning tt)))
 
 pub count-numbers-preserved : goal.count-numbers-preserved
 count-numbers-preserved t c =
-    let f : SFits w32 c.args.span.low = search rules in
-    let g : SFits w32 c.args.span.high = search rules in
-    let wide : SFits w64 c.numbers_ahead.new.next = c.numbers_ahead.ensures.fits in
-    let same = to_z-of_z w64 c.numbers_ahead.new.next wide in
-    let low = not_before c.args.span.low _ c.numbers_ahead.new.next c.numbers.invariant.low c.in_ok-left.ensures.later in
-    elim c.match-left.branch [
-      | count-in-Some+in_ok-flow w ↦
-          let h = rw w.in-Some.is at c.in_ok-left.ensures.high in
-          let q = ap (λ x. to_z w64 (of_z w64 (x +ℤ pos 1))) same ∙ next_number c.args.span.low c.args.span.high c.numbers_ahead.new.next f g low h in
-          record {
-            ticks = omega (arith, ap (λ (x : Task). x.ticks_left) w.self-is);
-            low = subst (λ x. c.args.span.low ≤ℤ x) (sym q) (not_below c.args.span.low c.numbers_ahead.new.next low);
-            rest = λ o s d. c.numbers.invariant.rest o s ((rw w.in-Some.is at c.in_ok-left.ensures.within) o s (turn_done (rw (sym w.flow-is ∙ c.in_default-flow.is, w.text.ensures) at (w.in_ok-flow.ensures.meaning tt)) (subst (λ x. Counts Faults (context_of c.args.stack.now None) c.args.name.now c.args.span x (block c.args.body.now) (state_of w.end_turn.new.self w.end_turn.new.world w.end_turn.new.active) o s) q (rw (w.self-is, w.world-is, w.active-is) at d))));
-          }
-      | count-in_default+then-number-from+in_ok-flow-2 w ↦
-          let h = reached c.numbers_ahead.new.next w.from.result c.args.span.high true g w.from.ensures (rw same at w.if-number-from.true) in
-          let e = w.value-value.ensures ∙ ap (λ x. numbered c.args.span.are_objects (to_z w32 (of_z w32 x))) same ∙ ap (numbered c.args.span.are_objects) (narrow c.args.span.low c.args.span.high c.numbers_ahead.new.next f g low h) in
-          let q = ap (λ x. to_z w64 (of_z w64 (x +ℤ pos 1))) same ∙ next_number c.args.span.low c.args.span.high c.numbers_ahead.new.next f g low h in
-          record {
-            ticks = omega (arith, ap (λ (x : Task). x.ticks_left) w.self-is);
-            low = subst (λ x. c.args.span.low ≤ℤ x) (sym q) (not_below c.args.span.low c.numbers_ahead.new.next low);
-            rest = λ o s d. c.numbers.invariant.rest o s ((rw w.in_default.is at c.in_ok-left.ensures.before) o s (count_then h (rw (sym w.flow-is ∙ c.in_default-flow.is, e) at (w.in_ok-flow-2.ensures.meaning tt)) (subst (λ x. Counts Faults (context_of c.args.stack.now None) c.args.name.now c.args.span x (block c.args.body.now) (state_of w.visit.new.self w.visit.new.world w.visit.new.active) o s) q (rw (w.self-is, w.world-is, w.active-is) at d))));
-          }
-    ]
+    let f : SFits w32 c.args.span.low = search rules in let g : SFits w32 c.args.span.high = search rules in let h = reached (to_z w64 c.numbers.number-bits) c.from.result c.args.span.high true g c.from.ensures c.numbers-test.true in let e = c.value-value.ensures ∙ ap (numbered c.args.span.are_objects) (narrow c.args.span.low c.args.span.high (to_z w64 c.numbers.number-bits) f g c.numbers.invariant.low h) in let q = next_number c.args.span.low c.args.span.high (to_z w64 c.numbers.number-bits) f g c.numbers.invariant.low h in record { ticks = omega arith; low = subst (λ x. c.args.span.low ≤ℤ x) (sym q) (not_below c.args.span.low (to_z w64 c.numbers.number-bits) c.numbers.invariant.low); rest = λ o s d. c.numbers.invariant.rest o s (count_then h (rw (c.in_default.is, e) at (c.in_ok-flow.ensures.meaning tt)) (subst (λ x. Counts Faults (context_of c.args.stack.now None) c.args.name.now c.args.span x (source_block c.args.body.now) (state_of c.visit.new.self c.visit.new.world c.visit.new.active) o s) q d)) }
+
+pub count-returns-clause-meaning : goal.count-returns-clause-meaning
+count-returns-clause-meaning t c =
+    λ k. let g : SFits w32 c.args.span.high = search rules in let h = reached (to_z w64 c.numbers.number-bits) c.from.result c.args.span.high false g c.from.ensures c.numbers-test.false in c.numbers.invariant.rest (Ok next) _ (all_counted h)
+
+pub verb_call-returns-in_err-base-clause-meaning : goal.verb_call-returns-in_err-base-clause-meaning
+verb_call-returns-in_err-base-clause-meaning t c =
+    let p = err_from_is_err_and c.from_residual.result c.from_residual.ensures.1 in rw (p.1, p.2) (λ k. operands_end (element_stops (c.in_err-base.ensures.meaning k)))
+
+pub verb_call-returns-in_err-name-clause-meaning : goal.verb_call-returns-in_err-name-clause-meaning
+verb_call-returns-in_err-name-clause-meaning t c =
+    let p = err_from_is_err_and c.from_residual-in_err-name.result c.from_residual-in_err-name.ensures.1 in rw (p.1, p.2) (λ k. operands_end (element_then (c.in_ok-base.ensures.meaning tt) (element_stops (c.in_err-name.ensures.meaning k)) refl))
+
+pub verb_call-returns-in_err-values-clause-meaning : goal.verb_call-returns-in_err-values-clause-meaning
+verb_call-returns-in_err-values-clause-meaning t c =
+    let p = err_from_is_err_and c.from_residual-in_err-values.result c.from_residual-in_err-values.ensures.1 in rw (p.1, p.2) (λ k. operands_end (element_then (c.in_ok-base.ensures.meaning tt) (element_then (c.in_ok-name.ensures.meaning tt) (c.in_err-values.ensures.meaning k) refl) refl))
+
+pub verb_call-returns-clause-meaning : goal.verb_call-returns-clause-meaning
+verb_call-returns-clause-meaning t c =
+    λ k. applies (element_then (c.in_ok-base.ensures.meaning tt) (element_then (c.in_ok-name.ensures.meaning tt) (c.in_ok-values.ensures.meaning tt) refl) refl) no_more (c.call_verb.ensures.meaning c.args.indexed (source c.args.base.now) (source c.args.name.now) (source_items c.args.items.now) k)
+
+pub run_called-returns-clause-meaning : goal.run_called-returns-clause-meaning
+run_called-returns-clause-meaning t c =
+    λ caller k. record { outcome = _; last = _; runs = runs_at c.code-statements.ensures (c.run_all.ensures.meaning (c.answered.ensures.known k)); leaves = refl; gives = c.answered.ensures.answer }
+
+pub evaluate_node-returns-in-Variable-clause-meaning : goal.evaluate_node-returns-in-Variable-clause-meaning
+evaluate_node-returns-in-Variable-clause-meaning t c =
+    λ k. rw c.in-Variable.is (c.variable.ensures.meaning c.args.indexed c.args.world.now k)
+
+pub run-returns-clause-meaning : goal.run-returns-clause-meaning
+run-returns-clause-meaning t c =
+    λ k. statement_begins c.in_ok-take_tick.ensures.taken (rw c.in_ok-take_tick.ensures.left at (c.perform.ensures.meaning k))
+
+pub run-returns-in_err-take_tick-clause-meaning : goal.run-returns-in_err-take_tick-clause-meaning
+run-returns-in_err-take_tick-clause-meaning t c =
+    let p = err_from_is_err_and c.from_residual.result c.from_residual.ensures.1 in rw (p.1, p.2) (λ k. let h = c.in_err-take_tick.ensures.spent k in rw (c.in_err-take_tick.ensures.kept, h.1) (statement_spent h.0))
+
+pub run_called-returns-clause-fewer : goal.run_called-returns-clause-fewer
+run_called-returns-clause-fewer t c =
+    λ begins. comes_on _ c.answered.result c.run_all.result c.answered.ensures.comes (on_ok_weaker c.run_all.result (λ h. h (λ e. begins (sym c.code-statements.ensures ∙ e))) c.run_all.ensures.fewer)
+
+pub perform-returns-in-Set-clause-meaning : goal.perform-returns-in-Set-clause-meaning
+perform-returns-in-Set-clause-meaning t c =
+    λ k. rw (c.in-Set.is, ← c.deref-in-Set.ensures) (c.assign_alone.ensures.meaning k)
+
+pub perform-returns-in-Lengthen-clause-meaning : goal.perform-returns-in-Lengthen-clause-meaning
+perform-returns-in-Lengthen-clause-meaning t c =
+    λ k. rw (c.in-Lengthen.is, ← c.deref-in-Lengthen.ensures) (c.lengthen.ensures.meaning k)
+
+pub perform-returns-in-Put-clause-meaning : goal.perform-returns-in-Put-clause-meaning
+perform-returns-in-Put-clause-meaning t c =
+    λ k. rw (c.in-Put.is, ← c.deref-in-Put.ensures, ← c.deref-in-Put-2.ensures) (c.set_place.ensures.meaning k)
+
+pub assign-returns-in-Variable-clause-meaning : goal.assign-returns-in-Variable-clause-meaning
+assign-returns-in-Variable-clause-meaning t c = λ k. rw c.in-Variable.is (c.assign_variable.ensures.meaning k)
+
+pub evaluate_node-returns-in-Integer-clause-meaning : goal.evaluate_node-returns-in-Integer-clause-meaning
+evaluate_node-returns-in-Integer-clause-meaning t c =
+    let fits : SFits w32 c.in-Integer.number = search rules in
+    λ k. rw c.in-Integer.is (c.literal.ensures.meaning (literal.Integer c.in-Integer.number) c.args.indexed c.args.world.now (ap integer (to_z-of_z w32 c.in-Integer.number fits)) k)
+
+pub evaluate_node-returns-in-Object-clause-meaning : goal.evaluate_node-returns-in-Object-clause-meaning
+evaluate_node-returns-in-Object-clause-meaning t c =
+    let fits : SFits w32 c.in-Object.number = search rules in
+    λ k. rw c.in-Object.is (c.literal-in-Object.ensures.meaning (literal.Object c.in-Object.number) c.args.indexed c.args.world.now (ap object (to_z-of_z w32 c.in-Object.number fits)) k)
+
+pub evaluate_node-returns-in-Error-clause-meaning : goal.evaluate_node-returns-in-Error-clause-meaning
+evaluate_node-returns-in-Error-clause-meaning t c =
+    λ k. rw c.in-Error.is (c.literal-in-Error.ensures.meaning (literal.Error c.in-Error.code) c.args.indexed c.args.world.now refl k)
+
+pub evaluate_node-returns-in-Str-clause-meaning : goal.evaluate_node-returns-in-Str-clause-meaning
+evaluate_node-returns-in-Str-clause-meaning t c =
+    λ k. rw c.in-Str.is (c.text.ensures.meaning c.args.indexed c.args.world.now k)
+
+pub drop_assigned-returns-clause-meaning : goal.drop_assigned-returns-clause-meaning
+drop_assigned-returns-clause-meaning t c = λ k. evaluates (c.in_ok-_value.ensures.meaning tt) refl
+
+pub drop_assigned-returns-in_err-_value-clause-meaning : goal.drop_assigned-returns-in_err-_value-clause-meaning
+drop_assigned-returns-in_err-_value-clause-meaning t c =
+    let p = err_from_is_err_and c.from_residual.result c.from_residual.ensures.1 in
+    rw (p.1, p.2) (λ k. evaluates (c.in_err-_value.ensures.meaning k) refl)
+
+pub set_property-returns-in_ok-_error-in-Err-clause-meaning : goal.set_property-returns-in_ok-_error-in-Err-clause-meaning
+set_property-returns-in_ok-_error-in-Err-clause-meaning t c =
+    λ k. passed_over c.in_ok-take_tick.ensures.taken (rw c.in_ok-take_tick.ensures.left at (c.in-Err.ensures.err (c.in_ok-_error-in-Err.ensures.known tt))) (c.in_ok-_error-in-Err.ensures.outcome tt)
+
+pub set_property-returns-in_err-_error-in-Err-clause-meaning : goal.set_property-returns-in_err-_error-in-Err-clause-meaning
+set_property-returns-in_err-_error-in-Err-clause-meaning t c =
+    let p = err_from_is_err_and c.from_residual-in_err-_error-in-Err.result c.from_residual-in_err-_error-in-Err.ensures.1 in rw (p.1, p.2) (λ k. stopped c.in_ok-take_tick.ensures.taken (rw c.in_ok-take_tick.ensures.left at (c.in-Err.ensures.err (c.in_err-_error-in-Err.ensures.known k))) (c.in_err-_error-in-Err.ensures.outcome k))
+
+pub set_property-returns-in_err-take_tick-clause-meaning : goal.set_property-returns-in_err-take_tick-clause-meaning
+set_property-returns-in_err-take_tick-clause-meaning t c =
+    let p = err_from_is_err_and c.from_residual.result c.from_residual.ensures.1 in rw (p.1, p.2) (λ k. let h = c.in_err-take_tick.ensures.spent k in rw (c.in_err-take_tick.ensures.kept, h.1) (evaluates (spent h.0) refl))
+
+pub set_property-returns-in-Ok-clause-meaning : goal.set_property-returns-in-Ok-clause-meaning
+set_property-returns-in-Ok-clause-meaning t c =
+    λ k. performed c.in_ok-take_tick.ensures.taken (rw c.in_ok-take_tick.ensures.left at c.in-Ok.ensures.ok.1)
+
+pub scatter_alone-returns-in_err-take_tick-clause-meaning : goal.scatter_alone-returns-in_err-take_tick-clause-meaning
+scatter_alone-returns-in_err-take_tick-clause-meaning t c =
+    let p = err_from_is_err_and c.from_residual.result c.from_residual.ensures.1 in rw (p.1, p.2) (λ k. let h = c.in_err-take_tick.ensures.spent k in rw (c.in_err-take_tick.ensures.kept, h.1) (evaluates (spent h.0) refl))
+
+pub property-returns-in_err-take_tick-clause-meaning : goal.property-returns-in_err-take_tick-clause-meaning
+property-returns-in_err-take_tick-clause-meaning t c =
+    let p = err_from_is_err_and c.from_residual-in_err-take_tick.result c.from_residual-in_err-take_tick.ensures.1 in rw (p.1, p.2) (λ k. let h = c.in_err-take_tick.ensures.spent k in rw (c.in-Some.ensures, c.in_err-take_tick.ensures.kept, h.1) (operands_end (element_then (c.in_ok-base.ensures.meaning tt) (element_stops (spent h.0)) refl)))
+
+pub property-returns-in-Some-clause-meaning : goal.property-returns-in-Some-clause-meaning
+property-returns-in-Some-clause-meaning t c =
+    λ k. rw (c.in-Some.ensures, c.in_ok-take_tick.ensures.left) (applies (element_then (c.in_ok-base.ensures.meaning tt) (element_then (literal_read c.in_ok-take_tick.ensures.taken) no_more refl) refl) no_more (let f : SFits w32 c.evaluate.new.active.programmer = search rules in property_is (rw (to_z-of_z w32 c.evaluate.new.active.programmer f) at (c.read_written.ensures.value k))))
+
+pub put_property-returns-in_err-base-clause-err : goal.put_property-returns-in_err-base-clause-err
+put_property-returns-in_err-base-clause-err t c =
+    let p = err_from_is_err_and c.from_residual.result c.from_residual.ensures.1 in rw (p.1, p.2) (λ k. property.object_stops (c.in_err-base.ensures.meaning k))
+
+pub put_property-returns-in_err-take_tick-clause-err : goal.put_property-returns-in_err-take_tick-clause-err
+put_property-returns-in_err-take_tick-clause-err t c =
+    let p = err_from_is_err_and c.from_residual-in_err-take_tick.result c.from_residual-in_err-take_tick.ensures.1 in rw (p.1, p.2) (λ k. let h = c.in_err-take_tick.ensures.spent k in rw (c.in-Some.ensures, c.in_err-take_tick.ensures.kept, h.1) (property.name_stops (c.in_ok-base.ensures.meaning tt) (spent h.0)))
+
+pub put_property-returns-in_err-value-clause-err : goal.put_property-returns-in_err-value-clause-err
+put_property-returns-in_err-value-clause-err t c =
+    let p = err_from_is_err_and c.from_residual-in_err-value.result c.from_residual-in_err-value.ensures.1 in rw (p.1, p.2) (λ k. rw c.in-Some.ensures (property.value_stops_put (c.in_ok-base.ensures.meaning tt) (literal_read c.in_ok-take_tick.ensures.taken) (rw c.in_ok-take_tick.ensures.left at (c.in_err-value.ensures.meaning k))))
+
+pub put_property-returns-in-Some-clause-ok : goal.put_property-returns-in-Some-clause-ok
+put_property-returns-in-Some-clause-ok t c =
+    rw c.in-Some.ensures (property.value_put _ c.write_written.result (property.put (c.in_ok-base.ensures.meaning tt) (literal_read c.in_ok-take_tick.ensures.taken) (rw c.in_ok-take_tick.ensures.left at (c.in_ok-value.ensures.meaning tt)) (let f : SFits w32 c.evaluate-in-Some.new.active.programmer = search rules in property_put _ (rw (to_z-of_z w32 c.evaluate-in-Some.new.active.programmer f) at c.write_written.ensures.world) c.write_written.ensures.kept) refl))
+
+pub put_property-returns-in-Some-clause-err : goal.put_property-returns-in-Some-clause-err
+put_property-returns-in-Some-clause-err t c =
+    rw c.in-Some.ensures (property.value_refused _ c.write_written.result (property.put (c.in_ok-base.ensures.meaning tt) (literal_read c.in_ok-take_tick.ensures.taken) (rw c.in_ok-take_tick.ensures.left at (c.in_ok-value.ensures.meaning tt)) (let f : SFits w32 c.evaluate-in-Some.new.active.programmer = search rules in property_put _ (rw (to_z-of_z w32 c.evaluate-in-Some.new.active.programmer f) at c.write_written.ensures.world) c.write_written.ensures.kept) refl))
+
+pub put_property-returns-in_err-name-clause-err : goal.put_property-returns-in_err-name-clause-err
+put_property-returns-in_err-name-clause-err t c =
+    let p = err_from_is_err_and c.from_residual-in_err-name.result c.from_residual-in_err-name.ensures.1 in rw (p.1, p.2) (λ k. property.name_stops (c.in_ok-base.ensures.meaning tt) (c.in_err-name.ensures.meaning k))
+
+pub put_property-returns-in_err-value-2-clause-err : goal.put_property-returns-in_err-value-2-clause-err
+put_property-returns-in_err-value-2-clause-err t c =
+    let p = err_from_is_err_and c.from_residual-in_err-value-2.result c.from_residual-in_err-value-2.ensures.1 in rw (p.1, p.2) (λ k. property.value_stops_put (c.in_ok-base.ensures.meaning tt) (c.in_ok-name.ensures.meaning tt) (c.in_err-value-2.ensures.meaning k))
+
+pub put_property-returns-clause-ok : goal.put_property-returns-clause-ok
+put_property-returns-clause-ok t c =
+    property.value_put _ c.write_property.result (property.put (c.in_ok-base.ensures.meaning tt) (c.in_ok-name.ensures.meaning tt) (c.in_ok-value-2.ensures.meaning tt) (let f : SFits w32 c.evaluate-3.new.active.programmer = search rules in property_put _ (rw (to_z-of_z w32 c.evaluate-3.new.active.programmer f) at c.write_property.ensures.world) c.write_property.ensures.kept) refl)
+
+pub put_property-returns-clause-err : goal.put_property-returns-clause-err
+put_property-returns-clause-err t c =
+    property.value_refused _ c.write_property.result (property.put (c.in_ok-base.ensures.meaning tt) (c.in_ok-name.ensures.meaning tt) (c.in_ok-value-2.ensures.meaning tt) (let f : SFits w32 c.evaluate-3.new.active.programmer = search rules in property_put _ (rw (to_z-of_z w32 c.evaluate-3.new.active.programmer f) at c.write_property.ensures.world) c.write_property.ensures.kept) refl)
+
+pub scatter_alone-returns-in_err-value-clause-meaning : goal.scatter_alone-returns-in_err-value-clause-meaning
+scatter_alone-returns-in_err-value-clause-meaning t c =
+    let p = err_from_is_err_and c.from_residual-in_err-value.result c.from_residual-in_err-value.ensures.1 in rw (p.1, p.2) (λ k. unperformed c.in_ok-take_tick.ensures.taken (property.undealt (rw c.in_ok-take_tick.ensures.left at (c.in_err-value.ensures.meaning k))))
+
+pub scatter_alone-returns-in-Ok-clause-meaning : goal.scatter_alone-returns-in-Ok-clause-meaning
+scatter_alone-returns-in-Ok-clause-meaning t c =
+    λ k. performed c.in_ok-take_tick.ensures.taken (property.dealt (rw c.in_ok-take_tick.ensures.left at (c.in_ok-value.ensures.meaning tt)) (rw c.in-Ok.is at (c.scatter.ensures.meaning (rw c.in-Ok.is tt))) refl)
+
+pub scatter_alone-returns-in_err-_error-in-Err-clause-meaning : goal.scatter_alone-returns-in_err-_error-in-Err-clause-meaning
+scatter_alone-returns-in_err-_error-in-Err-clause-meaning t c =
+    let p = err_from_is_err_and c.from_residual-in_err-_error-in-Err.result c.from_residual-in_err-_error-in-Err.ensures.1 in rw (p.1, p.2) (λ k. stopped c.in_ok-take_tick.ensures.taken (property.dealt (rw c.in_ok-take_tick.ensures.left at (c.in_ok-value.ensures.meaning tt)) (rw c.in-Err.is at (c.scatter.ensures.meaning (rw c.in-Err.is (c.in_err-_error-in-Err.ensures.known k)))) refl) (c.in_err-_error-in-Err.ensures.outcome k))
+
+pub scatter_alone-returns-clause-meaning : goal.scatter_alone-returns-clause-meaning
+scatter_alone-returns-clause-meaning t c =
+    λ k. passed_over c.in_ok-take_tick.ensures.taken (property.dealt (rw c.in_ok-take_tick.ensures.left at (c.in_ok-value.ensures.meaning tt)) (rw c.in-Err.is at (c.scatter.ensures.meaning (rw c.in-Err.is (c.in_ok-_error-in-Err.ensures.known tt)))) refl) (c.in_ok-_error-in-Err.ensures.outcome tt)
+
+pub assign_target-returns-in-List-clause-meaning : goal.assign_target-returns-in-List-clause-meaning
+assign_target-returns-in-List-clause-meaning t c =
+    λ k. rw (c.in-List.is, row_items, ← c.deref-in-List.ensures.value) (c.scatter_alone.ensures.meaning k)

@@ -1,7 +1,8 @@
 use Rattle.std.proofs.Common.{◌+◌, ◌*◌, ◌≤◌, ◌<◌, drop, map, List, Result, None}
 use Rattle.moo_value.specs.Tree.{Tree}
 use Rattle.moo_value.specs.View.{trees}
-use Rattle.moo_syntax_ast.specs.View.{tree, items_of, block, arms_of, handlers_of}
+use Rattle.moo_syntax_lower.specs.Source.{source, source_items}
+use Rattle.moo_syntax_lower.specs.Blocks.{source_block, source_arm_list, source_handler_list}
 use Rattle.moo_eval_frame.specs.Outcome.{Failure, Flow, Stop}
 use Rattle.moo_eval_access.specs.State.{State}
 use Rattle.moo_eval_access.specs.Target.{Path}
@@ -22,143 +23,188 @@ use Rattle.moo_eval.proofs.interpreter.Task.+evaluation.Given as goal
 -- Each node, statement and turn takes a tick; between two ticks the calls go down these ranks.
 
 abbrev pub decreases-evaluate : goal.decreases-evaluate
-decreases-evaluate l = 8 * l.self.now.ticks_left + 1
-
-abbrev pub decreases-evaluate_part : goal.decreases-evaluate_part
-decreases-evaluate_part l = 8 * l.self.now.ticks_left + 2
+decreases-evaluate l = 16 * l.self.now.ticks_left + 3
 
 abbrev pub decreases-passes : goal.decreases-passes
-decreases-passes l = 8 * l.self.now.ticks_left + 3
+decreases-passes l = 16 * l.self.now.ticks_left + 7
 
-abbrev pub decreases-passes_node : goal.decreases-passes_node
-decreases-passes_node l = 8 * l.self.now.ticks_left + 2
+abbrev pub decreases-evaluate_tried : goal.decreases-evaluate_tried
+decreases-evaluate_tried l = 16 * l.self.now.ticks_left + 4
+
+abbrev pub decreases-arithmetic : goal.decreases-arithmetic
+decreases-arithmetic l = 16 * l.self.now.ticks_left + 7
+
+abbrev pub decreases-node_passes : goal.decreases-node_passes
+decreases-node_passes l = 16 * l.self.now.ticks_left + 6
+
+abbrev pub decreases-value_passes : goal.decreases-value_passes
+decreases-value_passes l = 16 * l.self.now.ticks_left + 5
+
+abbrev pub decreases-logic_passes : goal.decreases-logic_passes
+decreases-logic_passes l = 16 * l.self.now.ticks_left
+
+abbrev pub decreases-not_passes : goal.decreases-not_passes
+decreases-not_passes l = 16 * l.self.now.ticks_left
 
 abbrev pub decreases-evaluate_node : goal.decreases-evaluate_node
-decreases-evaluate_node l = 8 * l.self.now.ticks_left
+decreases-evaluate_node l = 16 * l.self.now.ticks_left + 2
+
+abbrev pub decreases-evaluate_integers : goal.decreases-evaluate_integers
+decreases-evaluate_integers l = 16 * l.self.now.ticks_left + 1
+
+abbrev pub decreases-evaluate_unary : goal.decreases-evaluate_unary
+decreases-evaluate_unary l = 16 * l.self.now.ticks_left
+
+abbrev pub decreases-evaluate_binary : goal.decreases-evaluate_binary
+decreases-evaluate_binary l = 16 * l.self.now.ticks_left
+
+abbrev pub decreases-evaluate_arithmetic : goal.decreases-evaluate_arithmetic
+decreases-evaluate_arithmetic l = 16 * l.self.now.ticks_left
+
+abbrev pub decreases-evaluate_logic : goal.decreases-evaluate_logic
+decreases-evaluate_logic l = 16 * l.self.now.ticks_left
+
+abbrev pub decreases-evaluate_conditional : goal.decreases-evaluate_conditional
+decreases-evaluate_conditional l = 16 * l.self.now.ticks_left
+
+abbrev pub decreases-evaluate_index : goal.decreases-evaluate_index
+decreases-evaluate_index l = 16 * l.self.now.ticks_left + 1
+
+abbrev pub decreases-evaluate_element : goal.decreases-evaluate_element
+decreases-evaluate_element l = 16 * l.self.now.ticks_left
+
+abbrev pub decreases-evaluate_range : goal.decreases-evaluate_range
+decreases-evaluate_range l = 16 * l.self.now.ticks_left
+
+abbrev pub decreases-evaluate_list : goal.decreases-evaluate_list
+decreases-evaluate_list l = 16 * l.self.now.ticks_left
+
+abbrev pub decreases-evaluate_property : goal.decreases-evaluate_property
+decreases-evaluate_property l = 16 * l.self.now.ticks_left
+
+abbrev pub decreases-evaluate_verb_call : goal.decreases-evaluate_verb_call
+decreases-evaluate_verb_call l = 16 * l.self.now.ticks_left
+
+abbrev pub decreases-evaluate_call : goal.decreases-evaluate_call
+decreases-evaluate_call l = 16 * l.self.now.ticks_left
+
+abbrev pub decreases-evaluate_assign : goal.decreases-evaluate_assign
+decreases-evaluate_assign l = 16 * l.self.now.ticks_left
+
+abbrev pub decreases-evaluate_catch : goal.decreases-evaluate_catch
+decreases-evaluate_catch l = 16 * l.self.now.ticks_left
 
 abbrev pub decreases-assign_variable : goal.decreases-assign_variable
-decreases-assign_variable l = 8 * l.self.now.ticks_left + 4
+decreases-assign_variable l = 16 * l.self.now.ticks_left + 8
 
 abbrev pub decreases-assign_alone : goal.decreases-assign_alone
-decreases-assign_alone l = 8 * l.self.now.ticks_left
+decreases-assign_alone l = 16 * l.self.now.ticks_left
 
 abbrev pub decreases-lengthen : goal.decreases-lengthen
-decreases-lengthen l = 8 * l.self.now.ticks_left
+decreases-lengthen l = 16 * l.self.now.ticks_left
 
-abbrev pub decreases-put_behind : goal.decreases-put_behind
-decreases-put_behind l = 8 * l.self.now.ticks_left + 2
+abbrev pub decreases-put_longer : goal.decreases-put_longer
+decreases-put_longer l = 16 * l.self.now.ticks_left + 6
 
-abbrev pub decreases-append : goal.decreases-append
-decreases-append l = 8 * l.self.now.ticks_left
+abbrev pub decreases-extend : goal.decreases-extend
+decreases-extend l = 16 * l.self.now.ticks_left
 
-abbrev pub decreases-put_appended : goal.decreases-put_appended
-decreases-put_appended l = 8 * l.self.now.ticks_left + 2
+abbrev pub decreases-put_extended : goal.decreases-put_extended
+decreases-put_extended l = 16 * l.self.now.ticks_left + 7
 
 abbrev pub decreases-set_place : goal.decreases-set_place
-decreases-set_place l = 8 * l.self.now.ticks_left
+decreases-set_place l = 16 * l.self.now.ticks_left
 
 abbrev pub decreases-put_at : goal.decreases-put_at
-decreases-put_at l = 8 * l.self.now.ticks_left + 2
+decreases-put_at l = 16 * l.self.now.ticks_left + 6
 
 abbrev pub decreases-evaluate_all : goal.decreases-evaluate_all
-decreases-evaluate_all l = 8 * l.self.now.ticks_left + 3
+decreases-evaluate_all l = 16 * l.self.now.ticks_left + 7
 
 abbrev pub decreases-unary : goal.decreases-unary
-decreases-unary l = 8 * l.self.now.ticks_left + 3
+decreases-unary l = 16 * l.self.now.ticks_left + 7
 
 abbrev pub decreases-binary : goal.decreases-binary
-decreases-binary l = 8 * l.self.now.ticks_left + 3
+decreases-binary l = 16 * l.self.now.ticks_left + 7
 
 abbrev pub decreases-logic : goal.decreases-logic
-decreases-logic l = 8 * l.self.now.ticks_left + 3
+decreases-logic l = 16 * l.self.now.ticks_left + 7
 
 abbrev pub decreases-conditional : goal.decreases-conditional
-decreases-conditional l = 8 * l.self.now.ticks_left + 4
+decreases-conditional l = 16 * l.self.now.ticks_left + 8
 
 abbrev pub decreases-index : goal.decreases-index
-decreases-index l = 8 * l.self.now.ticks_left + 3
+decreases-index l = 16 * l.self.now.ticks_left + 7
 
 abbrev pub decreases-range : goal.decreases-range
-decreases-range l = 8 * l.self.now.ticks_left + 3
+decreases-range l = 16 * l.self.now.ticks_left + 7
 
 abbrev pub decreases-list : goal.decreases-list
-decreases-list l = 8 * l.self.now.ticks_left + 4
-
-abbrev pub decreases-compute : goal.decreases-compute
-decreases-compute l = 8 * l.self.now.ticks_left + 7
+decreases-list l = 16 * l.self.now.ticks_left + 8
 
 abbrev pub decreases-property : goal.decreases-property
-decreases-property l = 8 * l.self.now.ticks_left + 3
+decreases-property l = 16 * l.self.now.ticks_left + 7
 
 abbrev pub decreases-verb_call : goal.decreases-verb_call
-decreases-verb_call l = 8 * l.self.now.ticks_left + 6
-
-abbrev pub decreases-callee : goal.decreases-callee
-decreases-callee l = 8 * l.self.now.ticks_left + 5
+decreases-verb_call l = 16 * l.self.now.ticks_left + 10
 
 abbrev pub decreases-call_verb : goal.decreases-call_verb
-decreases-call_verb l = 8 * l.self.now.ticks_left + 5
-
-abbrev pub decreases-call_named : goal.decreases-call_named
-decreases-call_named l = 8 * l.self.now.ticks_left + 4
-
-abbrev pub decreases-call_unnamed : goal.decreases-call_unnamed
-decreases-call_unnamed l = 8 * l.self.now.ticks_left + 4
+decreases-call_verb l = 16 * l.self.now.ticks_left + 9
 
 abbrev pub decreases-run_called : goal.decreases-run_called
-decreases-run_called l = 8 * l.self.now.ticks_left + 3
+decreases-run_called l = 16 * l.self.now.ticks_left + 7
 
 abbrev pub decreases-proceed : goal.decreases-proceed
-decreases-proceed l = 8 * l.self.now.ticks_left + 4
+decreases-proceed l = 16 * l.self.now.ticks_left + 8
 
 abbrev pub decreases-call : goal.decreases-call
-decreases-call l = 8 * l.self.now.ticks_left + 6
+decreases-call l = 16 * l.self.now.ticks_left + 10
 
 abbrev pub decreases-call_caller : goal.decreases-call_caller
-decreases-call_caller l = 8 * l.self.now.ticks_left + 5
+decreases-call_caller l = 16 * l.self.now.ticks_left + 9
 
 abbrev pub decreases-catch : goal.decreases-catch
-decreases-catch l = 8 * l.self.now.ticks_left + 5
+decreases-catch l = 16 * l.self.now.ticks_left + 9
 
 abbrev pub decreases-guards : goal.decreases-guards
-decreases-guards l = 8 * l.self.now.ticks_left + 4
+decreases-guards l = 16 * l.self.now.ticks_left + 8
 
 abbrev pub decreases-assign : goal.decreases-assign
-decreases-assign l = 8 * l.self.now.ticks_left + 6
+decreases-assign l = 16 * l.self.now.ticks_left + 10
 
 abbrev pub decreases-assign_path : goal.decreases-assign_path
-decreases-assign_path l = 8 * l.self.now.ticks_left + 5
+decreases-assign_path l = 16 * l.self.now.ticks_left + 9
 
 abbrev pub decreases-locate : goal.decreases-locate
-decreases-locate l = 8 * l.self.now.ticks_left + 4
+decreases-locate l = 16 * l.self.now.ticks_left + 8
 
 abbrev pub decreases-find : goal.decreases-find
-decreases-find l = 8 * l.self.now.ticks_left + 3
+decreases-find l = 16 * l.self.now.ticks_left + 7
 
 abbrev pub decreases-step : goal.decreases-step
-decreases-step l = 8 * l.self.now.ticks_left + 3
+decreases-step l = 16 * l.self.now.ticks_left + 7
 
 abbrev pub decreases-store : goal.decreases-store
-decreases-store l = 8 * l.self.now.ticks_left + 4
+decreases-store l = 16 * l.self.now.ticks_left + 8
 
 abbrev pub decreases-scatter : goal.decreases-scatter
-decreases-scatter l = 8 * l.self.now.ticks_left + 3
+decreases-scatter l = 16 * l.self.now.ticks_left + 7
 
 abbrev pub decreases-set_defaults : goal.decreases-set_defaults
-decreases-set_defaults l = 8 * l.self.now.ticks_left + 2
+decreases-set_defaults l = 16 * l.self.now.ticks_left + 6
 
 -- what the rest gives, after the values so far, is what all items give
 abbrev pub invariant-evaluate_all-loop-item : goal.invariant-evaluate_all-loop-item
 invariant-evaluate_all-loop-item l = record {
   ticks : l.self.ticks_left ≤ l.fn.self.ticks_left;
-  rest : (o : Result (List Tree) Failure) (s : State) → EvaluatesAll Faults (context_of l.stack l.indexed) (items_of (drop l.item-index l.items)) (state_of l.self l.world l.active) o s → EvaluatesAll Faults (context_of l.stack l.indexed) (items_of l.items) (state_of l.fn.self l.fn.world l.fn.active) (before l.values o) s;
+  rest : (o : Result (List Tree) Failure) (s : State) → EvaluatesAll Faults (context_of l.stack l.indexed) (source_items (drop l.item-index l.items)) (state_of l.self l.world l.active) o s → EvaluatesAll Faults (context_of l.stack l.indexed) (source_items l.items) (state_of l.fn.self l.fn.world l.fn.active) (before l.values o) s;
 }
 
 -- where the rest leads, the whole target leads
 abbrev pub invariant-locate-loop-spot : goal.invariant-locate-loop-spot
 invariant-locate-loop-spot l = record {
   ticks : l.self.ticks_left ≤ l.fn.self.ticks_left;
-  rest : (o : Result Path Failure) (s : State) → Enters Faults (context_of l.stack l.indexed) (root_seen l.path.root) (steps_of l.path.steps.items) (map spot_of (drop l.spot-index l.spot-items)) (state_of l.self l.world l.active) o s → Locates Faults (context_of l.stack l.indexed) (tree l.target) (state_of l.fn.self l.fn.world l.fn.active) o s;
+  rest : (o : Result Path Failure) (s : State) → Enters Faults (context_of l.stack l.indexed) (root_seen l.path.root) (steps_of l.path.steps.items) (map spot_of (drop l.spot-index l.spot-items)) (state_of l.self l.world l.active) o s → Locates Faults (context_of l.stack l.indexed) (source l.target) (state_of l.fn.self l.fn.world l.fn.active) o s;
 }
 
 -- what the rest does is what all defaults do
@@ -169,106 +215,118 @@ invariant-set_defaults-loop-default l = record {
 }
 
 abbrev pub decreases-run : goal.decreases-run
-decreases-run l = 8 * l.self.now.ticks_left + 1
+decreases-run l = 16 * l.self.now.ticks_left + 1
 
 abbrev pub decreases-turn : goal.decreases-turn
-decreases-turn l = 8 * l.self.now.ticks_left + 1
-
-abbrev pub decreases-end_turn : goal.decreases-end_turn
-decreases-end_turn l = 8 * l.self.now.ticks_left + 3
+decreases-turn l = 16 * l.self.now.ticks_left + 1
 
 abbrev pub decreases-visit : goal.decreases-visit
-decreases-visit l = 8 * l.self.now.ticks_left + 1
+decreases-visit l = 16 * l.self.now.ticks_left + 1
+
+abbrev pub decreases-run_block : goal.decreases-run_block
+decreases-run_block l = 16 * l.self.now.ticks_left + 5
 
 abbrev pub decreases-run_all : goal.decreases-run_all
-decreases-run_all l = 8 * l.self.now.ticks_left + 2
-
-abbrev pub decreases-run_body : goal.decreases-run_body
-decreases-run_body l = 8 * l.self.now.ticks_left + 3
+decreases-run_all l = 16 * l.self.now.ticks_left + 6
 
 abbrev pub decreases-repeat : goal.decreases-repeat
-decreases-repeat l = 8 * l.self.now.ticks_left + 4
+decreases-repeat l = 16 * l.self.now.ticks_left + 8
 
 abbrev pub decreases-visit_all : goal.decreases-visit_all
-decreases-visit_all l = 8 * l.self.now.ticks_left + 2
+decreases-visit_all l = 16 * l.self.now.ticks_left + 6
 
 abbrev pub decreases-count : goal.decreases-count
-decreases-count l = 8 * l.self.now.ticks_left + 2
+decreases-count l = 16 * l.self.now.ticks_left + 6
 
 abbrev pub decreases-select : goal.decreases-select
-decreases-select l = 8 * l.self.now.ticks_left + 4
+decreases-select l = 16 * l.self.now.ticks_left + 8
 
 abbrev pub decreases-for_list : goal.decreases-for_list
-decreases-for_list l = 8 * l.self.now.ticks_left + 3
+decreases-for_list l = 16 * l.self.now.ticks_left + 7
 
 abbrev pub decreases-for_range : goal.decreases-for_range
-decreases-for_range l = 8 * l.self.now.ticks_left + 3
+decreases-for_range l = 16 * l.self.now.ticks_left + 7
 
 abbrev pub decreases-handle : goal.decreases-handle
-decreases-handle l = 8 * l.self.now.ticks_left + 3
+decreases-handle l = 16 * l.self.now.ticks_left + 7
 
 abbrev pub decreases-try_finally : goal.decreases-try_finally
-decreases-try_finally l = 8 * l.self.now.ticks_left + 3
+decreases-try_finally l = 16 * l.self.now.ticks_left + 7
 
 abbrev pub decreases-branch : goal.decreases-branch
-decreases-branch l = 8 * l.self.now.ticks_left + 5
+decreases-branch l = 16 * l.self.now.ticks_left + 9
 
 abbrev pub decreases-try_except : goal.decreases-try_except
-decreases-try_except l = 8 * l.self.now.ticks_left + 6
+decreases-try_except l = 16 * l.self.now.ticks_left + 10
 
 abbrev pub decreases-perform : goal.decreases-perform
-decreases-perform l = 8 * l.self.now.ticks_left + 7
+decreases-perform l = 16 * l.self.now.ticks_left + 11
 
 abbrev pub decreases-prepare : goal.decreases-prepare
-decreases-prepare l = 8 * l.self.now.ticks_left + 5
+decreases-prepare l = 16 * l.self.now.ticks_left + 9
 
 abbrev pub decreases-give : goal.decreases-give
-decreases-give l = 8 * l.self.now.ticks_left + 3
+decreases-give l = 16 * l.self.now.ticks_left + 7
+
+abbrev pub decreases-set_property : goal.decreases-set_property
+decreases-set_property l = 16 * l.self.now.ticks_left
+
+abbrev pub decreases-put_property : goal.decreases-put_property
+decreases-put_property l = 16 * l.self.now.ticks_left + 4
+
+abbrev pub decreases-scatter_alone : goal.decreases-scatter_alone
+decreases-scatter_alone l = 16 * l.self.now.ticks_left
+
+abbrev pub decreases-assign_target : goal.decreases-assign_target
+decreases-assign_target l = 16 * l.self.now.ticks_left + 6
+
+abbrev pub decreases-drop_assigned : goal.decreases-drop_assigned
+decreases-drop_assigned l = 16 * l.self.now.ticks_left + 4
+
+abbrev pub decreases-drop_value : goal.decreases-drop_value
+decreases-drop_value l = 16 * l.self.now.ticks_left + 4
 
 abbrev pub decreases-evaluate_alone : goal.decreases-evaluate_alone
-decreases-evaluate_alone l = 8 * l.self.now.ticks_left + 3
+decreases-evaluate_alone l = 16 * l.self.now.ticks_left + 7
 
 -- what the rest does is what all statements do
-abbrev pub invariant-run_all-loop-statement : goal.invariant-run_all-loop-statement
-invariant-run_all-loop-statement l = record {
+abbrev pub invariant-run_block-loop-statement : goal.invariant-run_block-loop-statement
+invariant-run_block-loop-statement l = record {
   ticks : l.self.ticks_left ≤ l.fn.self.ticks_left;
   fewer : 0 < l.statement-index → l.self.ticks_left < l.fn.self.ticks_left;
-  rest : (o : Result Flow Stop) (s : State) → RunsAll Faults (context_of l.stack None) (block (drop l.statement-index l.statements)) (state_of l.self l.world l.active) o s → RunsAll Faults (context_of l.stack None) (block l.statements) (state_of l.fn.self l.fn.world l.fn.active) o s;
+  rest : (o : Result Flow Stop) (s : State) → RunsAll Faults (context_of l.stack None) (source_block (drop l.statement-index l.statements)) (state_of l.self l.world l.active) o s → RunsAll Faults (context_of l.stack None) (source_block l.statements) (state_of l.fn.self l.fn.world l.fn.active) o s;
 }
 
 -- what the rest does is what all arms do
 abbrev pub invariant-select-loop-arm : goal.invariant-select-loop-arm
 invariant-select-loop-arm l = record {
   ticks : l.self.ticks_left ≤ l.fn.self.ticks_left;
-  rest : (o : Result Flow Stop) (s : State) → Selects Faults (context_of l.stack None) (arms_of (drop l.arm-index l.arms)) (state_of l.self l.world l.active) o s → Selects Faults (context_of l.stack None) (arms_of l.arms) (state_of l.fn.self l.fn.world l.fn.active) o s;
+  rest : (o : Result Flow Stop) (s : State) → Selects Faults (context_of l.stack None) (source_arm_list (drop l.arm-index l.arms)) (state_of l.self l.world l.active) o s → Selects Faults (context_of l.stack None) (source_arm_list l.arms) (state_of l.fn.self l.fn.world l.fn.active) o s;
 }
 
 -- what the loop does from here is what it does from its start
 abbrev pub invariant-repeat-turns : goal.invariant-repeat-turns
 invariant-repeat-turns l = record {
   ticks : l.self.ticks_left ≤ l.fn.self.ticks_left;
-  rest : (o : Result Flow Stop) (s : State) → Loops Faults (context_of l.stack None) l.own (tree l.test) (block l.body) (state_of l.self l.world l.active) o s → Loops Faults (context_of l.stack None) l.own (tree l.test) (block l.body) (state_of l.fn.self l.fn.world l.fn.active) o s;
+  rest : (o : Result Flow Stop) (s : State) → Loops Faults (context_of l.stack None) l.own (source l.test) (source_block l.body) (state_of l.self l.world l.active) o s → Loops Faults (context_of l.stack None) l.own (source l.test) (source_block l.body) (state_of l.fn.self l.fn.world l.fn.active) o s;
 }
 
 abbrev pub decreases-repeat-turns : goal.decreases-repeat-turns
 decreases-repeat-turns l = l.self.ticks_left
 
 -- what the rest of the values does is what all do
-abbrev pub invariant-visit_all-values : goal.invariant-visit_all-values
-invariant-visit_all-values l = record {
+abbrev pub invariant-visit_all-loop-value : goal.invariant-visit_all-loop-value
+invariant-visit_all-loop-value l = record {
   ticks : l.self.ticks_left ≤ l.fn.self.ticks_left;
-  rest : (o : Result Flow Stop) (s : State) → Visits Faults (context_of l.stack None) l.name (trees (drop l.next l.values)) (block l.body) (state_of l.self l.world l.active) o s → Visits Faults (context_of l.stack None) l.name (trees l.values) (block l.body) (state_of l.fn.self l.fn.world l.fn.active) o s;
+  rest : (o : Result Flow Stop) (s : State) → Visits Faults (context_of l.stack None) l.name (trees (drop l.value-index l.values)) (source_block l.body) (state_of l.self l.world l.active) o s → Visits Faults (context_of l.stack None) l.name (trees l.values) (source_block l.body) (state_of l.fn.self l.fn.world l.fn.active) o s;
 }
-
-abbrev pub decreases-visit_all-values : goal.decreases-visit_all-values
-decreases-visit_all-values l = l.self.ticks_left
 
 -- what the loop does from here is what it does from its start
 abbrev pub invariant-count-numbers : goal.invariant-count-numbers
 invariant-count-numbers l = record {
   ticks : l.self.ticks_left ≤ l.fn.self.ticks_left;
   low : l.span.low ≤ℤ l.number;
-  rest : (o : Result Flow Stop) (s : State) → Counts Faults (context_of l.stack None) l.name l.span l.number (block l.body) (state_of l.self l.world l.active) o s → Counts Faults (context_of l.stack None) l.name l.span l.span.low (block l.body) (state_of l.fn.self l.fn.world l.fn.active) o s;
+  rest : (o : Result Flow Stop) (s : State) → Counts Faults (context_of l.stack None) l.name l.span l.number (source_block l.body) (state_of l.self l.world l.active) o s → Counts Faults (context_of l.stack None) l.name l.span l.span.low (source_block l.body) (state_of l.fn.self l.fn.world l.fn.active) o s;
 }
 
 abbrev pub decreases-count-numbers : goal.decreases-count-numbers
@@ -278,7 +336,7 @@ decreases-count-numbers l = l.self.ticks_left
 abbrev pub invariant-prepare-loop-handler : goal.invariant-prepare-loop-handler
 invariant-prepare-loop-handler l = record {
   ticks : l.self.ticks_left ≤ l.fn.self.ticks_left;
-  rest : (o : Result (List Guarded) Stop) (s : State) → Prepares Faults (context_of l.stack None) (handlers_of (drop l.handler-index l.handlers)) (state_of l.self l.world l.active) o s → Prepares Faults (context_of l.stack None) (handlers_of l.handlers) (state_of l.fn.self l.fn.world l.fn.active) (guarded_before (map guarded_of l.guarded.items) o) s;
+  rest : (o : Result (List Guarded) Stop) (s : State) → Prepares Faults (context_of l.stack None) (source_handler_list (drop l.handler-index l.handlers)) (state_of l.self l.world l.active) o s → Prepares Faults (context_of l.stack None) (source_handler_list l.handlers) (state_of l.fn.self l.fn.world l.fn.active) (guarded_before (map guarded_of l.guarded.items) o) s;
 }
 
 -- what the function does from here is what it does from its first step

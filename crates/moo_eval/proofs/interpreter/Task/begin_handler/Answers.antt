@@ -3,8 +3,7 @@ use Rattle.std.specs.Option.{option_map}
 use Rattle.std.proofs.lemmas.Result.{err_from_is_err_and}
 use Rattle.moo_eval_frame.specs.SeenHandling.{guarded_of}
 use Rattle.moo_eval_semantics.specs.Meaning.{untaken, untold, takes}
-use Rattle.moo_eval_fast_stmt.proofs.Refused.{none_left}
-use Rattle.moo_eval.proofs.Exits.{same_state}
+use Rattle.moo_eval.proofs.Exits.{none_left, same_state}
 use Rattle.moo_eval.proofs.interpreter.Task.begin_handler.Goals as goal
 
 pub returns-in_default-clause-err : goal.returns-in_default-clause-err

@@ -1,13 +1,12 @@
 use Rattle.std.proofs.lemmas.Result.{err_from_is_err_and}
-use Rattle.moo_eval_fast_expr.specs.Leaves.{literal_leaf}
 use Rattle.moo_eval_semantics.specs.Meaning.{spent}
-use Rattle.moo_eval.proofs.Direct.{leaf_gives}
+use Rattle.moo_eval.proofs.Direct.{literal_read}
 use Rattle.moo_eval.proofs.interpreter.Task.literal.Goals as goal
 
 pub returns-clause-meaning : goal.returns-clause-meaning
 returns-clause-meaning c =
-    λ indexed w k. rw (c.in_ok-take_tick.ensures.left, c.in_ok-literal_value.ensures.value) (leaf_gives c.in_ok-take_tick.ensures.taken literal_leaf)
+    λ l indexed w e k. rw (c.in_ok-take_tick.ensures.left, e) (literal_read c.in_ok-take_tick.ensures.taken)
 
 pub returns-in_err-take_tick-clause-meaning : goal.returns-in_err-take_tick-clause-meaning
 returns-in_err-take_tick-clause-meaning c =
-    let p = err_from_is_err_and c.from_residual.result c.from_residual.ensures.1 in rw (p.1, p.2) (λ indexed w k. let h = c.in_err-take_tick.ensures.spent k in rw (c.in_err-take_tick.ensures.kept, h.1) (spent h.0))
+    let p = err_from_is_err_and c.from_residual.result c.from_residual.ensures.1 in rw (p.1, p.2) (λ l indexed w e k. let h = c.in_err-take_tick.ensures.spent k in rw (c.in_err-take_tick.ensures.kept, h.1) (spent h.0))

@@ -1,15 +1,14 @@
-use Rattle.std.proofs.Common.{ap, sym}
+use Rattle.std.proofs.Common.{ap, refl, sym}
 use Rattle.std.proofs.lemmas.Result.{err_from_is_err_and}
 use Rattle.moo_value.specs.declared.error_code.ErrorCode.TheVariants.{VariableNotFound}
 use Rattle.moo_eval_frame.specs.Outcome.{answers, or_error}
-use Rattle.moo_eval_fast_expr.specs.Leaves.{variable_leaf}
 use Rattle.moo_eval_semantics.specs.Meaning.{spent}
-use Rattle.moo_eval.proofs.Direct.{variable_read, leaf_gives}
+use Rattle.moo_eval.proofs.Direct.{variable_read}
 use Rattle.moo_eval.proofs.interpreter.Task.variable.Goals as goal
 
 pub returns-in_ok-try_clone-in-Some-clause-meaning : goal.returns-in_ok-try_clone-in-Some-clause-meaning
 returns-in_ok-try_clone-in-Some-clause-meaning c =
-    λ indexed w k. rw (c.in_ok-take_tick.ensures.left, c.in_ok-try_clone-in-Some.ensures.value) (leaf_gives c.in_ok-take_tick.ensures.taken (variable_leaf (sym (rw c.in-Some.is at c.get.ensures))))
+    λ indexed w k. rw (c.in_ok-take_tick.ensures.left, c.in_ok-try_clone-in-Some.ensures.value) (variable_read c.in_ok-take_tick.ensures.taken (ap (λ o. answers (or_error o VariableNotFound)) (sym (rw c.in-Some.is at c.get.ensures))) refl)
 
 pub returns-in-None-clause-meaning : goal.returns-in-None-clause-meaning
 returns-in-None-clause-meaning c =

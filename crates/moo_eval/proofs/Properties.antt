@@ -1,0 +1,46 @@
+-- Assignments to properties, and scatters.
+use Rattle.std.proofs.Common.{◌≡◌, Result, Ok, Err, OnOk, IfErr, refl}
+use Rattle.moo_value.specs.Tree.{Tree}
+use Rattle.moo_syntax_ast.specs.Tree.{Expr, Items, list, property, assign}
+use Rattle.moo_eval_frame.specs.Outcome.{Stop, Failure, stops}
+use Rattle.moo_eval_frame.specs.State.{Context}
+use Rattle.moo_eval_access.specs.State.{State}
+use Rattle.moo_eval_access.specs.Target.{owned, scattered}
+use Rattle.moo_eval_frame.specs.declared.outcome.Failure as code_failure
+use Rattle.moo_eval_frame.specs.Seen.{seen_done, failure_of, HadMemoryIn}
+use Rattle.moo_eval_semantics.specs.Operands.{with_value}
+use Rattle.moo_builtin.specs.Telling.{Telling}
+use Rattle.moo_eval_semantics.specs.Meaning.{Evaluates, Computes, Puts, applies, no_more, element_stops, element_then, assign_is, target_ends, value_stops, assigns, root_ends, locates, parts_end, finds, inside, stores}
+
+-- the object, the name and the value are evaluated, then the property is set or not
+pub put : {T : Telling} {c : Context} {b n e : Expr} {s s1 s2 s3 t : State} {x y v : Tree} {o : Result (Unit {0}) Failure} {r : Result Tree Failure} → Evaluates T c b s (Ok x) s1 → Evaluates T c n s1 (Ok y) s2 → Evaluates T c e s2 (Ok v) s3 → Puts T c (owned x y) v s3 o t → with_value v o ≡ r → Computes T c (assign (property b n) e) s r t
+put d g h p q = applies no_more no_more (assign_is (assigns (locates (finds (element_then d (element_then g no_more refl) refl) refl) inside) h (stores refl p) q))
+
+-- the object stops
+pub object_stops : {T : Telling} {c : Context} {b n e : Expr} {s s1 : State} {stop : Stop} → Evaluates T c b s (Err stop) s1 → Computes T c (assign (property b n) e) s (Err (stops stop)) s1
+object_stops d = applies no_more no_more (assign_is (target_ends (root_ends (parts_end (element_stops d)))))
+
+-- the name stops
+pub name_stops : {T : Telling} {c : Context} {b n e : Expr} {s s1 s2 : State} {x : Tree} {stop : Stop} → Evaluates T c b s (Ok x) s1 → Evaluates T c n s1 (Err stop) s2 → Computes T c (assign (property b n) e) s (Err (stops stop)) s2
+name_stops d g = applies no_more no_more (assign_is (target_ends (root_ends (parts_end (element_then d (element_stops g) refl)))))
+
+-- the value stops
+pub value_stops_put : {T : Telling} {c : Context} {b n e : Expr} {s s1 s2 s3 : State} {x y : Tree} {stop : Stop} → Evaluates T c b s (Ok x) s1 → Evaluates T c n s1 (Ok y) s2 → Evaluates T c e s2 (Err stop) s3 → Computes T c (assign (property b n) e) s (Err (stops stop)) s3
+value_stops_put d g h = applies no_more no_more (assign_is (value_stops (locates (finds (element_then d (element_then g no_more refl) refl) refl) inside) h))
+
+-- the value of an assignment, by whether it was stored
+pub value_put : {T : Telling} {c : Context} {e : Expr} {s t : State} (v : Tree) (r : Result (Unit {0}) code_failure.Failure) → Computes T c e s (with_value v (seen_done r)) t → OnOk r ((v : Tree) × Computes T c e s (Ok v) t)
+value_put v (Ok done) h = (v, h)
+value_put v (Err failure) h = tt
+
+pub value_refused : {T : Telling} {c : Context} {e : Expr} {s t : State} (v : Tree) (r : Result (Unit {0}) code_failure.Failure) → Computes T c e s (with_value v (seen_done r)) t → IfErr r (λ failure. HadMemoryIn failure → Computes T c e s (Err (failure_of failure)) t)
+value_refused v (Ok done) h = tt
+value_refused v (Err failure) h = λ k. h
+
+-- the value is evaluated, then its elements are dealt to the names
+pub dealt : {T : Telling} {c : Context} {items : Items} {e : Expr} {s s1 t : State} {v : Tree} {o : Result (Unit {0}) Failure} {r : Result Tree Failure} → Evaluates T c e s (Ok v) s1 → Puts T c (scattered items) v s1 o t → with_value v o ≡ r → Computes T c (assign (list items) e) s r t
+dealt d p q = applies no_more no_more (assign_is (assigns (locates (finds no_more refl) inside) d (stores refl p) q))
+
+-- the value stops
+pub undealt : {T : Telling} {c : Context} {items : Items} {e : Expr} {s s1 : State} {stop : Stop} → Evaluates T c e s (Err stop) s1 → Computes T c (assign (list items) e) s (Err (stops stop)) s1
+undealt d = applies no_more no_more (assign_is (value_stops (locates (finds no_more refl) inside) d))

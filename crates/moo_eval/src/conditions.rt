@@ -1,0 +1,178 @@
+//! Evaluates conditions: only whether their value counts as true is wanted.
+ghost use Rattle.std.specs.Prelude.{◌≡◌, ◌≤◌, Ok, Err, IfOk, IfErr, IfSome, IfNone};
+ghost use Rattle.moo_value.specs.Tree.{Tree};
+ghost use Rattle.moo_syntax_ast.specs.declared.operator.UnaryOperator.TheVariants.{Not};
+ghost use Rattle.moo_syntax_ast.specs.Tree.{variable, unary, logic};
+ghost use Rattle.moo_syntax_lower.specs.Source.{source};
+ghost use Rattle.moo_builtin_operator.specs.Truth.{is_true, is_decided};
+ghost use Rattle.moo_world_table.specs.World.{World as WorldModel};
+ghost use Rattle.moo_eval_frame.specs.State.{Context};
+ghost use Rattle.moo_eval_frame.specs.Seen.{context_of, stop_of, HadMemory};
+ghost use Rattle.moo_builtin.specs.Telling.{Faults};
+ghost use Rattle.moo_eval_semantics.specs.Meaning.{Evaluates};
+ghost use Rattle.moo_eval.specs.Seen.{state_of};
+
+use crate::interpreter::Task;
+use moo_builtin_operator::is_true;
+use moo_eval_frame::{Activation, CallStack, Stop};
+use moo_eval_integer::counts_as_true;
+use moo_syntax_ast::Name;
+use moo_syntax_ast::operator::{LogicOperator, UnaryOperator};
+use moo_syntax_lower::Node;
+use moo_value::Value;
+use moo_world::World;
+
+impl Task {
+    /// Returns whether the value of a condition is true. Inlined, so that a variable or a comparison of integers needs no
+    /// value.
+    #[cycle(evaluation)]
+    #[inline(always)]
+    pub(crate) fn passes(
+        &mut self,
+        world: &mut World,
+        active: &mut Activation,
+        stack: &CallStack<'_>,
+        indexed: Option<&Value>,
+        test: &Node,
+    ) -> Result<bool, Stop>
+        ensures ok { IfOk result (λ b. (v : Tree) × Evaluates Faults (context_of stack.now indexed.entry) (source test.now) (state_of self.old world.old active.old) (Ok v) (state_of self.new world.new active.new) × (is_true v ≡ b)) }
+        ensures err { IfErr result (λ stop. HadMemory stop → Evaluates Faults (context_of stack.now indexed.entry) (source test.now) (state_of self.old world.old active.old) (Err (stop_of stop)) (state_of self.new world.new active.new)) }
+        ensures ticks { self.new.ticks_left ≤ self.old.ticks_left }
+    {
+        if let Some(passes) = self.try_test(active, test) {
+            return Ok(passes);
+        }
+        self.node_passes(world, active, stack, indexed, test)
+    }
+
+    // Returns whether the value of a condition is true that `try_test` has declined.
+    #[cycle(evaluation)]
+    #[inline(never)]
+    fn node_passes(
+        &mut self,
+        world: &mut World,
+        active: &mut Activation,
+        stack: &CallStack<'_>,
+        indexed: Option<&Value>,
+        test: &Node,
+    ) -> Result<bool, Stop>
+        ensures ok { IfOk result (λ b. (v : Tree) × Evaluates Faults (context_of stack.now indexed.entry) (source test.now) (state_of self.old world.old active.old) (Ok v) (state_of self.new world.new active.new) × (is_true v ≡ b)) }
+        ensures err { IfErr result (λ stop. HadMemory stop → Evaluates Faults (context_of stack.now indexed.entry) (source test.now) (state_of self.old world.old active.old) (Err (stop_of stop)) (state_of self.new world.new active.new)) }
+        ensures ticks { self.new.ticks_left ≤ self.old.ticks_left }
+    {
+        match test {
+            Node::Logic(operator, left, right) => {
+                self.logic_passes(world, active, stack, indexed, *operator, left, right)
+            }
+            Node::Unary(UnaryOperator::Not, operand) => {
+                self.not_passes(world, active, stack, indexed, operand)
+            }
+            _ => self.value_passes(world, active, stack, indexed, test),
+        }
+    }
+
+    // Returns whether the value of a variable, or of an operator between integers, is true, and takes its ticks. `None` if
+    // that can't be, or for another node; then nothing has changed.
+    #[inline(always)]
+    fn try_test(&mut self, active: &Activation, test: &Node) -> Option<bool>
+        ensures some { IfSome result (λ b. (w : WorldModel) (c : Context) → (v : Tree) × Evaluates Faults c (source test.now) (state_of self.old w active.now) (Ok v) (state_of self.new w active.now) × (is_true v ≡ b)) }
+        ensures none { IfNone result (self.new ≡ self.old) }
+        ensures ticks { self.new.ticks_left ≤ self.old.ticks_left }
+    {
+        if let Node::Variable(name) = test {
+            return self.try_variable_test(active, name);
+        }
+        let number = self.try_arithmetic(active, test)?;
+        Some(counts_as_true(number))
+    }
+
+    // Returns whether the value of a variable is true, and takes its tick. `None` if it isn't set or no tick is left; then
+    // nothing has changed.
+    #[inline(always)]
+    fn try_variable_test(&mut self, active: &Activation, name: &Name) -> Option<bool>
+        ensures some { IfSome result (λ b. (w : WorldModel) (c : Context) → (v : Tree) × Evaluates Faults c (variable name.now) (state_of self.old w active.now) (Ok v) (state_of self.new w active.now) × (is_true v ≡ b)) }
+        ensures none { IfNone result (self.new ≡ self.old) }
+        ensures ticks { self.new.ticks_left ≤ self.old.ticks_left }
+    {
+        let passes = is_true(active.variables.get(name)?);
+        if !self.ticks_left.take() {
+            return None;
+        }
+        Some(passes)
+    }
+
+    // Returns whether the value of an expression is true. An operator that `try_test` has declined isn't tried again.
+    #[cycle(evaluation)]
+    #[inline(never)]
+    fn value_passes(
+        &mut self,
+        world: &mut World,
+        active: &mut Activation,
+        stack: &CallStack<'_>,
+        indexed: Option<&Value>,
+        test: &Node,
+    ) -> Result<bool, Stop>
+        ensures ok { IfOk result (λ b. (v : Tree) × Evaluates Faults (context_of stack.now indexed.entry) (source test.now) (state_of self.old world.old active.old) (Ok v) (state_of self.new world.new active.new) × (is_true v ≡ b)) }
+        ensures err { IfErr result (λ stop. HadMemory stop → Evaluates Faults (context_of stack.now indexed.entry) (source test.now) (state_of self.old world.old active.old) (Err (stop_of stop)) (state_of self.new world.new active.new)) }
+        ensures ticks { self.new.ticks_left ≤ self.old.ticks_left }
+    {
+        let value = self.evaluate_tried(world, active, stack, indexed, test)?;
+        Ok(is_true(&value))
+    }
+
+    // Returns whether the value of `left && right` or `left || right` is true.
+    #[cycle(evaluation)]
+    #[inline(never)]
+    fn logic_passes(
+        &mut self,
+        world: &mut World,
+        active: &mut Activation,
+        stack: &CallStack<'_>,
+        indexed: Option<&Value>,
+        operator: LogicOperator,
+        left: &Node,
+        right: &Node,
+    ) -> Result<bool, Stop>
+        ensures ok { IfOk result (λ b. (v : Tree) × Evaluates Faults (context_of stack.now indexed.entry) (logic operator (source left.now) (source right.now)) (state_of self.old world.old active.old) (Ok v) (state_of self.new world.new active.new) × (is_true v ≡ b)) }
+        ensures err { IfErr result (λ stop. HadMemory stop → Evaluates Faults (context_of stack.now indexed.entry) (logic operator (source left.now) (source right.now)) (state_of self.old world.old active.old) (Err (stop_of stop)) (state_of self.new world.new active.new)) }
+        ensures ticks { self.new.ticks_left ≤ self.old.ticks_left }
+    {
+        self.take_tick(active, stack)?;
+        let first = self.passes(world, active, stack, indexed, left)?;
+        if decides(operator, first) {
+            return Ok(first);
+        }
+        self.passes(world, active, stack, indexed, right)
+    }
+
+    // Returns whether the value of `!operand` is true.
+    #[cycle(evaluation)]
+    #[inline(never)]
+    fn not_passes(
+        &mut self,
+        world: &mut World,
+        active: &mut Activation,
+        stack: &CallStack<'_>,
+        indexed: Option<&Value>,
+        operand: &Node,
+    ) -> Result<bool, Stop>
+        ensures ok { IfOk result (λ b. (v : Tree) × Evaluates Faults (context_of stack.now indexed.entry) (unary Not (source operand.now)) (state_of self.old world.old active.old) (Ok v) (state_of self.new world.new active.new) × (is_true v ≡ b)) }
+        ensures err { IfErr result (λ stop. HadMemory stop → Evaluates Faults (context_of stack.now indexed.entry) (unary Not (source operand.now)) (state_of self.old world.old active.old) (Err (stop_of stop)) (state_of self.new world.new active.new)) }
+        ensures ticks { self.new.ticks_left ≤ self.old.ticks_left }
+    {
+        self.take_tick(active, stack)?;
+        let passes = self.passes(world, active, stack, indexed, operand)?;
+        Ok(!passes)
+    }
+}
+
+// Is true if a first operand decides, of which only whether it is true is known.
+#[inline]
+fn decides(operator: LogicOperator, first: bool) -> bool
+    ensures { (v : Tree) → is_true v ≡ first → is_decided operator v ≡ result }
+{
+    match operator {
+        LogicOperator::And => !first,
+        LogicOperator::Or => first,
+    }
+}

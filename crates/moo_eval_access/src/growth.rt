@@ -1,0 +1,129 @@
+//! Lists and strings that grow in the variable that holds them, as by `l = {@l, x};` and `s = s + x;`.
+ghost use Rattle.std.specs.Prelude.{◌≡◌, ◌↔◌, ◌++◌, ◌∷◌, [], Ok, Err, IsTrue, IfOk, IfErr, OnOk};
+ghost use Rattle.moo_value.specs.Tree.{Tree, list_of, string};
+ghost use Rattle.moo_value.specs.View.{tree};
+ghost use Rattle.moo_value.specs.Size.{IsWithinLimits};
+ghost use Rattle.moo_builtin_operator.specs.Operators.{added};
+ghost use Rattle.moo_builtin_operator.specs.Places.{made_list};
+ghost use Rattle.moo_eval_frame.specs.Outcome.{answers};
+ghost use Rattle.moo_eval_frame.specs.Variables.{bind, with_variable};
+ghost use Rattle.moo_eval_frame.specs.Seen.{variables_of, failure_of, HadMemoryIn};
+
+use crate::integers::binary;
+use moo_eval_frame::{Failure, Variables};
+use moo_syntax_ast::Name;
+use moo_syntax_ast::operator::BinaryOperator;
+use moo_value::{
+    DEPTH_LIMIT, ErrorCode, ListLimit, MooList, MooStr, Value, ValueFault, WEIGHT_LIMIT,
+};
+use std::alloc::{AllocError, Global};
+
+/// Sets a variable to the list with the value after its elements. Past the limits that is E_QUOTA; the variable then
+/// keeps its value. The variable gives up what it holds first, so a list that nothing else shares grows in place.
+pub fn set_longer(
+    alloc: Global,
+    variables: &mut Variables,
+    name: &Name,
+    list: MooList,
+    value: Value,
+) -> Result<(), Failure>
+    ensures ok { OnOk result ((w : Tree) × (made_list (list ++ tree value ∷ []) ≡ Ok w) × (variables_of variables.new ≡ with_variable (variables_of variables.old) (bind name.now w))) }
+    ensures err { IfErr result (λ failure. HadMemoryIn failure → answers (made_list (list ++ tree value ∷ [])) ≡ Err (failure_of failure)) }
+    ensures kept { IfErr result (λ failure. HadMemoryIn failure → variables_of variables.new ≡ variables_of variables.old) }
+{
+    if !has_room_for(&list, &value) {
+        return Err(Failure::Fails(ErrorCode::Quota));
+    }
+    variables.set(name, Value::Int(0))?;
+    let longer = pushed(alloc, list, value)?;
+    variables.set(name, Value::List(longer))?;
+    Ok(())
+}
+
+// Is true if the list with this value at its end is within the limits of weight and depth.
+fn has_room_for(list: &MooList, value: &Value) -> bool
+    ensures { IsTrue result ↔ IsWithinLimits (list_of (list.now ++ tree value.now ∷ [])) }
+{
+    let weight = list.weight() + value.weight();
+    if weight > WEIGHT_LIMIT {
+        return false;
+    }
+    let depth = list.depth().max(value.depth() + 1);
+    depth <= DEPTH_LIMIT
+}
+
+// Returns the list with this value at its end, which has to be within the limits.
+fn pushed(alloc: Global, list: MooList, value: Value) -> Result<MooList, AllocError>
+    requires { IsWithinLimits (list_of (list ++ tree value ∷ [])) }
+    ensures { IfOk result (λ longer. longer ≡ list ++ tree value ∷ []) }
+{
+    match list.pushed(alloc, value) {
+        Ok(longer) => Ok(longer),
+        Err(ListLimit::Memory) => Err(AllocError),
+        Err(ListLimit::TooLarge) => unreachable!(),
+    }
+}
+
+/// Sets a variable to the sum of two values, or gives the error of the sum; the variable then keeps its value. A string
+/// that nothing but the variable and `first` share grows in place.
+pub fn set_sum(
+    alloc: Global,
+    variables: &mut Variables,
+    name: &Name,
+    first: Value,
+    last: &Value,
+) -> Result<(), Failure>
+    ensures ok { OnOk result ((w : Tree) × (added (tree first) (tree last.now) ≡ Ok w) × (variables_of variables.new ≡ with_variable (variables_of variables.old) (bind name.now w))) }
+    ensures err { IfErr result (λ failure. HadMemoryIn failure → answers (added (tree first) (tree last.now)) ≡ Err (failure_of failure)) }
+    ensures kept { IfErr result (λ failure. HadMemoryIn failure → variables_of variables.new ≡ variables_of variables.old) }
+{
+    match (first, last) {
+        (Value::Str(text), Value::Str(last)) => set_extended(alloc, variables, name, text, last),
+        (first, _) => {
+            let sum = binary(alloc, BinaryOperator::Add, &first, last)?;
+            variables.set(name, sum)?;
+            Ok(())
+        }
+    }
+}
+
+// Sets a variable to the string with another after its bytes. Past the limit that is E_QUOTA; the variable then keeps
+// its value. The variable gives up what it holds first, so a string that nothing else shares grows in place.
+fn set_extended(
+    alloc: Global,
+    variables: &mut Variables,
+    name: &Name,
+    text: MooStr,
+    last: &MooStr,
+) -> Result<(), Failure>
+    ensures ok { OnOk result ((w : Tree) × (added (string text) (string last.now) ≡ Ok w) × (variables_of variables.new ≡ with_variable (variables_of variables.old) (bind name.now w))) }
+    ensures err { IfErr result (λ failure. HadMemoryIn failure → answers (added (string text) (string last.now)) ≡ Err (failure_of failure)) }
+    ensures kept { IfErr result (λ failure. HadMemoryIn failure → variables_of variables.new ≡ variables_of variables.old) }
+{
+    if !has_room_after(&text, last) {
+        return Err(Failure::Fails(ErrorCode::Quota));
+    }
+    variables.set(name, Value::Int(0))?;
+    let extended = extended(alloc, text, last)?;
+    variables.set(name, Value::Str(extended))?;
+    Ok(())
+}
+
+// Is true if the string with another after its bytes is within the limit of weight.
+fn has_room_after(text: &MooStr, last: &MooStr) -> bool
+    ensures { IsTrue result ↔ IsWithinLimits (string (text.now ++ last.now)) }
+{
+    text.len() + last.len() < WEIGHT_LIMIT as usize
+}
+
+// Returns the string with another after its bytes, which has to be within the limit of weight.
+fn extended(alloc: Global, text: MooStr, last: &MooStr) -> Result<MooStr, AllocError>
+    requires { IsWithinLimits (string (text ++ last.now)) }
+    ensures { IfOk result (λ longer. longer ≡ text ++ last.now) }
+{
+    match text.extended(alloc, last) {
+        Ok(longer) => Ok(longer),
+        Err(ValueFault::Memory) => Err(AllocError),
+        Err(ValueFault::TooHeavy | ValueFault::BadByte) => unreachable!(),
+    }
+}

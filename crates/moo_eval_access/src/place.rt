@@ -1,0 +1,52 @@
+//! Places of lists and strings that are set in the variable that holds them, as by `l[i] = x;`.
+ghost use Rattle.std.specs.Prelude.{◌≡◌, Ok, Err, IfErr, OnOk};
+ghost use Rattle.moo_value.specs.Tree.{Tree};
+ghost use Rattle.moo_value.specs.View.{tree};
+ghost use Rattle.moo_builtin_operator.specs.Assignment.{with_index_of};
+ghost use Rattle.moo_eval_frame.specs.Outcome.{answers};
+ghost use Rattle.moo_eval_frame.specs.Variables.{bind, with_variable};
+ghost use Rattle.moo_eval_frame.specs.Seen.{variables_of, failure_of, HadMemoryIn};
+
+use moo_builtin_operator::{index_refusal, with_index};
+use moo_eval_frame::{Failure, Variables};
+use moo_syntax_ast::Name;
+use moo_value::Value;
+use std::alloc::Global;
+
+/// Sets a variable to the container with the value at the place. Raises the errors of `with_index`; the variable then
+/// keeps its value. The variable gives up what it holds first, so a list that nothing else shares is changed in place.
+pub fn set_at(
+    alloc: Global,
+    variables: &mut Variables,
+    name: &Name,
+    container: Value,
+    place: &Value,
+    value: Value,
+) -> Result<(), Failure>
+    ensures ok { OnOk result ((w : Tree) × (with_index_of (tree container) (tree place.now) (tree value) ≡ Ok w) × (variables_of variables.new ≡ with_variable (variables_of variables.old) (bind name.now w))) }
+    ensures err { IfErr result (λ failure. HadMemoryIn failure → answers (with_index_of (tree container) (tree place.now) (tree value)) ≡ Err (failure_of failure)) }
+    ensures kept { IfErr result (λ failure. HadMemoryIn failure → variables_of variables.new ≡ variables_of variables.old) }
+{
+    if let Some(code) = index_refusal(&container, place, &value) {
+        return Err(Failure::Fails(code));
+    }
+    replace_at(alloc, variables, name, container, place, value)
+}
+
+// Sets a variable to the container with a value that the place doesn't refuse.
+fn replace_at(
+    alloc: Global,
+    variables: &mut Variables,
+    name: &Name,
+    container: Value,
+    place: &Value,
+    value: Value,
+) -> Result<(), Failure>
+    ensures ok { OnOk result ((w : Tree) × (with_index_of (tree container) (tree place.now) (tree value) ≡ Ok w) × (variables_of variables.new ≡ with_variable (variables_of variables.old) (bind name.now w))) }
+    ensures err { IfErr result (λ failure. HadMemoryIn failure → answers (with_index_of (tree container) (tree place.now) (tree value)) ≡ Err (failure_of failure)) }
+{
+    variables.set(name, Value::Int(0))?;
+    let whole = with_index(alloc, container, place, value)?;
+    variables.set(name, whole)?;
+    Ok(())
+}

@@ -1,4 +1,0 @@
-pub mod AtOnce
-pub mod Timeless
-pub mod Called
-mod LettersAt

@@ -1,3 +1,0 @@
-pub mod Ready
-pub mod Turn
-pub mod Running

@@ -1,5 +1,0 @@
-pub mod Growth
-pub mod Element
-pub mod Scattering
-pub mod Changes
-pub mod Branching

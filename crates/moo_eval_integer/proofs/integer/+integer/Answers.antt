@@ -1,0 +1,13 @@
+use Rattle.std.proofs.Common.{w32, rules}
+use Rattle.std.proofs.lemmas.Int.{to_z-of_z}
+use mir.Val.{SFits}
+use Rattle.moo_eval_frame.specs.Seen.{variables_of}
+use Rattle.moo_eval_integer.proofs.Given.{operator_gives, map_some}
+use Rattle.moo_eval_integer.proofs.integer.+integer.Goals as goal
+
+pub arithmetic_integer-returns-clause-value : goal.arithmetic_integer-returns-clause-value
+arithmetic_integer-returns-clause-value t c =
+    let variables = variables_of c.args.active.now.variables in
+    let first : SFits w32 c.in_ok-a.a = search rules in
+    let second : SFits w32 c.in_ok-b.b = search rules in
+    map_some c.number_of.result (λ n h. operator_gives variables c.in_ok-take.ensures.taken c.in_ok-a.ensures.value c.in_ok-b.ensures.value h) (rw (to_z-of_z w32 c.in_ok-a.a first, to_z-of_z w32 c.in_ok-b.b second) at c.number_of.ensures)

@@ -1,0 +1,21 @@
+-- Expressions that give integers.
+use Rattle.std.specs.Prelude.{◌≡◌, ℕ, ℤ, List, Option, Ok}
+use Rattle.moo_value.specs.Tree.{Tree, integer}
+use Rattle.moo_syntax_ast.specs.Tree.{Expr}
+use Rattle.moo_builtin.specs.Telling.{Faults}
+use Rattle.moo_eval_frame.specs.State.{Context}
+use Rattle.moo_eval_access.specs.State.{State}
+use Rattle.moo_eval_semantics.specs.Meaning.{Evaluates}
+
+-- the state with so many ticks
+abbrev pub with_ticks : ℕ → State → State
+with_ticks n s = record s { ticks = n }
+
+-- with these variables an expression gives this value in every state, and changes nothing but the ticks, of which so
+-- many are left before and after it
+abbrev pub GivesValue : (List ℕ → Option Tree) → ℕ → Expr → Tree → ℕ → Type 0
+GivesValue variables n e v m = (c : Context) (s : State) → s.variables ≡ variables → Evaluates Faults c e (with_ticks n s) (Ok v) (with_ticks m s)
+
+-- it gives this integer
+abbrev pub GivesInteger : (List ℕ → Option Tree) → ℕ → Expr → ℤ → ℕ → Type 0
+GivesInteger variables n e i m = GivesValue variables n e (integer i) m

@@ -1,0 +1,54 @@
+//! Lowers the items of lists and of calls, and the errors of catches.
+ghost use Rattle.std.specs.Prelude.{◌≡◌, IfOk};
+ghost use Rattle.moo_syntax_ast.specs.Tree.{Items};
+ghost use Rattle.moo_syntax_ast.specs.View.{items_of, codes_of, with_item};
+ghost use Rattle.moo_syntax_lower.specs.Source.{source_codes, source_items, with_source};
+
+use crate::expression::{copied_name, lower_boxed};
+use crate::node::{NodeCodes, NodeItem};
+use moo_syntax_ast::{Codes, Item};
+use std::alloc::{AllocError, Global};
+
+/// Returns the node of the errors of a catch.
+#[cycle(lowering)]
+pub(crate) fn lower_codes(alloc: Global, codes: &Codes) -> Result<NodeCodes, AllocError>
+    ensures { IfOk result (λ node. source_codes node ≡ codes_of codes.now) }
+{
+    match codes {
+        Codes::Any => Ok(NodeCodes::Any),
+        Codes::Listed(items) => Ok(NodeCodes::Listed(lower_items(alloc, items)?)),
+    }
+}
+
+/// Returns the nodes of items, in order.
+#[cycle(lowering)]
+pub(crate) fn lower_items(alloc: Global, items: &[Item]) -> Result<Vec<NodeItem>, AllocError>
+    ensures { IfOk result (λ nodes. source_items nodes.items ≡ items_of items.now) }
+{
+    let mut nodes = Vec::with_capacity(alloc, items.len())?;
+    for item in items {
+        let node = lower_item(alloc, item)?;
+        nodes.push(node)?;
+    }
+    Ok(nodes)
+}
+
+#[cycle(lowering)]
+fn lower_item(alloc: Global, item: &Item) -> Result<NodeItem, AllocError>
+    ensures { IfOk result (λ node. (rest : Items) → with_source node rest ≡ with_item item.now rest) }
+{
+    match item {
+        Item::Element(value) => Ok(NodeItem::Element(lower_boxed(alloc, value)?)),
+        Item::Splice(value) => Ok(NodeItem::Splice(lower_boxed(alloc, value)?)),
+        Item::Optional(name) => {
+            let name = copied_name(name)?;
+            Ok(NodeItem::Optional(Box::new(alloc, name)?))
+        }
+        Item::Defaulted(name, value) => {
+            let name = copied_name(name)?;
+            let name = Box::new(alloc, name)?;
+            let value = lower_boxed(alloc, value)?;
+            Ok(NodeItem::Defaulted(name, value))
+        }
+    }
+}

@@ -21,8 +21,8 @@ from row_file import TOP, Broken, parse
 FILES = {
     "commands": "command_line expr",
     "databases": "cut fields hierarchies lines refused values",
-    "programs": "answers at_once begins branches calls expressions frames functions growing hooks hostile in_place known_calls limits lists"
-    " loops names operations parts ready scatters statements table values verbs",
+    "programs": "answers begins branches calls expressions frames function_calls functions growing handlers hooks hostile in_place indexes integers last_ticks"
+    " limits lists loops names operands operations parts replaced scatters shared statements table turns values verbs",
     "script": "checkpoints commands connections hooks lines logins programming shown tasks",
 }
 KNOWN = {f"tests/{folder}/{name}.rows" for folder, names in FILES.items() for name in names.split()}

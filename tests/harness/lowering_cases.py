@@ -1,4 +1,4 @@
-"""Lowers the programs of every database here, with the program of the crate moo_eval_lower_test. It is there after a run of the gate."""
+"""Lowers the programs of every database here, with the program of the crate moo_syntax_lower_test. It is there after a run of the gate."""
 
 import subprocess
 from functools import partial
@@ -6,7 +6,7 @@ from functools import partial
 from outcome import PATIENCE, Outcome, Result, Skipped
 from row_file import TOP
 
-BUILT = TOP / "crates/moo_eval_lower_test/out/moo_eval_lower_test"
+BUILT = TOP / "crates/moo_syntax_lower_test/out/moo_syntax_lower_test"
 FOLDERS = ["worlds", "worlds/starter", "tests/databases", "examples"]
 
 # No database: their texts are refused, and why is in tests/databases/refused.rows.
@@ -21,7 +21,7 @@ def databases():
 def play(path):
     """Returns the outcome of a database: as many programs are lowered as its head counts, and no text is refused."""
     if not BUILT.is_file():
-        raise Skipped("moo_eval_lower_test is not built")
+        raise Skipped("moo_syntax_lower_test is not built")
     text = path.read_bytes()
     done = subprocess.run([BUILT], input=text, capture_output=True, timeout=PATIENCE, check=False)
     wanted = b"%d programs lowered\n0 texts refused\n" % int(text.split(b"\n")[2])

@@ -1,9 +1,7 @@
 // What calls answer, as text, and whether it is what rows say.
 use crate::lines::push_three_pieces;
 use crate::worlds::world;
-use moo_command::{
-    Chosen, Command, Typed, choose_verb, match_object, parse_command, read_typed, words,
-};
+use moo_command::{Command, Typed, parse_command, read_typed, words};
 use moo_value::MooStr;
 use std::alloc::{AllocError, Global};
 
@@ -11,18 +9,15 @@ use std::alloc::{AllocError, Global};
 pub enum Call {
     Words,
     Typed,
-    Match,
     Parse,
-    Choose,
     Feed,
 }
 
-/// Rows of a call by a player: each is a line, ` --> `, and what is answered, over a world of these objects and verbs.
+/// Rows of a call by a player: each is a line, ` --> `, and what is answered, over a world of these objects.
 pub struct Rows {
     pub call: Call,
     pub player: i32,
     pub objects: &'static str,
-    pub verbs: &'static str,
     pub rows: &'static str,
 }
 
@@ -45,8 +40,7 @@ fn push_answer(
     match rows.call {
         Call::Words => push_words(text, alloc, line),
         Call::Typed => push_what_is_typed(text, alloc, line),
-        Call::Match => push_object(text, alloc, rows, line),
-        Call::Parse | Call::Choose => push_command(text, alloc, rows, line),
+        Call::Parse => push_command(text, alloc, rows, line),
         Call::Feed => push_three_pieces(text, alloc),
     }
 }
@@ -64,30 +58,16 @@ fn push_what_is_typed(text: &mut Vec<u8>, alloc: Global, line: &str) -> Result<(
     }
 }
 
-fn push_object(
-    text: &mut Vec<u8>,
-    alloc: Global,
-    rows: &Rows,
-    line: &str,
-) -> Result<(), AllocError> {
-    let world = world(alloc, rows.objects, rows.verbs)?;
-    let o = match_object(&world, rows.player, line.as_bytes());
-    push_number(text, alloc, o, "")
-}
-
 fn push_command(
     text: &mut Vec<u8>,
     alloc: Global,
     rows: &Rows,
     line: &str,
 ) -> Result<(), AllocError> {
-    let world = world(alloc, rows.objects, rows.verbs)?;
+    let world = world(alloc, rows.objects)?;
     let line = string(alloc, line.as_bytes())?;
     let command = parse_command(alloc, &world, rows.player, &line)?;
-    match rows.call {
-        Call::Choose => push_chosen(text, alloc, choose_verb(&world, rows.player, &command)),
-        _ => push_parts(text, alloc, &command),
-    }
+    push_parts(text, alloc, &command)
 }
 
 /// The string of these bytes.
@@ -130,19 +110,6 @@ fn push_parts(text: &mut Vec<u8>, alloc: Global, command: &Command) -> Result<()
     push_number(text, alloc, command.prep, " ")?;
     push_text(text, command.iobjstr.as_bytes())?;
     push_number(text, alloc, command.iobj, " ")
-}
-
-// The object that was looked on, and where the verb is, or nothing.
-fn push_chosen(
-    text: &mut Vec<u8>,
-    alloc: Global,
-    chosen: Option<Chosen>,
-) -> Result<(), AllocError> {
-    let Some(Chosen { this, found }) = chosen else {
-        return Ok(());
-    };
-    let place = format!(in alloc; "{this} {} {}", found.definer, found.index)?;
-    text.extend_from_slice(place.as_bytes())
 }
 
 fn push_text(text: &mut Vec<u8>, bytes: &[u8]) -> Result<(), AllocError> {

@@ -13,28 +13,24 @@ static ROWS: [Rows; 4] = [
         call: Call::Words,
         player: 2,
         objects: OBJECTS,
-        verbs: "",
         rows: "put box on top of me --> put|box|on|top|of|me|",
     },
     Rows {
         call: Call::Typed,
         player: 2,
         objects: OBJECTS,
-        verbs: "",
         rows: "put box on top of me --> put|box on top of me|box|on|top|of|me|",
     },
     Rows {
         call: Call::Parse,
         player: 2,
         objects: OBJECTS,
-        verbs: "",
         rows: "put box on top of me --> put|box on top of me|[box][on][top][of][me]|box|1 on top of|4 me|2 ",
     },
     Rows {
         call: Call::Feed,
         player: 2,
         objects: OBJECTS,
-        verbs: "",
         rows: " --> one|two|three||",
     },
 ];

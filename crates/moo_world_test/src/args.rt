@@ -18,18 +18,18 @@ const NO_PROP_PERMS: PropPerms = PropPerms {
     change_owner: false,
 };
 
-pub const NO_VERB_PERMS: VerbPerms = VerbPerms {
+const NO_VERB_PERMS: VerbPerms = VerbPerms {
     read: false,
     write: false,
     execute: false,
     debug: false,
 };
 
-pub fn string(alloc: Global, bytes: &[u8]) -> Result<MooStr, WorldFault> {
+fn string(alloc: Global, bytes: &[u8]) -> Result<MooStr, WorldFault> {
     MooStr::try_from_bytes(alloc, bytes).map_err(|_| WorldFault::Memory)
 }
 
-pub fn list(alloc: Global, values: Vec<Value>) -> Result<Value, WorldFault> {
+fn list(alloc: Global, values: Vec<Value>) -> Result<Value, WorldFault> {
     match MooList::try_from_vec(alloc, values) {
         Ok(list) => Ok(Value::List(list)),
         Err(_) => Err(WorldFault::Memory),
@@ -90,10 +90,6 @@ impl Args {
             self.values.push(list(alloc, elements)?)?;
         }
         Ok(())
-    }
-
-    pub fn values(&self) -> &[Value] {
-        &self.values
     }
 
     pub fn values_mut(&mut self) -> &mut [Value] {

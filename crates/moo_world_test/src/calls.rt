@@ -1,13 +1,11 @@
 // The calls of the world by their names.
-use crate::args::{Args, string};
-use crate::looks::look;
-use crate::rights::rights;
+use crate::args::Args;
 use moo_syntax_grammar::Program;
 use moo_value::{ErrorCode, Value};
 use moo_world::{ObjectSpecifier, PrepositionSpecifier, VerbArgs, World, WorldFault};
 use std::alloc::Global;
 
-pub const NO_COMMAND: VerbArgs = VerbArgs {
+const NO_COMMAND: VerbArgs = VerbArgs {
     direct: ObjectSpecifier::None,
     preposition: PrepositionSpecifier::None,
     indirect: ObjectSpecifier::None,
@@ -20,12 +18,6 @@ pub fn answer(
     call: &str,
     args: &Args,
 ) -> Result<Value, WorldFault> {
-    if let Some(value) = look(world, alloc, call, args)? {
-        return Ok(value);
-    }
-    if let Some(value) = rights(world, alloc, call, args)? {
-        return Ok(value);
-    }
     if let Some(value) = make(world, alloc, call, args)? {
         return Ok(value);
     }
@@ -62,9 +54,6 @@ fn add_verb(world: &mut World, alloc: Global, args: &Args) -> Result<Value, Worl
 }
 
 fn change(world: &mut World, alloc: Global, call: &str, args: &Args) -> Result<(), WorldFault> {
-    if let Some(answer) = test(world, alloc, call, args) {
-        return answer;
-    }
     if let Some(answer) = change_object(world, alloc, call, args) {
         return answer;
     }
@@ -177,67 +166,12 @@ fn set_verb_info(world: &mut World, alloc: Global, args: &Args) -> Result<(), Wo
     )
 }
 
-/// A program without statements.
-pub fn no_statements(alloc: Global) -> Result<Program, WorldFault> {
+// A program without statements.
+fn no_statements(alloc: Global) -> Result<Program, WorldFault> {
     Ok(Program::empty(alloc)?)
 }
 
 fn set_program(world: &mut World, alloc: Global, args: &Args) -> Result<(), WorldFault> {
     let program = no_statements(alloc)?;
     world.set_program(args.number(0), args.index(1), Some(program))
-}
-
-// The calls that tell what others would raise.
-fn test(world: &World, alloc: Global, call: &str, args: &Args) -> Option<Result<(), WorldFault>> {
-    let o = args.number(0);
-    match call {
-        "try_create" => Some(world.try_create(o)),
-        "try_recycle" => Some(world.try_recycle(o)),
-        "try_move" => Some(world.try_move(o, args.number(1))),
-        "try_set_player" => Some(world.try_set_player(o, args.is_on(1))),
-        "try_add_property" => Some(world.try_add_property(alloc, o, args.bytes(1))),
-        "try_delete_property" => Some(world.try_delete_property(o, args.bytes(1))),
-        "try_clear" => Some(world.try_clear_property(o, args.bytes(1))),
-        "try_chparent" => Some(world.try_chparent(alloc, o, args.number(1))),
-        "try_set" => Some(try_set(world, args)),
-        "try_set_info" => Some(world.try_set_property_info(alloc, o, args.bytes(1), None)),
-        "try_rename" => Some(try_rename(world, alloc, args)),
-        _ => test_verb(world, alloc, call, args),
-    }
-}
-
-fn test_verb(
-    world: &World,
-    alloc: Global,
-    call: &str,
-    args: &Args,
-) -> Option<Result<(), WorldFault>> {
-    let (o, index) = (args.number(0), args.index(1));
-    match call {
-        "try_verb" => Some(world.try_verb(o, index)),
-        "try_add_verb" => Some(try_add_verb(world, alloc, args)),
-        "try_set_verb_info" => Some(try_set_verb_info(world, alloc, args)),
-        "try_set_program" => Some(world.try_set_program(o, index, true)),
-        _ => None,
-    }
-}
-
-fn try_add_verb(world: &World, alloc: Global, args: &Args) -> Result<(), WorldFault> {
-    let names = args.string(alloc, 1)?;
-    world.try_add_verb(args.number(0), &names)
-}
-
-fn try_set_verb_info(world: &World, alloc: Global, args: &Args) -> Result<(), WorldFault> {
-    let names = args.string(alloc, 2)?;
-    world.try_set_verb_info(args.number(0), args.index(1), &names)
-}
-
-fn try_set(world: &World, args: &Args) -> Result<(), WorldFault> {
-    let value = args.value(2)?;
-    world.try_set(args.number(0), args.bytes(1), &value)
-}
-
-fn try_rename(world: &World, alloc: Global, args: &Args) -> Result<(), WorldFault> {
-    let name = string(alloc, args.bytes(2))?;
-    world.try_set_property_info(alloc, args.number(0), args.bytes(1), Some(&name))
 }

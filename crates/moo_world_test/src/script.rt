@@ -7,7 +7,6 @@ use crate::functions::function_answer;
 use moo_value::Value;
 use moo_world::{World, WorldFault};
 use std::alloc::Global;
-use std::test::Fail;
 
 /// The first row that isn't answered so. Each is run on the world that those before it left.
 pub fn first_wrong<'a>(
@@ -60,28 +59,4 @@ fn literal(alloc: Global, answer: Result<Value, WorldFault>) -> Result<Vec<u8>, 
         Err(WorldFault::Memory) => return Err(WorldFault::Memory),
     };
     Ok(value.to_literal(alloc)?)
-}
-
-/// Fails with the first row that isn't answered so.
-pub fn stand_on(world: &mut World, alloc: Global, rows: &'static str) -> Result<(), Fail> {
-    match first_wrong(world, alloc, rows)? {
-        Some(row) => Err(Fail::from(row)),
-        None => Ok(()),
-    }
-}
-
-fn stand(alloc: Global, parts: &[&'static str]) -> Result<(), Fail> {
-    let mut world = World::empty(alloc);
-    for rows in parts {
-        stand_on(&mut world, alloc, rows)?;
-    }
-    Ok(())
-}
-
-/// Fails with the first row that isn't answered so, each part on the world that those before it made.
-pub fn each_stands(alloc: Global, worlds: &[[&'static str; 3]]) -> Result<(), Fail> {
-    for parts in worlds {
-        stand(alloc, parts)?;
-    }
-    Ok(())
 }

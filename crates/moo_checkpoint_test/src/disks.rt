@@ -42,7 +42,7 @@ fn left<D: CrashDisk + Drop>(disk: D, i: usize) -> Option<D> {
 }
 
 /// Puts the i-th text that a crash may leave behind the others, with `|` behind it; answers whether there is one.
-pub(crate) fn push_image(images: &mut Vec<u8>, disk: MemoryDisk, i: usize) -> Result<bool, Fail> {
+fn push_image(images: &mut Vec<u8>, disk: MemoryDisk, i: usize) -> Result<bool, Fail> {
     let Some(left) = left(disk, i) else {
         return Ok(false);
     };

@@ -1,5 +1,5 @@
-//! Databases in pieces and damaged, disks and checkpoints, and what is recovered from disks: tests alone, in a crate of their
-//! own, so that the crates that they are about are proved once.
+//! Databases in pieces and damaged, what a crash leaves of a disk in memory, and what a start leaves on a disk. This crate has
+//! tests only, so that the crates that they test are proved once.
 #![tactic(auto)]
 
 #[cfg(test)]
@@ -14,7 +14,5 @@ mod databases;
 mod disks;
 #[cfg(test)]
 mod pieces;
-#[cfg(test)]
-mod records;
 #[cfg(test)]
 mod recovering;

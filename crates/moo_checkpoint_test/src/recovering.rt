@@ -1,55 +1,13 @@
-//! What is recovered from disks.
+//! What a start leaves on the disk that it recovers from.
 use crate::checkpoints::write;
 use crate::databases::{LARGER, SMALL, copy_of, recovered_as, with_line};
 use moo_checkpoint::{Turn, recover};
-use moo_disk::{Disk, FailAt, MemoryDisk};
+use moo_disk::{Disk, MemoryDisk};
 use std::alloc::Global;
 use std::test::Fail;
 
 fn disk_with(alloc: Global, text: &[u8]) -> Result<MemoryDisk, Fail> {
     Ok(MemoryDisk::new(alloc, copy_of(alloc, text)?))
-}
-
-#[test]
-fn a_checkpoint_of_five_turns_is_recovered(rt: HostRuntime) -> Result<(), Fail> {
-    let alloc = rt.alloc();
-    let mut disk = disk_with(alloc, SMALL)?;
-    assert_eq!(rt; write(copy_of(alloc, LARGER)?, &mut disk, 5), Turn::Done);
-    let recovered = recovered_as(alloc, recover(alloc, &mut disk))?;
-    assert!(rt; recovered.as_slice() == LARGER.as_slice());
-    Ok(())
-}
-
-// A database of three buffers.
-fn long_database(alloc: Global) -> Result<Vec<u8>, Fail> {
-    let mut name = vec![in alloc; b'a'; 131_072]?;
-    name.push(b'\n')?;
-    with_line(alloc, LARGER, 26, &name)
-}
-
-// Each call of these fails alone, and no more are made.
-fn tells_each_failure(alloc: Global, text: &[u8], calls: u64) -> Result<bool, Fail> {
-    for k in 1..calls {
-        let mut disk = FailAt::new(disk_with(alloc, text)?, k, false);
-        let first = recovered_as(alloc, recover(alloc, &mut disk))?;
-        let second = recovered_as(alloc, recover(alloc, &mut disk))?;
-        if first.as_slice() != b"refused: Device".as_slice() || second.as_slice() != text {
-            return Ok(false);
-        }
-    }
-    let mut disk = FailAt::new(disk_with(alloc, text)?, calls, false);
-    let recovered = recovered_as(alloc, recover(alloc, &mut disk))?;
-    let mut buffer = [0];
-    Ok(recovered.as_slice() == text && disk.read_main(0, &mut buffer).is_err())
-}
-
-#[test]
-fn a_read_that_fails_is_told(rt: HostRuntime) -> Result<(), Fail> {
-    let alloc = rt.alloc();
-    assert!(rt; tells_each_failure(alloc, LARGER, 3)?);
-    let long = long_database(alloc)?;
-    assert!(rt; tells_each_failure(alloc, &long, 5)?);
-    Ok(())
 }
 
 /// Each row replaces a line of the first database, and says what is told of the disk that holds it.

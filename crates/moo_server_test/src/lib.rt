@@ -1,21 +1,14 @@
-//! A server over a disk in memory: tests alone, as rows of text, in a crate of their own. A row that begins with `> ` is what comes to the
-//! server in a life. A row that begins with `>> ` ends the life, and says over what disk it was; behind it stands what the server
-//! told: how many events it took, why it took no more, where it stands, the lines that it sent on each connection, and those of
-//! its log. What players type and what scripts print stands in rows that the program plays (tests/script).
+//! What no script shows of a server over a disk in memory: a stop within a call of the disk, lists of lives, memory that is
+//! short, events of one call for a connection that is leaving, and scripts whose input or output fails. This crate has tests
+//! only, so that the crates that they test are proved once.
 #![tactic(auto)]
 
-#[cfg(test)]
-mod closing;
 #[cfg(test)]
 mod lives;
 #[cfg(test)]
 mod memory;
 #[cfg(test)]
-mod moments;
-#[cfg(test)]
 mod playing;
-#[cfg(test)]
-mod saving;
 #[cfg(test)]
 mod scripts;
 #[cfg(test)]

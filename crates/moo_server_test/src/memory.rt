@@ -1,4 +1,4 @@
-//! A server where memory is short. `bench/refusals/run` refuses each growth of this test in turn.
+//! A server where memory is short. `stress/refusals/run` refuses each growth of this test in turn.
 
 use crate::playing::WORLD;
 use moo_disk::{Disk, FailAt, MemoryDisk, Place, StopAt};
@@ -138,6 +138,32 @@ fn are_right(alloc: Global) -> Result<bool, AllocError> {
         (asked_behind(done), "{1, 1}\r\n"),
     ];
     Ok(taken::<MooApplication, _>(alloc, &mut disk, &asked)?.is_some())
+}
+
+// An event in one call with the boot before it, so that the connection is leaving, and what it sent waits.
+const LEAVING: [Row; 3] = [
+    ("open", "*** Connected ***\r\n"),
+    (
+        ";boot_player(player);",
+        "{1, 0}\r\n*** Disconnected ***\r\n",
+    ),
+    (";shutdown();", ""),
+];
+
+// Whether all is taken, and bytes for a connection that is leaving come to nothing.
+fn is_nothing_heard(alloc: Global) -> Result<bool, AllocError> {
+    let disk = MemoryDisk::new(alloc, Vec::from_slice(alloc, WORLD)?);
+    let mut disk = FailAt::new(StopAt::new(disk, u64::MAX, Place::Before), 0, false);
+    let done = taken::<MooApplication, _>(alloc, &mut disk, &LEAVING)?;
+    Ok(matches!(done, Some(3)))
+}
+
+#[test]
+fn a_leaving_connection_is_not_heard(rt: HostRuntime) {
+    match is_nothing_heard(rt.alloc()) {
+        Ok(is_nothing_heard) => assert!(rt; is_nothing_heard),
+        Err(AllocError) => {}
+    }
 }
 
 #[test]

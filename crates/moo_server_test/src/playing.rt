@@ -18,24 +18,6 @@ pub fn disk_of(alloc: Global, world: &[u8]) -> Result<MemoryDisk, Fail> {
     Ok(MemoryDisk::new(alloc, Vec::from_slice(alloc, world)?))
 }
 
-/// The rows again, from this database on, with what is told behind each life.
-pub fn played(alloc: Global, world: &[u8], rows: &str) -> Result<Vec<u8>, Fail> {
-    let mut disk = disk_of(alloc, world)?;
-    let mut events = Vec::new(alloc);
-    let mut told = Vec::new(alloc);
-    for row in rows.lines() {
-        if let Some(end) = row.strip_prefix(">> ") {
-            add_line(&mut told, row.as_bytes())?;
-            disk = end_life(alloc, disk, end, &events, &mut told)?;
-            events = Vec::new(alloc);
-        } else if let Some(event) = row.strip_prefix("> ") {
-            add_line(&mut told, row.as_bytes())?;
-            add_events(alloc, &mut events, event)?;
-        }
-    }
-    Ok(told)
-}
-
 fn add_line(told: &mut Vec<u8>, line: &[u8]) -> Result<(), Fail> {
     told.extend_from_slice(line)?;
     told.push(b'\n')?;
@@ -82,33 +64,6 @@ fn typed(alloc: Global, text: &str, end: &str) -> Result<Vec<u8>, Fail> {
     Ok(piece)
 }
 
-// A life over the disk, or over one that fails or stops in its k-th call; or what a crash leaves, or the end of the main text.
-fn end_life(
-    alloc: Global,
-    disk: MemoryDisk,
-    end: &str,
-    events: &[Event],
-    told: &mut Vec<u8>,
-) -> Result<MemoryDisk, Fail> {
-    let (word, rest) = part(end);
-    let (number, effect) = part(rest);
-    let number = number.parse::<u16>().unwrap_or(0);
-    match word {
-        "crash" => crash(alloc, disk, number, told),
-        "main" => add_connected(disk, told),
-        "fail" => {
-            let fails = (u64::from(number), effect == "done");
-            play(alloc, disk, fails, (NEVER, Place::Before), events, told)
-        }
-        "stop" => stop(alloc, disk, number, Place::Before, events, told),
-        "within" => stop(alloc, disk, number, Place::Within, events, told),
-        _ => {
-            let never = (NEVER, Place::Before);
-            play(alloc, disk, (NEVER, false), never, events, told)
-        }
-    }
-}
-
 /// A life over a disk that stops in its k-th call, before it or within it.
 pub fn stop(
     alloc: Global,
@@ -136,26 +91,6 @@ fn play(
     let mut disk = FailAt::new(stops, failing, effect);
     live::<MooApplication, _>(alloc, &mut disk, events, told)?;
     Ok(disk.into_inner().into_inner())
-}
-
-// The disk that a crash leaves with the i-th of the texts, where there is one.
-fn crash(alloc: Global, disk: MemoryDisk, i: u16, told: &mut Vec<u8>) -> Result<MemoryDisk, Fail> {
-    let count = disk.image_count();
-    add_line(told, format!(in alloc; "of {count}")?.as_bytes())?;
-    match disk.crash(usize::from(i)) {
-        Ok(left) => Ok(left),
-        Err(same) => Ok(same),
-    }
-}
-
-// The lines of who was connected.
-fn add_connected(disk: MemoryDisk, told: &mut Vec<u8>) -> Result<MemoryDisk, Fail> {
-    let main = str::from_utf8(disk.main_text()).unwrap_or("");
-    let (_, connected) = main
-        .split_once("0 suspended tasks\n")
-        .unwrap_or(("", "none\n"));
-    told.extend_from_slice(connected.as_bytes())?;
-    Ok(disk)
 }
 
 // One life, from moment 0 on.

@@ -1,4 +1,4 @@
-//! Scripts over readers and writers that fail, and what is logged.
+//! Scripts over readers and writers that fail.
 
 mod device;
 mod playing;

@@ -1,6 +1,6 @@
-//! Readers and writers that fail, and what is logged.
+//! Readers and writers that fail.
 
-use crate::scripts::playing::{LARGER, SMALL, play};
+use crate::scripts::playing::{SMALL, play};
 use crate::scripts::streams::{Paper, Source};
 use log::sink::Memory;
 use std::io::ErrorKind;
@@ -53,31 +53,6 @@ fn a_writer_may_fail(rt: HostRuntime) -> Result<(), Fail> {
             &mut printed,
         );
         assert_eq!(rt; status, 3);
-    }
-    Ok(())
-}
-
-#[test]
-fn lines_of_the_log_are_logged(rt: HostRuntime) -> Result<(), Fail> {
-    let log = Memory::new(rt.alloc());
-    let script = b"open 1\nline 1 ;server_log(\"one\"); server_log(\"two\");\n";
-    let mut printed = Paper::new(rt.alloc(), usize::MAX);
-    let status = play(
-        rt.alloc(),
-        &log,
-        Source::whole(LARGER),
-        Source::whole(script),
-        &mut printed,
-    );
-    assert_eq!(rt; status, 0);
-    let lines = log.into_lines();
-    assert_eq!(rt; lines.len(), 2);
-    for (line, wanted) in lines
-        .as_slice()
-        .iter()
-        .zip(["[INFO  moo] one", "[INFO  moo] two"])
-    {
-        assert_eq!(rt; line.as_str(), wanted);
     }
     Ok(())
 }

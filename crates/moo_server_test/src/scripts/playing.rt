@@ -11,10 +11,6 @@ use std::alloc::Global;
 pub const SMALL: &[u8] =
     b"** LambdaMOO Database, Format Version 4 **\n4\n1\n0\n1\n3\n#0\nSystem Object\n\n16\n3\n-1\n-1\n-1\n1\n-1\n2\n1\ndo_login_command\n3\n173\n-1\n0\n0\n#1\nRoot Class\n\n16\n3\n-1\n-1\n-1\n-1\n0\n-1\n0\n0\n0\n#2\nThe First Room\n\n0\n3\n-1\n3\n-1\n1\n-1\n3\n0\n0\n0\n#3\nWizard\n\n7\n3\n2\n-1\n-1\n1\n-1\n-1\n0\n0\n0\n#0:0\nreturn #3;\n.\n0 clocks\n0 queued tasks\n0 suspended tasks\n0 active connections with listeners\n";
 
-/// A world with a verb of the wizard's that evaluates what is typed after a semicolon.
-pub const LARGER: &[u8] =
-    b"** LambdaMOO Database, Format Version 4 **\n4\n2\n0\n1\n3\n#0\nSystem Object\n\n16\n3\n-1\n-1\n-1\n1\n-1\n2\n1\ndo_login_command\n3\n173\n-1\n0\n0\n#1\nRoot Class\n\n16\n3\n-1\n-1\n-1\n-1\n0\n-1\n0\n0\n0\n#2\nThe First Room\n\n0\n3\n-1\n3\n-1\n1\n-1\n3\n0\n0\n0\n#3\nWizard\n\n7\n3\n2\n-1\n-1\n1\n-1\n-1\n1\neval\n3\n93\n-2\n0\n0\n#0:0\nreturn #3;\n.\n#3:0\nnotify(player, toliteral(eval(argstr)));\n.\n0 clocks\n0 queued tasks\n0 suspended tasks\n0 active connections with listeners\n";
-
 /// Plays a script, and answers its status.
 pub fn play(
     alloc: Global,

@@ -100,6 +100,29 @@ def requests_are_answered(moo):
             same("length", int(re.search(rb"Content-Length: (\d+)", head)[1]), len(body))
 
 
+def a_head_has_a_limit(moo):
+    """A head has at most 8,192 bytes. It may come in two pieces; one that goes on after them is refused."""
+    with Page(moo) as server:
+        for size, status in [(8192, 200), (8193, 431)]:
+            head = get("/", f"127.0.0.1:{server.web}", "X: ")[:-4]
+            request = head + b"x" * (size - len(head) - 4) + b"\r\n\r\n"
+            same(f"{size} bytes", respond(server.web, request)[:13], b"HTTP/1.1 %d " % status)
+            same(f"{size} bytes in pieces", respond(server.web, request, 8191)[:13], b"HTTP/1.1 %d " % status)
+        same("no end", respond(server.web, request[:8192])[:13], b"HTTP/1.1 431 ")
+
+
+def a_handshake_and_frames_come_in_pieces_of_every_size(moo):
+    data, greeting = frame(TEXT, b"lo", is_final=False) + frame(PING, b"!") + frame(CONTINUATION, b"ok\n"), GREETING
+    with Page(moo) as server:
+        for size in range(1, len(data) + 1):
+            browser = WebSocket(server.web, size=size)
+            browser.sees(greeting)
+            browser.send(data, size)
+            browser.sees_frame(PONG, b"!")
+            browser.sees(LOOKED)
+            greeting = b"*** Redirecting old connection to this port ***\r\n"
+
+
 def a_browser_plays(moo):
     """Lines don't depend on how they are cut into messages, fragments and pieces."""
     with Page(moo) as server:
@@ -266,6 +289,8 @@ def one_who_is_silent_is_pinged_and_then_hung_up(moo):
 CASES = [
     (the_page_is_served, ()),
     (requests_are_answered, ()),
+    (a_head_has_a_limit, ()),
+    (a_handshake_and_frames_come_in_pieces_of_every_size, ()),
     (a_browser_plays, ()),
     (a_page_of_another_origin_that_is_allowed_plays, ()),
     (frames_may_follow_the_request_at_once, ()),

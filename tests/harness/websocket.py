@@ -67,11 +67,12 @@ def respond(port, request, size=None):
 class WebSocket:
     """A browser's end of a WebSocket."""
 
-    def __init__(self, port, request=None):
+    def __init__(self, port, request=None, size=None):
+        """Opens it by this request, or by one of the page. It is sent in pieces of this size, or at once."""
         self.client = socket.create_connection(("127.0.0.1", port), PATIENCE)
         self.client.setsockopt(socket.IPPROTO_TCP, socket.TCP_NODELAY, 1)
         self.unread = b""
-        self.client.sendall(request or upgrade(f"127.0.0.1:{port}", f"http://127.0.0.1:{port}"))
+        self.send(request or upgrade(f"127.0.0.1:{port}", f"http://127.0.0.1:{port}"), size)
         head = self.read_until(b"\r\n\r\n")
         same("handshake", [head.split(b"\r\n")[0], accept_key(KEY) in head], [b"HTTP/1.1 101 Switching Protocols", True])
 

@@ -13,6 +13,3 @@ mod silence;
 pub use channel::{Channel, FRAMES_MOST, PAYLOAD_MOST};
 pub use endpoint::{Endpoint, FRAME_MOST, close_code};
 pub use silence::{Due, GONE_SECONDS, PING_SECONDS, Silence};
-
-#[cfg(test)]
-mod tests;

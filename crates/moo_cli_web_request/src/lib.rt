@@ -11,6 +11,3 @@ pub use allowed::Allowed;
 pub use reading::{HEAD_MOST, read_request};
 pub use refusal::Refusal;
 pub use request::Request;
-
-#[cfg(test)]
-mod tests;

@@ -36,30 +36,6 @@ fn run(
 }
 
 #[test]
-fn flags_leave_notices(rt: HostRuntime) -> Result<(), Fail> {
-    let alloc = rt.alloc();
-    let source = "set_player_flag(#4, 1); set_player_flag(#3, \"\");";
-    let (_, changed) = run(alloc, &[], source)?;
-    let [
-        Notice::SetPlayerFlag(4, true),
-        Notice::SetPlayerFlag(3, false),
-    ] = changed.as_slice()
-    else {
-        return Err(Fail::from(source));
-    };
-    let source = "set_player_flag(#4, 0); set_player_flag(#4, 0);";
-    let (_, same) = run(alloc, &[], source)?;
-    let [
-        Notice::SetPlayerFlag(4, false),
-        Notice::SetPlayerFlag(4, false),
-    ] = same.as_slice()
-    else {
-        return Err(Fail::from(source));
-    };
-    Ok(())
-}
-
-#[test]
 fn notices_stand_in_their_order(rt: HostRuntime) -> Result<(), Fail> {
     let source =
         "notify(#4, \"a\"); set_player_flag(#4, 1); recycle(#2); boot_player(#4); server_log(\"b\"); dump_database(); set_player_flag(#4, 0); shutdown(\"c\");";

@@ -1,6 +1,6 @@
-//! What no script shows of a server over a disk in memory: a stop within a call of the disk, lists of lives, memory that is
-//! short, events of one call for a connection that is leaving, and scripts whose input or output fails. This crate has tests
-//! only, so that the crates that they test are proved once.
+//! What no script shows of a server over a disk in memory: stops within a call of the disk, lists of lives, memory that is
+//! short, a leaving connection, and scripts whose input or output fails. This crate has tests only, so that the crates that
+//! they test are proved once.
 #![tactic(auto)]
 
 #[cfg(test)]

@@ -9,3 +9,4 @@ pub mod Slots
 pub mod Given
 pub mod Spelling
 pub mod NameNumber
+pub mod NameHash

@@ -1,5 +1,5 @@
 -- Numbers of names without regard to case, so that two names are compared in one step: names with different numbers are different.
-use Rattle.std.specs.Prelude.{ℕ, ◌+◌, ◌-◌, ◌*◌, ◌%◌, ◌^◌, ◌==◌, ◌||◌, ◌&&◌, List, [], ◌∷◌, Option, Some, None, nat_le, if◌then◌else◌}
+use Rattle.std.specs.Prelude.{ℕ, ◌+◌, ◌-◌, ◌*◌, ◌%◌, ◌^◌, ◌<◌, ◌==◌, ◌||◌, ◌&&◌, List, [], ◌∷◌, Option, Some, None, nat_le, if◌then◌else◌}
 use Rattle.std.specs.Option.{unwrap_or, option_and_then}
 
 -- the digit of a byte in lower case: a to z from 1 on, then 0 to 9, then an underscore; 0 for any other byte
@@ -26,3 +26,7 @@ hash_of (byte ∷ rest) = (byte + 16777619 * hash_of rest) % 2 ^ 32
 -- the number of a name in lower case: its code, or a hash of 2 ^ 63 and more if it has none
 abbrev pub name_number : List ℕ → ℕ
 name_number name = unwrap_or (code_of name) (2 ^ 63 + hash_of name)
+
+-- at most one name has this number
+abbrev pub IsCode : ℕ → Type 0
+IsCode number = number < 2 ^ 63

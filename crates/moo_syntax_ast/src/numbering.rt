@@ -2,7 +2,7 @@
 ghost use Rattle.std.specs.Prelude.{◌≡◌, ◌<◌, ◌+◌, ◌*◌, ◌%◌, ◌^◌, ℕ, List, IsTrue};
 ghost use Rattle.std.specs.Char.{to_ascii_lowercase};
 ghost use Rattle.moo_value.specs.Compare.{folded};
-ghost use Rattle.moo_syntax_ast.specs.NameNumber.{digit_of, with_digit, code_of, hash_of, name_number};
+ghost use Rattle.moo_syntax_ast.specs.NameNumber.{digit_of, with_digit, code_of, hash_of, name_number, IsCode};
 
 // Codes are below this number, and hashes are not.
 const FIRST_HASH: u64 = 9223372036854775808;
@@ -24,7 +24,8 @@ pub fn name_number(name: &[u8]) -> u64
 /// Is true if at most one name has this number.
 #[inline(always)]
 pub fn is_code(number: u64) -> bool
-    ensures { IsTrue result → (a b : List ℕ) → name_number a ≡ number → name_number b ≡ number → a ≡ b }
+    ensures code { IsTrue result → IsCode number }
+    ensures one { IsTrue result → (a b : List ℕ) → name_number a ≡ number → name_number b ≡ number → a ≡ b }
 {
     number < FIRST_HASH
 }

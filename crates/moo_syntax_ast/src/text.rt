@@ -3,7 +3,9 @@ ghost use Rattle.std.specs.Prelude.{◌≡◌};
 ghost use Rattle.moo_value.specs.Compare.{folded};
 ghost use Rattle.moo_syntax_ast.specs.NameNumber.{name_number};
 
-use crate::numbering::name_number;
+use crate::name_hash::hash_of;
+use crate::name_key::NameKey;
+use crate::numbering::{is_code, name_number};
 use moo_value::MooStr;
 use std::cell::Cell;
 use std::marker::Model;
@@ -15,6 +17,8 @@ pub struct Text {
     string: MooStr,
     /// The number of the string as a name.
     number: u64,
+    /// The hash of the string as the name of a verb.
+    hash: usize,
     hint: Cell<u32>,
 }
 
@@ -22,12 +26,13 @@ impl Model for Text {
     ghost use Rattle.std.specs.Prelude.{◌≡◌, ℕ, List};
     ghost use Rattle.moo_value.specs.Compare.{folded};
     ghost use Rattle.moo_syntax_ast.specs.NameNumber.{name_number};
+    ghost use Rattle.moo_syntax_ast.specs.NameHash.{hash_of};
 
     ghost Value = { List ℕ };
 
     ghost view = { λ text. text.string };
 
-    ghost invariant = { λ text. text.number ≡ name_number (folded text.string) };
+    ghost invariant = { λ text. (text.number ≡ name_number (folded text.string)) × (text.hash ≡ hash_of text.string) };
 }
 
 impl Text {
@@ -36,9 +41,11 @@ impl Text {
         ensures { result ≡ string }
     {
         let number = name_number(string.as_bytes());
+        let hash = hash_of(string.as_bytes());
         Text {
             string,
             number,
+            hash,
             hint: Cell::new(0),
         }
     }
@@ -57,6 +64,15 @@ impl Text {
         ensures { result ≡ name_number (folded self.now) }
     {
         self.number
+    }
+
+    /// Returns the string as a name that is sought.
+    #[inline(always)]
+    pub fn key(&self) -> NameKey<'_>
+        ensures { result ≡ self.now }
+    {
+        let number = if is_code(self.number) { self.number } else { 0 };
+        NameKey::from_parts(self.string.as_bytes(), self.hash, number)
     }
 
     /// Returns the hint that was noted last.

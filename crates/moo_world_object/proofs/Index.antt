@@ -9,11 +9,11 @@ use Rattle.std.specs.Char.{to_ascii_lowercase}
 use Rattle.moo_value.specs.Compare.{folded}
 use Rattle.moo_world_object.specs.Patterns.{is_star, is_blank, is_word, base, least, ends_in_star, fits, fits_names, Fits, Begins, EndsInStar}
 use Rattle.moo_world_object.specs.Verbs.{fits_verb, is_needed, changed_at}
-use Rattle.moo_world_object.specs.Index.{letter_at, letters_hash, class_of, hash_of, bucket_of, no_verbs, Holds, IsListed, Grows, CoversPattern, Covers, AreIndexed}
+use Rattle.moo_world_object.specs.Index.{bucket_of, no_verbs, Holds, IsListed, Grows, CoversPattern, Covers, AreIndexed}
 use Rattle.moo_world_object.specs.declared.verb.Verb.{Verb}
 use Rattle.moo_world_object.specs.declared.verb.Need.{Need}
 use Rattle.moo_world_object.specs.declared.verb_index.Bucket.{Bucket}
-use Rattle.moo_world_object.specs.Letters.{first_letter}
+use Rattle.moo_syntax_ast.specs.NameHash.{first_letter, letter_at, letters_hash, class_of, hash_of}
 use Rattle.moo_world_object.proofs.Letters.{begins_so}
 use Rattle.moo_world_object.proofs.Patterns.{fits_is, ends_in_star_is}
 

@@ -1,13 +1,16 @@
 -- Filter letters exclude names that do not match the verbs of an object.
-use Rattle.std.proofs.Common.{◌≡◌, ◌⊎◌, ℕ, zero, suc, ◌<◌, ◌+◌, not, subst, List, [], ◌∷◌, ◌++◌, Bool, true, false, ◌||◌, eqb, refl, sym, ◌∙◌, ap, ⊎_elim, inl, inr, arith, length, get_or, filter, set, ltb, ◌≤◌, Some, None}
+use Rattle.std.proofs.Common.{◌≡◌, ◌⊎◌, ℕ, zero, suc, ◌<◌, ◌+◌, not, subst, List, [], ◌∷◌, ◌++◌, Bool, true, false, ◌&&◌, ◌||◌, eqb, refl, sym, ◌∙◌, ap, ⊎_elim, inl, inr, arith, length, get_or, filter, set, ltb, ◌≤◌, Some, None}
 use Rattle.std.specs.List.{list_any, remove, slice_split, position, position_or_len}
 use Rattle.std.specs.Char.{to_ascii_lowercase}
 use Rattle.std.proofs.lemmas.Bool.{cases_Bool, or_parts, eqb-true, eq-eqb, false≢true, lt-ltb, le-ltb, ne_eqb}
+use Rattle.std.proofs.lemmas.List.{get_or_default}
 use Rattle.std.proofs.lemmas.List.Sums.{position_or_len_is}
 use Rattle.moo_value.specs.Compare.{folded}
 use Rattle.moo_world_object.specs.Patterns.{is_star, is_blank, is_word, fits, Fits, base, least}
-use Rattle.moo_world_object.specs.Letters.{first_letter, begins_otherwise, IsLetter, AreLetters}
-use Rattle.moo_world_object.specs.Verbs.{changed_at}
+use Rattle.moo_syntax_ast.specs.NameHash.{first_letter}
+use Rattle.moo_world_object.specs.Letters.{begins_otherwise, may_begin, IsLetter, AreLetters}
+use Rattle.moo_world_object.specs.Verbs.{changed_at, is_needed, fits_verb}
+use Rattle.moo_world_object.specs.declared.verb.Need.{Need}
 use Rattle.moo_world_object.specs.declared.verb.Verb.{Verb}
 use Rattle.moo_world_object.proofs.Patterns.{fits_is}
 
@@ -59,6 +62,21 @@ letter_tells letter names so = λ name fit.
 
 pub nothing_told : (names : List ℕ) → IsLetter 0 names
 nothing_told names = λ name fit. refl
+
+-- the letter excludes no verb that matches
+pub letter_first : (letter : ℕ) (need : Need) (name : List ℕ) (v : Verb) → IsLetter letter v.names → (may_begin letter (first_letter name) && fits_verb need name v) ≡ fits_verb need name v
+letter_first letter need name v tells = elim (cases_Bool (fits_verb need name v)) [
+  | inl fit ↦ ap (λ t. t && fits_verb need name v) (tells name (and_second (is_needed need v) fit))
+  | inr off ↦ ap (λ t. may_begin letter (first_letter name) && t) off ∙ and_none (may_begin letter (first_letter name)) ∙ sym off
+]
+  where
+    and_second : (a : Bool) {b : Bool} → (a && b) ≡ true → b ≡ true
+    and_second true h = h
+    and_second false h = absurd (false≢true h)
+
+    and_none : (a : Bool) → (a && false) ≡ false
+    and_none true = refl
+    and_none false = refl
 
 -- one verb more
 pub more_verbs : (letters : List ℕ) (verbs : List Verb) (v : Verb) → AreLetters letters verbs → AreLetters letters (verbs ++ v ∷ [])
@@ -133,6 +151,12 @@ first_at t xs i x low before here passes =
     let at : position_or_len t xs ≡ i = position_or_len_is t xs i x (omega (arith, low)) (λ k l. before k x l) (λ l. ap t (sym here) ∙ passes) in
     let less : ltb i (length xs) ≡ true = lt-ltb i (length xs) low in
     rw (at, less) refl
+
+pub first_place : {X : Type 0} (t : X → Bool) (xs : List X) (i : ℕ) → i < length xs → ((k : ℕ) (d : X) → k < i → t (get_or xs k d) ≡ false) → ((x : X) → x ≡ get_or xs i x → t x ≡ true) → Some i ≡ position t xs
+first_place t [] i low before passes = absurd (omega (arith, low))
+first_place t (x ∷ xs) i low before passes =
+    let here = get_or_default (x ∷ xs) i x (get_or (x ∷ xs) i x) low in
+    first_at t (x ∷ xs) i (get_or (x ∷ xs) i x) low before here (passes (get_or (x ∷ xs) i x) here)
 
 pub none_at : {X : Type 0} (t : X → Bool) (xs : List X) → ((k : ℕ) (d : X) → k < length xs → t (get_or xs k d) ≡ false) → None ≡ position t xs
 none_at t [] none = refl

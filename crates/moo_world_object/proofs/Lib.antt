@@ -4,6 +4,7 @@ mod Seeking
 mod Fitting
 mod Patterns
 mod Letters
+mod VerbNumbers
 mod Index
 mod Alone
 mod Verbs

@@ -1,25 +1,9 @@
 -- The index of the verbs of an object by the hash of a name. An open pattern is one that ends in a star.
-use Rattle.std.specs.Prelude.{◌≡◌, ◌⊎◌, ℕ, ◌+◌, ◌*◌, ◌-◌, ◌/◌, ◌%◌, ◌<◌, ◌≤◌, true, List, length, slice_index_or, bit_and, nat_lt, if◌then◌else◌}
+use Rattle.std.specs.Prelude.{◌≡◌, ◌⊎◌, ℕ, ◌+◌, ◌*◌, ◌/◌, ◌%◌, ◌<◌, ◌≤◌, true, List, length, slice_index_or, bit_and}
 use Rattle.moo_world_object.specs.Patterns.{fits, fits_names}
-use Rattle.moo_world_object.specs.Letters.{first_letter}
+use Rattle.moo_syntax_ast.specs.NameHash.{hash_of}
 use Rattle.moo_world_object.specs.declared.verb.Verb.{Verb}
 use Rattle.moo_world_object.specs.declared.verb_index.Bucket.{Bucket}
-
--- the number of a byte of a name, the same for a letter in either case, or 0 past the end
-abbrev pub letter_at : List ℕ → ℕ → ℕ
-letter_at name i = slice_index_or name i 0 % 32
-
--- a number of a name's length, its middle letter and its last three
-abbrev pub letters_hash : List ℕ → ℕ
-letters_hash name = length name % 256 + letter_at name (length name / 2) * 50653 + letter_at name (length name - 3) * 1369 + letter_at name (length name - 2) * 37 + letter_at name (length name - 1)
-
--- the class of a name with this first letter: 0 before the letters, else 1
-abbrev pub class_of : ℕ → ℕ
-class_of first = if nat_lt first 65 then 0 else 1
-
--- the hash of a name
-abbrev pub hash_of : List ℕ → ℕ
-hash_of name = letters_hash name * 2 + class_of (first_letter name)
 
 -- the number of the bucket of names with this hash, which comes after the two buckets of open patterns
 abbrev pub bucket_of : ℕ → ℕ → ℕ

@@ -1,13 +1,11 @@
 -- Letters that exclude names which do not match a verb.
-use Rattle.std.specs.Prelude.{◌≡◌, ⊤, ℕ, List, [], ◌∷◌, Bool, true, false, ◌==◌, ◌||◌, not}
+use Rattle.std.specs.Prelude.{◌≡◌, ◌≢◌, ⊤, ℕ, List, [], ◌∷◌, Bool, true, false, ◌==◌, ◌||◌, not}
 use Rattle.std.specs.Char.{to_ascii_lowercase}
+use Rattle.moo_syntax_ast.specs.NameHash.{first_letter}
+use Rattle.moo_value.specs.Compare.{folded}
+use Rattle.moo_syntax_ast.specs.NameNumber.{name_number, IsCode}
 use Rattle.moo_world_object.specs.Patterns.{is_star, fits_names}
 use Rattle.moo_world_object.specs.declared.verb.Verb.{Verb}
-
--- the first letter of a name in lower case, or 0 if it is empty
-abbrev pub first_letter : List ℕ → ℕ
-first_letter [] = 0
-first_letter (b ∷ bs) = to_ascii_lowercase b
 
 -- whether a pattern does not begin with this letter
 abbrev pub begins_otherwise : ℕ → List ℕ → Bool
@@ -27,3 +25,13 @@ abbrev pub AreLetters : List ℕ → List Verb → Type 0
 AreLetters [] verbs = ⊤
 AreLetters (letter ∷ letters) [] = ⊥
 AreLetters (letter ∷ letters) (v ∷ verbs) = IsLetter letter v.names × AreLetters letters verbs
+
+-- the number of the only name of a verb, which is a code, or 0 if none is known
+abbrev pub IsNumberOf : ℕ → List ℕ → Type 0
+IsNumberOf number names = number ≢ 0 → (number ≡ name_number (folded names)) × IsCode number
+
+-- numbers for the first of these verbs
+abbrev pub AreNumbers : List ℕ → List Verb → Type 0
+AreNumbers [] verbs = ⊤
+AreNumbers (number ∷ numbers) [] = ⊥
+AreNumbers (number ∷ numbers) (v ∷ verbs) = IsNumberOf number v.names × AreNumbers numbers verbs

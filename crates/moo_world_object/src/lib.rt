@@ -25,4 +25,3 @@ pub use pattern::{fits, fits_names, has_word};
 pub use row::{Row, cell_at, cell_named, note_place, place_known, place_named, place_named_as};
 pub use verb::{Need, Verb, VerbPerms};
 pub use verb_args::{ObjectSpecifier, Preposition, PrepositionSpecifier, VerbArgs};
-pub use verb_index::hash_of;

@@ -72,7 +72,8 @@ impl Verb {
         self.is_needed(need) && fits_names(self.names.as_bytes(), name)
     }
 
-    fn is_needed(&self, need: Need) -> bool
+    #[inline(always)]
+    pub(crate) fn is_needed(&self, need: Need) -> bool
         ensures { result ≡ is_needed need self.now }
     {
         match need {

@@ -2,11 +2,12 @@
 ghost use Rattle.std.specs.Prelude.{◌≡◌, ◌<◌, ◌≤◌, ◌++◌, ◌∷◌, ℕ, List, [], false, length, IsTrue, OnOk, IfOk, min, max};
 ghost use Rattle.moo_world_object.specs.Patterns.{base, ends_in_star};
 ghost use Rattle.moo_world_object.specs.declared.verb.Verb.{Verb};
-ghost use Rattle.moo_world_object.specs.Letters.{first_letter};
-ghost use Rattle.moo_world_object.specs.Index.{letter_at, letters_hash, class_of, hash_of, bucket_of, Holds, IsListed, Grows, CoversPattern, Covers, AreIndexed};
+ghost use Rattle.moo_syntax_ast.specs.NameHash.{class_of, hash_of};
+ghost use Rattle.moo_world_object.specs.Index.{bucket_of, Holds, IsListed, Grows, CoversPattern, Covers, AreIndexed};
 
 use crate::pattern::{ends_in_star, is_blank, is_star, least_length};
 use crate::verb::Verb;
+use moo_syntax_ast::{class_of, first_letter, hash_of};
 use std::alloc::{AllocError, Global};
 
 /// The number of verbs above which an object has no index, so that a change of a verb takes a bounded time.
@@ -99,60 +100,6 @@ impl VerbIndex {
             None => (0, many),
         }
     }
-}
-
-/// Returns the hash of a name. Names that differ in the case of their letters alone have one hash. Its lowest bit is the
-/// class of the name's first letter.
-#[inline]
-pub fn hash_of(name: &[u8]) -> usize
-    ensures { result ≡ hash_of name.now }
-{
-    letters_hash(name) * 2 + class_of(first_letter(name))
-}
-
-// Returns a number of a name's length, its middle letter and its last three.
-#[inline]
-fn letters_hash(name: &[u8]) -> usize
-    ensures value { result ≡ letters_hash name.now }
-    ensures small { result < 1700000 }
-{
-    let many = name.len();
-    many % 256
-        + letter_at(name, many / 2) * 50653
-        + letter_at(name, many.saturating_sub(3)) * 1369
-        + letter_at(name, many.saturating_sub(2)) * 37
-        + letter_at(name, many.saturating_sub(1))
-}
-
-#[inline]
-fn letter_at(name: &[u8], index: usize) -> usize
-    ensures value { result ≡ letter_at name.now index }
-    ensures small { result < 32 }
-{
-    match name.get(index) {
-        Some(byte) => usize::from(*byte % 32),
-        None => 0,
-    }
-}
-
-/// Returns the first letter of a name in lower case, or 0 if the name is empty.
-#[inline]
-pub(crate) fn first_letter(name: &[u8]) -> u8
-    ensures { result ≡ first_letter name.now }
-{
-    match name {
-        [first, ..] => first.to_ascii_lowercase(),
-        [] => 0,
-    }
-}
-
-// Returns the class of a name with this first letter: 0 if it comes before the letters, as `@` does, and else 1.
-#[inline]
-fn class_of(first: u8) -> usize
-    ensures value { result ≡ class_of first }
-    ensures small { result < 2 }
-{
-    if first < b'A' { 0 } else { 1 }
 }
 
 // Returns the number of the bucket of names with this hash. It comes after the two buckets of open patterns.

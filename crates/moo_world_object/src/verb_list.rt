@@ -1,16 +1,19 @@
 //! The verbs of an object, in order, with a filter by the first letter of names.
-ghost use Rattle.std.specs.Prelude.{◌≡◌, ◌<◌, OnOk, OnErr, IfOk, [], ◌⊎◌, ◌∷◌, ◌++◌, length, position, slice_index_or};
+ghost use Rattle.std.specs.Prelude.{◌≡◌, ◌≢◌, ◌<◌, OnOk, OnErr, IfOk, [], ◌⊎◌, ◌∷◌, ◌++◌, length, position, slice_index_or};
 ghost use Rattle.std.specs.List.{list_any, remove, slice_split};
-ghost use Rattle.moo_world_object.specs.Patterns.{is_blank};
+ghost use Rattle.moo_world_object.specs.Patterns.{is_blank, fits_names};
 ghost use Rattle.moo_world_object.specs.Verbs.{fits_verb, changed_at, with_verb_info, with_args, with_program};
 ghost use Rattle.moo_world_object.specs.declared.verb.Verb.{Verb};
-ghost use Rattle.moo_world_object.specs.Letters.{first_letter, begins_otherwise, may_begin, IsLetter, AreLetters};
-ghost use Rattle.moo_world_object.specs.Index.{hash_of, AreIndexed};
+ghost use Rattle.moo_syntax_ast.specs.NameHash.{first_letter};
+ghost use Rattle.moo_world_object.specs.Letters.{begins_otherwise, may_begin, IsLetter, AreLetters, IsNumberOf, AreNumbers};
+ghost use Rattle.moo_world_object.specs.Index.{AreIndexed};
 
+use crate::name::same_hashed_name;
 use crate::pattern::{is_blank, is_star};
 use crate::verb::{Need, Verb, VerbPerms, change_args, change_info, change_program};
 use crate::verb_args::VerbArgs;
-use crate::verb_index::{VerbIndex, first_letter, hash_of};
+use crate::verb_index::VerbIndex;
+use moo_syntax_ast::{NameKey, first_letter, is_code, name_number};
 use moo_syntax_grammar::Program;
 use moo_value::MooStr;
 use std::alloc::{AllocError, Global};
@@ -22,6 +25,8 @@ use std::marker::Model;
 pub struct VerbList {
     verbs: Vec<Verb>,
     letters: Vec<u8>,
+    /// For each of the first ones, the number of its only name, if that has no star and its number is a code, or 0.
+    numbers: Vec<u64>,
     index: VerbIndex,
 }
 
@@ -30,7 +35,7 @@ impl Model for VerbList {
     ghost use Rattle.std.specs.Coded.{codes};
     ghost use Rattle.moo_syntax_ast.specs.Code.{block_code};
     ghost use Rattle.moo_world_object.specs.declared.verb.Verb.{Verb};
-    ghost use Rattle.moo_world_object.specs.Letters.{AreLetters};
+    ghost use Rattle.moo_world_object.specs.Letters.{AreLetters, AreNumbers};
     ghost use Rattle.moo_world_object.specs.Index.{AreIndexed};
 
     ghost Value = { List Verb };
@@ -39,7 +44,7 @@ impl Model for VerbList {
 
     ghost view = { λ l. l.verbs.items };
 
-    ghost invariant = { λ l. AreLetters l.letters.items l.verbs.items × AreIndexed l.index.buckets.items l.index.mask l.verbs.items };
+    ghost invariant = { λ l. AreLetters l.letters.items l.verbs.items × AreNumbers l.numbers.items l.verbs.items × AreIndexed l.index.buckets.items l.index.mask l.verbs.items };
 }
 
 impl VerbList {
@@ -50,6 +55,7 @@ impl VerbList {
         VerbList {
             verbs: Vec::new(alloc),
             letters: Vec::new(alloc),
+            numbers: Vec::new(alloc),
             index: VerbIndex::new(alloc),
         }
     }
@@ -60,9 +66,11 @@ impl VerbList {
     {
         let letters = letters_of(*verbs.allocator(), &verbs);
         let index = VerbIndex::from_verbs(*verbs.allocator(), &verbs);
+        let numbers = numbers_of(*verbs.allocator(), &verbs);
         VerbList {
             verbs,
             letters,
+            numbers,
             index,
         }
     }
@@ -78,27 +86,49 @@ impl VerbList {
     pub fn position(&self, need: Need, name: &[u8]) -> Option<usize>
         ensures { result ≡ position (fits_verb need name.now) self.now }
     {
-        self.position_hashed(need, name, hash_of(name))
+        self.position_named(need, &NameKey::new(name))
     }
 
-    /// Returns the place of the first verb that a name with this hash matches. For a call only executable verbs count.
+    /// Returns the place of the first verb that a name matches. For a call only executable verbs count.
     #[inline]
-    pub fn position_hashed(&self, need: Need, name: &[u8], hash: usize) -> Option<usize>
-        requires { hash ≡ hash_of name.now }
+    pub fn position_named(&self, need: Need, name: &NameKey<'_>) -> Option<usize>
         ensures { result ≡ position (fits_verb need name.now) self.now }
     {
-        let (start, last) = self.index.range(hash, self.verbs.len());
+        let (start, last) = self.index.range(name.hash(), self.verbs.len());
         for i in start..self.verbs.len() {
             if i > last {
                 return None;
             }
-            // Most objects have no verb in the range, so the letter is read here.
-            let first = first_letter(name);
-            if may_begin(self.letter(i), first) && self.verbs[i].fits(need, name) {
+            if self.fits(i, need, name) {
                 return Some(i);
             }
         }
         None
+    }
+
+    // Returns whether a name matches the verb at a place. Compares numbers alone if both are known.
+    #[inline(always)]
+    fn fits(&self, index: usize, need: Need, name: &NameKey<'_>) -> bool
+        requires { index < length self.now }
+        ensures { (v : Verb) → v ≡ slice_index_or self.now index v → result ≡ fits_verb need name.now v }
+    {
+        let verb = &self.verbs[index];
+        let number = self.number(index);
+        if number == 0 {
+            return fits_by_letter(verb, self.letter(index), need, name.bytes());
+        }
+        verb.is_needed(need) && has_name(verb, number, name)
+    }
+
+    // Returns the number of the verb at a place, or 0 if none is known.
+    #[inline(always)]
+    fn number(&self, index: usize) -> u64
+        ensures { (v : Verb) → v ≡ slice_index_or self.now index v → IsNumberOf result v.names }
+    {
+        match self.numbers.get(index) {
+            Some(number) => *number,
+            None => 0,
+        }
     }
 
     // Returns the filter letter of the verb at a place, or 0 if there is none.
@@ -118,9 +148,11 @@ impl VerbList {
         ensures err { OnErr result (self.new ≡ self.old) }
     {
         let letter = letter_of(verb.names.as_bytes());
+        let number = number_of(verb.names.as_bytes());
         let many = self.verbs.len();
         self.verbs.push(verb)?;
         push_letter(&mut self.letters, many, letter);
+        push_number(&mut self.numbers, many, number);
         self.index.add_last(*self.verbs.allocator(), &self.verbs);
         Ok(())
     }
@@ -131,6 +163,7 @@ impl VerbList {
         ensures { self.new ≡ remove self.old index }
     {
         remove_letter(&mut self.letters, index);
+        remove_number(&mut self.numbers, index);
         let _verb = self.verbs.remove(index);
         self.index = VerbIndex::from_verbs(*self.verbs.allocator(), &self.verbs);
     }
@@ -142,6 +175,7 @@ impl VerbList {
     {
         let letter = letter_of(names.as_bytes());
         set_letter(&mut self.letters, index, letter);
+        set_number(&mut self.numbers, index, number_of(names.as_bytes()));
         change_info(&mut self.verbs, index, names, owner, perms);
         self.index = VerbIndex::from_verbs(*self.verbs.allocator(), &self.verbs);
     }
@@ -160,6 +194,84 @@ impl VerbList {
         ensures { self.new ≡ changed_at index (with_program program) self.old }
     {
         change_program(&mut self.verbs, index, program);
+    }
+}
+
+// Returns whether a name matches a verb with this filter letter, which it compares first.
+#[tactic(auto, using(crate::proofs::Letters::letter_first))]
+#[inline(always)]
+fn fits_by_letter(verb: &Verb, letter: u8, need: Need, name: &[u8]) -> bool
+    requires { IsLetter letter verb.now.names }
+    ensures { result ≡ fits_verb need name.now verb.now }
+{
+    may_begin(letter, first_letter(name)) && verb.fits(need, name)
+}
+
+// Returns whether a name is the only name of a verb, which has this number. Compares numbers alone if both are known.
+#[inline(always)]
+fn has_name(verb: &Verb, number: u64, name: &NameKey<'_>) -> bool
+    requires known { number ≢ 0 }
+    requires number { IsNumberOf number verb.now.names }
+    ensures { result ≡ fits_names verb.now.names name.now }
+{
+    let sought = name.number();
+    if sought != 0 {
+        return number == sought;
+    }
+    same_hashed_name(verb.names.as_bytes(), name.bytes())
+}
+
+// Returns the numbers of the verbs. Out of memory there are none.
+fn numbers_of(alloc: Global, verbs: &[Verb]) -> Vec<u64>
+    ensures { AreNumbers result.items verbs.now }
+{
+    match all_numbers(alloc, verbs) {
+        Ok(numbers) => numbers,
+        Err(_) => Vec::new(alloc),
+    }
+}
+
+fn all_numbers(alloc: Global, verbs: &[Verb]) -> Result<Vec<u64>, AllocError>
+    ensures { IfOk result (λ numbers. AreNumbers numbers.items verbs.now) }
+{
+    let mut numbers = Vec::with_capacity(alloc, verbs.len())?;
+    for i in 0..verbs.len() {
+        numbers.push(number_of(verbs[i].names.as_bytes()))?;
+    }
+    Ok(numbers)
+}
+
+// Returns the number of the only name among a verb's names, if it has no star and its number is a code, or 0. A code
+// has no blank and no star.
+fn number_of(names: &[u8]) -> u64
+    ensures { IsNumberOf result names.now }
+{
+    let number = name_number(names);
+    if is_code(number) { number } else { 0 }
+}
+
+// Appends a number if there are `many` and there is memory for it.
+fn push_number(numbers: &mut Vec<u64>, many: usize, number: u64)
+    ensures { ((length numbers.old.items ≡ many) × (numbers.new.items ≡ numbers.old.items ++ number ∷ [])) ⊎ (numbers.new.items ≡ numbers.old.items) }
+{
+    if numbers.len() == many {
+        let _pushed = numbers.push(number);
+    }
+}
+
+fn remove_number(numbers: &mut Vec<u64>, index: usize)
+    ensures { numbers.new.items ≡ remove numbers.old.items index }
+{
+    if index < numbers.len() {
+        let _number = numbers.remove(index);
+    }
+}
+
+fn set_number(numbers: &mut Vec<u64>, index: usize, number: u64)
+    ensures { numbers.new.items ≡ changed_at index (λ _. number) numbers.old.items }
+{
+    if index < numbers.len() {
+        numbers[index] = number;
     }
 }
 

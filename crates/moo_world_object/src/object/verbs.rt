@@ -2,12 +2,12 @@
 ghost use Rattle.std.specs.Prelude.{◌≡◌, ◌<◌, OnOk, OnErr, [], ◌∷◌, ◌++◌, length, position, slice_get};
 ghost use Rattle.std.specs.Option.{option_copied};
 ghost use Rattle.std.specs.List.{remove};
-ghost use Rattle.moo_world_object.specs.Index.{hash_of};
 ghost use Rattle.moo_world_object.specs.Verbs.{fits_verb, changed_at, with_verb_info, with_args, with_program};
 
 use crate::object::Object;
 use crate::verb::{Need, Verb, VerbPerms};
 use crate::verb_args::VerbArgs;
+use moo_syntax_ast::NameKey;
 use moo_syntax_grammar::Program;
 use moo_value::MooStr;
 use std::alloc::AllocError;
@@ -34,13 +34,12 @@ impl Object {
         self.verbs.position(need, name)
     }
 
-    /// Returns the place of the first verb that a name with this hash matches. For a call only executable verbs count.
+    /// Returns the place of the first verb that a name matches. For a call only executable verbs count.
     #[inline]
-    pub fn verb_position_hashed(&self, need: Need, name: &[u8], hash: usize) -> Option<usize>
-        requires { hash ≡ hash_of name.now }
+    pub fn verb_position_named(&self, need: Need, name: &NameKey<'_>) -> Option<usize>
         ensures { result ≡ position (fits_verb need name.now) self.now.verbs }
     {
-        self.verbs.position_hashed(need, name, hash)
+        self.verbs.position_named(need, name)
     }
 
     /// Appends a verb. Out of memory nothing changes.

@@ -1,6 +1,7 @@
 use Rattle.std.proofs.Common.{◌∙◌, ap, sym, subst}
 use Rattle.moo_world_object.specs.Patterns.{is_star}
-use Rattle.moo_world_object.specs.Index.{class_of, Holds}
+use Rattle.moo_syntax_ast.specs.NameHash.{class_of}
+use Rattle.moo_world_object.specs.Index.{Holds}
 use Rattle.moo_world_object.proofs.Index.{open_covers}
 use Rattle.moo_world_object.proofs.verb_index.add_open.Goals as goal
 

@@ -1,6 +1,7 @@
 use Rattle.std.proofs.Common.{◌≡◌, ◌+◌, ◌≤◌, ℕ, length, take, ap, ◌∙◌, sym, subst, arith}
 use Rattle.moo_world_object.specs.Patterns.{base, least}
-use Rattle.moo_world_object.specs.Index.{hash_of, bucket_of, Holds}
+use Rattle.moo_syntax_ast.specs.NameHash.{hash_of}
+use Rattle.moo_world_object.specs.Index.{bucket_of, Holds}
 use Rattle.moo_world_object.proofs.Index.{grows_more, prefixes_more, prefixes_cover, HoldsPrefixes}
 use Rattle.moo_world_object.proofs.verb_index.add_prefixes.Goals as goal
 

@@ -12,4 +12,4 @@ returns-then-self-number c =
 pub returns-then-is_code : goal.returns-then-is_code
 returns-then-is_code c =
     let name = folded c.args.name.now in
-    sym (ap (is_named name) (sym c.self.view_is) ∙ together (folded c.self.inside.name) name c.self.inside.number (c.is_code.ensures c.if-is_code.true) c.self.invariant.1 (c.if-self-number.false ∙ c.requires))
+    sym (ap (is_named name) (sym c.self.view_is) ∙ together (folded c.self.inside.name) name c.self.inside.number (c.is_code.ensures.one c.if-is_code.true) c.self.invariant.1 (c.if-self-number.false ∙ c.requires))

@@ -1,5 +1,6 @@
 -- When the calls on verbs raise, and what they leave.
-use Rattle.std.specs.Prelude.{ℕ, pos, List, Option, Some, None, Bool, if◌then◌else◌, nat_lt, length}
+use Rattle.std.specs.Prelude.{ℕ, ℤ, pos, List, Option, Some, None, Bool, if◌then◌else◌, nat_lt, length}
+use Rattle.std.specs.Option.{option_map}
 use Rattle.moo_value.specs.declared.error_code.ErrorCode.{ErrorCode}
 use Rattle.moo_value.specs.declared.error_code.ErrorCode.TheVariants.{InvalidArgument, VerbNotFound, Quota}
 use Rattle.moo_world_object.specs.Objects.{Object}
@@ -7,6 +8,8 @@ use Rattle.moo_world_object.specs.Patterns.{has_word}
 use Rattle.moo_world_table.specs.World.{World, thing_of, most}
 use Rattle.moo_world_table.specs.Changes.{with_object}
 use Rattle.moo_world_table.specs.Verbs.{programs_with}
+use Rattle.moo_world_object.specs.declared.verb.Verb.{Verb}
+use Rattle.moo_world.specs.Numbered.{verb_numbered}
 use Rattle.moo_world.specs.declared.looking.VerbAt.{VerbAt}
 
 -- what looking at a verb of an object raises
@@ -37,5 +40,10 @@ abbrev pub world_with_object : World → Option ℕ → (Object → Object) → 
 world_with_object w None f = w
 world_with_object w (Some x) f = with_object w x f
 
+-- the place of a verb that was found
 abbrev pub verb_place : ℕ × ℕ → VerbAt
 verb_place found = record { definer = pos found.0; index = found.1 }
+
+-- the verb at a place, and the object that has it
+abbrev pub verb_there : World → VerbAt → Option (ℤ × Verb)
+verb_there w place = option_map (λ v. (place.definer, v)) (verb_numbered w place.definer place.index)

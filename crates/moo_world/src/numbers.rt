@@ -50,7 +50,10 @@ impl World {
         ensures value { result ≡ number_of self.now.objects o }
         ensures valid { ForSome result (λ x. IsSome (object_of self.now.objects x)) }
     {
-        let number = usize::try_from(o).ok()?;
+        if o < 0 {
+            return None;
+        }
+        let number = o as usize;
         match self.objects.get(number) {
             Some(Some(_)) => Some(number),
             _ => None,

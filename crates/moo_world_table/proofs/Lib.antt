@@ -1,5 +1,6 @@
 pub mod Allowing
 pub mod Along
+pub mod Called
 pub mod Changing
 pub mod Clashes
 pub mod Counting

@@ -17,6 +17,10 @@ verb_at objects need name y = option_map (λ i. (y, i)) (position (fits_verb nee
 abbrev pub verb_found : World → Need → List ℕ → ℕ → Option (ℕ × ℕ)
 verb_found w need name x = slice_get (filter_map (verb_at w.objects need name) (x ∷ ancestors w.inheritance x)) 0
 
+-- the verb at a place, with the number of its object
+abbrev pub verb_at_place : List (Option Object) → ℕ × ℕ → Option (ℕ × Verb)
+verb_at_place objects place = option_map (λ v. (place.0, v)) (slice_get (thing_of objects place.0).verbs place.1)
+
 -- whether the verb at a place has a program
 abbrev pub has_program : List Verb → ℕ → Bool
 has_program vs i = is_some (option_and_then (λ v. v.program) (slice_get vs i))

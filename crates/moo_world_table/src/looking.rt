@@ -1,19 +1,21 @@
 //! Look-ups along the ancestors of an object: verbs whose names match, and values through clear cells.
 
 ghost use Rattle.std.specs.Prelude.{◌≡◌, ◌<◌, ◌∷◌, length, slice_get, None, Some, IfSome};
-ghost use Rattle.std.specs.Option.{option_map, option_copied, unwrap_or};
+ghost use Rattle.std.specs.Option.{option_map, option_copied, option_and_then, unwrap_or};
 ghost use Rattle.std.specs.List.{filter_map, position};
 ghost use Rattle.moo_value.specs.Compare.{folded};
 ghost use Rattle.moo_value.specs.View.{tree};
 ghost use Rattle.moo_world_tree.specs.Forest.{ancestors};
 ghost use Rattle.moo_world_object.specs.Verbs.{fits_verb};
-ghost use Rattle.moo_world_object.specs.Index.{hash_of};
+ghost use Rattle.moo_world_object.specs.declared.verb.Need.TheVariants as need;
 ghost use Rattle.moo_world_table.specs.World.{nothing};
-ghost use Rattle.moo_world_table.specs.Verbs.{verb_at};
+ghost use Rattle.moo_world_table.specs.Verbs.{verb_at, verb_at_place};
 ghost use Rattle.moo_world_table.specs.Properties.{value_in, value_at};
 
+use crate::verbs;
+use moo_syntax_ast::NameKey;
 use moo_value::Value;
-use moo_world_object::{Need, Object, cell_at, hash_of};
+use moo_world_object::{Need, Object, Verb, cell_at};
 use moo_world_tree::Forest;
 
 /// Returns the nearest verb that matches.
@@ -21,7 +23,7 @@ pub fn nearest_verb(
     objects: &[Option<Object>],
     tree: &Forest,
     x: usize,
-    name: &[u8],
+    name: &NameKey<'_>,
     need: Need,
 ) -> Option<(usize, usize)>
     requires many { length objects.now ≡ length tree.now }
@@ -30,8 +32,7 @@ pub fn nearest_verb(
     ensures low { IfSome result (λ found. found.0 < length objects.now) }
 {
     let mut at = x;
-    let hash = hash_of(name);
-    if let Some(index) = verb_in(&objects[x], name, need, hash) {
+    if let Some(index) = verb_in(&objects[x], name, need) {
         return Some((x, index));
     }
     for _ in 0..objects.len() {
@@ -39,22 +40,39 @@ pub fn nearest_verb(
             Some(up) => at = up,
             None => return None,
         }
-        if let Some(index) = verb_in(&objects[at], name, need, hash) {
+        if let Some(index) = verb_in(&objects[at], name, need) {
             return Some((at, index));
         }
     }
     None
 }
 
-// Returns the place of the first verb that a name with this hash matches, of the object at a number. For a call only
-// executable verbs count.
+/// Returns the nearest verb that can be called by a name, and the object that has it.
+#[tactic(auto, using(crate::proofs::Called::verb_placed))]
+pub fn nearest_called<'a>(
+    objects: &'a [Option<Object>],
+    tree: &Forest,
+    x: usize,
+    name: &NameKey<'_>,
+) -> Option<(usize, &'a Verb)>
+    requires many { length objects.now ≡ length tree.now }
+    requires first { x < length objects.now }
+    ensures value { option_map (λ found. (found.0, found.1.now)) result ≡ option_and_then (verb_at_place objects.now) (slice_get (filter_map (verb_at objects.now need.Call name.now) (x ∷ ancestors tree.now x)) 0) }
+    ensures low { IfSome result (λ found. found.0 < length objects.now) }
+{
+    let (definer, index) = nearest_verb(objects, tree, x, name, Need::Call)?;
+    let verb = verbs::verb_in(&objects[definer], index)?;
+    Some((definer, verb))
+}
+
+// Returns the place of the first verb that a name matches, of the object at a number. For a call only executable verbs
+// count.
 #[inline]
-fn verb_in(slot: &Option<Object>, name: &[u8], need: Need, hash: usize) -> Option<usize>
-    requires { hash ≡ hash_of name.now }
+fn verb_in(slot: &Option<Object>, name: &NameKey<'_>, need: Need) -> Option<usize>
     ensures { result ≡ position (fits_verb need name.now) (unwrap_or slot.now nothing).verbs }
 {
     match slot {
-        Some(object) => object.verb_position_hashed(need, name, hash),
+        Some(object) => object.verb_position_named(need, name),
         None => None,
     }
 }

@@ -1,5 +1,6 @@
 -- The variables that a frame begins with.
-use Rattle.std.proofs.Common.{◌≡◌, ℕ, List, [], ◌∷◌, Option, Some, None, cond, map, refl, sym, ap, ◌∙◌}
+use Rattle.std.proofs.Common.{◌≡◌, ℕ, ℤ, List, [], ◌∷◌, ◌++◌, take, drop, codes, Option, Some, None, Result, Ok, Err, IfOk, cond, map, refl, sym, ap, ◌∙◌}
+use Rattle.std.specs.declared.alloc.AllocError.{AllocError}
 use Rattle.std.specs.Option.{option_map}
 use Rattle.std.specs.List.{find}
 use Rattle.std.specs.Str.{bytes_eq}
@@ -9,16 +10,20 @@ use Rattle.moo_value.specs.Compare.{folded}
 use Rattle.moo_value.specs.View.{tree}
 use Rattle.moo_syntax_ast.specs.Given.{given_names}
 use Rattle.moo_eval_frame.specs.declared.frame.Frame.{Frame}
+use Rattle.moo_eval_frame.specs.declared.frame.Running.{Running}
 use Rattle.moo_eval_frame.specs.declared.shared_values.SharedValues.{SharedValues}
 use Rattle.moo_eval_frame.specs.declared.variables.Variables.{Variables}
-use Rattle.moo_eval_frame.specs.Variables.{Binding, first_bindings, handed_bindings, value_of_name}
-use Rattle.moo_eval_frame.specs.GivenValues.{values_with, types_of, types, command_of, command_in}
+use Rattle.moo_eval_frame.specs.State.{running_of}
+use Rattle.moo_eval_frame.specs.Variables.{Binding, bind, type_bindings, first_bindings, own_bindings, value_of_name, with_variable, called_variables}
+use Rattle.moo_eval_frame.specs.declared.given_values.GivenValues.{GivenValues}
+use Rattle.moo_eval_frame.specs.GivenValues.{given_values, values_with, types_of, types, command_of, command_in}
 use Rattle.moo_eval_frame.specs.Seen.{slot_value, seen_values, bound_values, variables_of}
 use Rattle.moo_eval_frame.proofs.Names.{split, nothing_set}
+use Rattle.moo_eval_frame.proofs.Newest.{first}
 
 -- these values of the names of types and of the command among those of a frame
-abbrev laid : Frame → List Tree → List Tree → List (Option Tree)
-laid f (num ∷ int ∷ obj ∷ str ∷ err ∷ row ∷ float ∷ []) (dobj ∷ iobj ∷ argstr ∷ dobjstr ∷ prepstr ∷ iobjstr ∷ []) =
+abbrev laid : Running → ℤ → List Tree → List Tree → List Tree → List (Option Tree)
+laid f caller args (num ∷ int ∷ obj ∷ str ∷ err ∷ row ∷ float ∷ []) (dobj ∷ iobj ∷ argstr ∷ dobjstr ∷ prepstr ∷ iobjstr ∷ []) =
     Some num
     ∷ Some int
     ∷ Some obj
@@ -28,7 +33,7 @@ laid f (num ∷ int ∷ obj ∷ str ∷ err ∷ row ∷ float ∷ []) (dobj ∷ 
     ∷ Some float
     ∷ Some (object f.player)
     ∷ Some (object f.this)
-    ∷ Some (object f.caller)
+    ∷ Some (object caller)
     ∷ Some dobj
     ∷ Some iobj
     ∷ Some (string f.verb)
@@ -36,16 +41,32 @@ laid f (num ∷ int ∷ obj ∷ str ∷ err ∷ row ∷ float ∷ []) (dobj ∷ 
     ∷ Some dobjstr
     ∷ Some prepstr
     ∷ Some iobjstr
-    ∷ Some (list_of f.args)
+    ∷ Some (list_of args)
     ∷ []
-laid f _ _ = []
+laid f caller args _ _ = []
 
-first_values : (f : Frame) (s : SharedValues) → types_of s ≡ types → command_of s ≡ command_in f → values_with f s ≡ bound_values (first_bindings f)
-first_values f s t c = ap (λ ts. laid f ts (command_of s)) t ∙ ap (laid f types) c
+-- the bindings of a frame that has this of the command, in the order of the names
+abbrev told : Running → ℤ → List Tree → Tree → Tree → Tree → Tree → Tree → Tree → List Binding
+told f caller args dobj iobj argstr dobjstr prepstr iobjstr =
+    type_bindings
+    ++ bind (codes "player") (object f.player)
+    ∷ bind (codes "this") (object f.this)
+    ∷ bind (codes "caller") (object caller)
+    ∷ bind (codes "dobj") dobj
+    ∷ bind (codes "iobj") iobj
+    ∷ bind (codes "verb") (string f.verb)
+    ∷ bind (codes "argstr") argstr
+    ∷ bind (codes "dobjstr") dobjstr
+    ∷ bind (codes "prepstr") prepstr
+    ∷ bind (codes "iobjstr") iobjstr
+    ∷ bind (codes "args") (list_of args)
+    ∷ []
 
-handed_values : (f : Frame) (s : SharedValues) (caller : Variables) → types_of s ≡ types → command_of s ≡ command_of caller.given.shared.value → values_with f s ≡ bound_values (handed_bindings f (variables_of caller))
-unfolding given_names variables_of
-handed_values f s caller t c = ap (λ ts. laid f ts (command_of s)) t ∙ ap (laid f types) c
+first_values : (f : Frame) (s : SharedValues) → types_of s ≡ types → command_of s ≡ command_in f → values_with (running_of f) f.caller f.args s ≡ bound_values (first_bindings f)
+first_values f s t c = ap (λ ts. laid (running_of f) f.caller f.args ts (command_of s)) t ∙ ap (laid (running_of f) f.caller f.args types) c
+
+handed_values : (f : Running) (caller : ℤ) (args : List Tree) (s t : SharedValues) → types_of s ≡ types → command_of s ≡ command_of t → values_with f caller args s ≡ bound_values (told f caller args (tree t.dobj) (tree t.iobj) (tree t.argstr) (tree t.dobjstr) (tree t.prepstr) (tree t.iobjstr))
+handed_values f caller args s t e c = ap (λ ts. laid f caller args ts (command_of s)) e ∙ ap (laid f caller args types) c
 
 -- Values by the names of bindings bind them.
 bound : (bs : List Binding) (values : List (Option Value)) (n : List ℕ) → seen_values values ≡ bound_values bs → slot_value (map (λ b. b.name) bs) values (value_of_name []) n ≡ value_of_name bs n
@@ -59,18 +80,49 @@ bound (b ∷ bs) (x ∷ values) n e =
     ∙ ap (cond (bytes_eq (folded b.name) n) (Some b.value)) (bound bs values n others)
     ∙ sym (split (bytes_eq (folded b.name) n) b (find (λ y. bytes_eq (folded y.name) n) bs))
 
-pub first_bound : (f : Frame) (s : SharedValues) (values : List (Option Value)) → seen_values values ≡ values_with f s → types_of s ≡ types → command_of s ≡ command_in f → slot_value given_names values (value_of_name []) ≡ value_of_name (first_bindings f)
+first_bound : (f : Frame) (s : SharedValues) (values : List (Option Value)) → seen_values values ≡ values_with (running_of f) f.caller f.args s → types_of s ≡ types → command_of s ≡ command_in f → slot_value given_names values (value_of_name []) ≡ value_of_name (first_bindings f)
 unfolding given_names
 first_bound f s values e t c = λ j n. bound (first_bindings f) values n (e ∙ first_values f s t c) j
 
-pub handed_bound : (f : Frame) (s : SharedValues) (caller : Variables) (values : List (Option Value)) → seen_values values ≡ values_with f s → types_of s ≡ types → command_of s ≡ command_of caller.given.shared.value → slot_value given_names values (value_of_name []) ≡ value_of_name (handed_bindings f (variables_of caller))
-unfolding given_names
-handed_bound f s caller values e t c = λ j n. bound (handed_bindings f (variables_of caller)) values n (e ∙ handed_values f s caller t c) j
+-- The variables of the command are taken over one after another.
+commanded : (f : Running) (caller : ℤ) (args : List Tree) (dobj iobj argstr dobjstr prepstr iobjstr : Tree) →
+    value_of_name (told f caller args dobj iobj argstr dobjstr prepstr iobjstr)
+    ≡ with_variable (with_variable (with_variable (with_variable (with_variable (with_variable (value_of_name (own_bindings f caller args)) (bind (codes "argstr") argstr)) (bind (codes "dobj") dobj)) (bind (codes "dobjstr") dobjstr)) (bind (codes "prepstr") prepstr)) (bind (codes "iobj") iobj)) (bind (codes "iobjstr") iobjstr)
+commanded f caller args dobj iobj argstr dobjstr prepstr iobjstr =
+    let all = told f caller args dobj iobj argstr dobjstr prepstr iobjstr in
+    let five = take 16 all ++ drop 17 all in
+    let four = take 11 five ++ drop 12 five in
+    let three = take 14 four ++ drop 15 four in
+    let two = take 13 three ++ drop 14 three in
+    let one = take 10 two ++ drop 11 two in
+    first (codes "iobjstr") iobjstr (take 16 all) (drop 17 all) refl
+    ∙ ap (λ v. with_variable v (bind (codes "iobjstr") iobjstr)) (first (codes "iobj") iobj (take 11 five) (drop 12 five) refl
+    ∙ ap (λ v. with_variable v (bind (codes "iobj") iobj)) (first (codes "prepstr") prepstr (take 14 four) (drop 15 four) refl
+    ∙ ap (λ v. with_variable v (bind (codes "prepstr") prepstr)) (first (codes "dobjstr") dobjstr (take 13 three) (drop 14 three) refl
+    ∙ ap (λ v. with_variable v (bind (codes "dobjstr") dobjstr)) (first (codes "dobj") dobj (take 10 two) (drop 11 two) refl
+    ∙ ap (λ v. with_variable v (bind (codes "dobj") dobj)) (first (codes "argstr") argstr (take 11 one) (drop 12 one) refl)))))
+
+handed_bound : (f : Running) (caller : ℤ) (args : List Tree) (s : SharedValues) (variables : Variables) (values : List (Option Value)) → seen_values values ≡ values_with f caller args s → types_of s ≡ types → command_of s ≡ command_of variables.given.shared.value → slot_value given_names values (value_of_name []) ≡ called_variables f caller args (variables_of variables)
+unfolding given_names variables_of
+handed_bound f caller args s variables values e t c =
+    let shared = variables.given.shared.value in
+    let all = told f caller args (tree shared.dobj) (tree shared.iobj) (tree shared.argstr) (tree shared.dobjstr) (tree shared.prepstr) (tree shared.iobjstr) in
+    (λ j n. bound all values n (e ∙ handed_values f caller args s shared t c) j)
+    ∙ commanded f caller args (tree shared.dobj) (tree shared.iobj) (tree shared.argstr) (tree shared.dobjstr) (tree shared.prepstr) (tree shared.iobjstr)
 
 -- no slot has a value
-pub unset : (slots : List (List ℕ)) → slot_value slots [] (value_of_name []) ≡ value_of_name []
-unset [] = refl
-unset (own ∷ slots) = refl
+-- what a frame begins with is the values that a call hands on
+pub handed_so : (f : Running) (caller : ℤ) (args : List Tree) (variables : Variables) (r : Result GivenValues AllocError) →
+    IfOk r (λ given. seen_values (given_values given) ≡ values_with f caller args given.shared.value) → IfOk r (λ given. types_of given.shared.value ≡ types) → IfOk r (λ given. command_of given.shared.value ≡ command_of variables.given.shared.value) →
+    IfOk r (λ given. slot_value given_names (given_values given) (value_of_name []) ≡ called_variables f caller args (variables_of variables))
+handed_so f caller args variables (Ok given) e t c = handed_bound f caller args given.shared.value variables (given_values given) e t c
+handed_so f caller args variables (Err failed) e t c = tt
+
+pub first_so : (f : Frame) (r : Result GivenValues AllocError) →
+    IfOk r (λ given. seen_values (given_values given) ≡ values_with (running_of f) f.caller f.args given.shared.value) → IfOk r (λ given. types_of given.shared.value ≡ types) → IfOk r (λ given. command_of given.shared.value ≡ command_in f) →
+    IfOk r (λ given. slot_value given_names (given_values given) (value_of_name []) ≡ value_of_name (first_bindings f))
+first_so f (Ok given) e t c = first_bound f given.shared.value (given_values given) e t c
+first_so f (Err failed) e t c = tt
 
 pub unset_all : (slots : List (List ℕ)) → slot_value slots (map (λ name. None) slots) (value_of_name []) ≡ value_of_name []
 unset_all slots = λ j n. nothing_set slots slots n j

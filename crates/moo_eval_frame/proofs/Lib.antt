@@ -4,7 +4,7 @@ pub mod Names
 pub mod GivenNames
 pub mod FirstValues
 pub mod Hinted
-pub mod Slotted
+pub mod Newest
 pub mod Rest
 pub mod Scattered
 pub mod Stored

@@ -71,6 +71,13 @@ nothing_at name (own ∷ slots) (x ∷ values) elsewhere a =
 pub no_slot : (name : List ℕ) (slots : List (List ℕ)) (values : List (Option Value)) (elsewhere : List ℕ → Option Tree) → ((i : ℕ) → position (is_own name) slots ≡ Some i → length values ≤ i) → slot_value slots values elsewhere (folded name) ≡ elsewhere (folded name)
 no_slot name slots values elsewhere h = nothing_at name slots values elsewhere (unslotted (is_own name) slots (length values) h)
 
+-- a name that isn't among these has no slot before any number
+pub is_nowhere : (name : List ℕ) (slots : List (List ℕ)) (values : List (Option Value)) → position (is_own name) slots ≡ None → (i : ℕ) → position (is_own name) slots ≡ Some i → length values ≤ i
+is_nowhere name slots values none i e = let both : ◌≡◌ {A = Option ℕ} None (Some i) = sym none ∙ e in absurd cc
+
+pub without_slot : (name : List ℕ) (slots : List (List ℕ)) (values : List (Option Value)) (elsewhere : List ℕ → Option Tree) → position (is_own name) slots ≡ None → slot_value slots values elsewhere (folded name) ≡ elsewhere (folded name)
+without_slot name slots values elsewhere none = no_slot name slots values elsewhere (is_nowhere name slots values none)
+
 -- if no slot has a value
 pub nothing_set : (slots names : List (List ℕ)) (n : List ℕ) → slot_value slots (map (λ name. None) names) (value_of_name []) n ≡ None
 nothing_set [] names n = refl

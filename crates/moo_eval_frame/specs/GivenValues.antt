@@ -1,11 +1,12 @@
 -- The values of the names that every frame has, as a frame keeps them.
-use Rattle.std.specs.Prelude.{pos, List, [], ◌∷◌, Option, Some}
+use Rattle.std.specs.Prelude.{ℤ, pos, List, [], ◌∷◌, Option, Some}
 use Rattle.moo_value.specs.declared.value.Value.{Value}
 use Rattle.moo_value.specs.Tree.{Tree, integer, object, string, list_of}
 use Rattle.moo_value.specs.View.{tree}
 use Rattle.moo_syntax_ast.specs.declared.given.Given.{Given}
 use Rattle.moo_syntax_ast.specs.declared.given.Given.TheVariants as given
 use Rattle.moo_eval_frame.specs.declared.frame.Frame.{Frame}
+use Rattle.moo_eval_frame.specs.declared.frame.Running.{Running}
 use Rattle.moo_eval_frame.specs.declared.shared_values.SharedValues.{SharedValues}
 use Rattle.moo_eval_frame.specs.declared.given_values.GivenValues.{GivenValues}
 
@@ -77,9 +78,10 @@ command_of s = tree s.dobj ∷ tree s.iobj ∷ tree s.argstr ∷ tree s.dobjstr 
 abbrev pub command_in : Frame → List Tree
 command_in f = object f.dobj ∷ object f.iobj ∷ string f.argstr ∷ string f.dobjstr ∷ string f.prepstr ∷ string f.iobjstr ∷ []
 
--- the values of a frame that has these shared ones, in the order of the names
-abbrev pub values_with : Frame → SharedValues → List (Option Tree)
-values_with f s =
+-- the values of a frame that has these shared ones, in the order of the names: of its code, its caller's `this` and its
+-- arguments
+abbrev pub values_with : Running → ℤ → List Tree → SharedValues → List (Option Tree)
+values_with f caller args s =
     Some (tree s.num)
     ∷ Some (tree s.int)
     ∷ Some (tree s.obj)
@@ -89,7 +91,7 @@ values_with f s =
     ∷ Some (tree s.float)
     ∷ Some (object f.player)
     ∷ Some (object f.this)
-    ∷ Some (object f.caller)
+    ∷ Some (object caller)
     ∷ Some (tree s.dobj)
     ∷ Some (tree s.iobj)
     ∷ Some (string f.verb)
@@ -97,5 +99,5 @@ values_with f s =
     ∷ Some (tree s.dobjstr)
     ∷ Some (tree s.prepstr)
     ∷ Some (tree s.iobjstr)
-    ∷ Some (list_of f.args)
+    ∷ Some (list_of args)
     ∷ []

@@ -1,5 +1,5 @@
 -- What the slots of the names of a program hold.
-use Rattle.std.specs.Prelude.{◌≡◌, ℕ, ◌<◌, List, length, get_or, set, Option, Some, None, refl}
+use Rattle.std.specs.Prelude.{ℕ, ◌<◌, List, length, set, Option, Some, refl}
 use Rattle.std.specs.Coded.{Coded, code_by, coded×, coded_ℕ, coded_list, coded_option}
 use Rattle.moo_value.specs.contracts.value.Value as contracts
 use Rattle.moo_value.specs.declared.value.Value.{Value}
@@ -22,6 +22,6 @@ held_code =
 abbrev pub with_held : Held → ℕ → Value → Held
 with_held held slot value = record { names = held.names; values = set held.values slot (Some value) }
 
--- a value is set in this slot
-abbrev pub IsHeld : Held → ℕ → Type 0
-IsHeld held slot = (slot < length held.values) × (value : Value) × (get_or held.values slot None ≡ Some value)
+-- one of the slots
+abbrev pub IsSlot : Held → ℕ → Type 0
+IsSlot held slot = slot < length held.values

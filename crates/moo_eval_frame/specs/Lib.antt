@@ -1,7 +1,6 @@
 pub mod Variables
 pub mod GivenValues
 pub mod Held
-pub mod Slotted
 pub mod Surroundings
 pub mod State
 pub mod Frames

@@ -1,10 +1,11 @@
 -- What the rules of evaluation are given.
-use Rattle.std.specs.Prelude.{ℤ, List, [], ◌∷◌, Option, Some, None, Result, Err}
+use Rattle.std.specs.Prelude.{ℤ, negsuc, List, [], ◌∷◌, Option, Some, None, Result, Err}
 use Rattle.moo_value.specs.declared.error_code.ErrorCode.{ErrorCode}
 use Rattle.moo_value.specs.declared.error_code.ErrorCode.TheVariants.{TypeMismatch}
 use Rattle.moo_value.specs.Tree.{Tree}
 use Rattle.moo_builtin_operator.specs.Places.{length_of}
 use Rattle.moo_eval_frame.specs.declared.frame.Frame.{Frame}
+use Rattle.moo_eval_frame.specs.declared.frame.Running.{Running}
 use Rattle.moo_eval_frame.specs.declared.frame.TraceFrame.{TraceFrame}
 use Rattle.moo_eval_frame.specs.declared.frame.TraceEntry.{TraceEntry}
 use Rattle.moo_eval_frame.specs.declared.frame.TraceEntry.TheVariants as entry
@@ -12,7 +13,7 @@ use Rattle.moo_eval_frame.specs.Surroundings.{Surroundings}
 
 -- what stays while a frame runs
 pub record Context : Type 0 where
-  pub frame : Frame
+  pub frame : Running
   -- what it was called from, the nearest first
   pub callers : List TraceEntry
   -- the value that `$` measures
@@ -33,8 +34,27 @@ abbrev pub measured : Option Tree → Result Tree ErrorCode
 measured None = Err TypeMismatch
 measured (Some v) = length_of v
 
+-- what is fixed while the code of a frame runs
+abbrev pub running_of : Frame → Running
+running_of f = record {
+  program = f.program;
+  d = f.d;
+  programmer = f.programmer;
+  this = f.this;
+  definer = f.definer;
+  player = f.player;
+  names = f.names;
+  verb = f.verb;
+}
+
+-- the programmer of the nearest frame of a verb, or #-1 if there is none
+abbrev pub nearest_programmer : List TraceEntry → ℤ
+nearest_programmer [] = negsuc 0
+nearest_programmer (entry.Verb f ∷ callers) = f.programmer
+nearest_programmer (entry.BuiltIn name ∷ callers) = nearest_programmer callers
+
 -- the data of a frame in a trace
-abbrev pub trace_frame : Frame → ℤ → TraceFrame
+abbrev pub trace_frame : Running → ℤ → TraceFrame
 trace_frame f programmer = record {
   this = f.this;
   verb = f.verb;
@@ -45,5 +65,5 @@ trace_frame f programmer = record {
 }
 
 -- from a running frame down to the one that began the task
-abbrev pub entries : Frame → ℤ → List TraceEntry → List TraceEntry
+abbrev pub entries : Running → ℤ → List TraceEntry → List TraceEntry
 entries f programmer callers = entry.Verb (trace_frame f programmer) ∷ callers

@@ -1,11 +1,11 @@
 -- The variables of a frame.
-use Rattle.std.specs.Prelude.{ℕ, pos, List, [], ◌∷◌, ◌++◌, Option, Some, codes, option_map, if◌then◌else◌}
+use Rattle.std.specs.Prelude.{ℕ, ℤ, pos, List, [], ◌∷◌, ◌++◌, Option, Some, None, codes, option_map, if◌then◌else◌}
 use Rattle.std.specs.List.{find}
-use Rattle.std.specs.Option.{unwrap_or}
 use Rattle.std.specs.Str.{bytes_eq}
 use Rattle.moo_value.specs.Tree.{Tree, integer, object, string, list_of}
 use Rattle.moo_value.specs.Compare.{folded}
 use Rattle.moo_eval_frame.specs.declared.frame.Frame.{Frame}
+use Rattle.moo_eval_frame.specs.declared.frame.Running.{Running}
 
 -- a name and its value
 pub record Binding : Type 0 where
@@ -48,23 +48,20 @@ text_bindings f =
 abbrev pub first_bindings : Frame → List Binding
 first_bindings f = type_bindings ++ object_bindings f ++ text_bindings f ++ bind (codes "args") (list_of f.args) ∷ []
 
--- The variables that the frame of a called verb begins with, from those of its caller: those of the command have the
--- caller's values, if they are set.
-abbrev pub handed_bindings : Frame → (List ℕ → Option Tree) → List Binding
-handed_bindings f caller =
+-- the variables that the frame of a called verb begins with, but for those of the command
+abbrev pub own_bindings : Running → ℤ → List Tree → List Binding
+own_bindings f caller args =
     type_bindings
     ++ bind (codes "player") (object f.player)
     ∷ bind (codes "this") (object f.this)
-    ∷ bind (codes "caller") (object f.caller)
-    ∷ bind (codes "dobj") (unwrap_or (caller (codes "dobj")) (object f.dobj))
-    ∷ bind (codes "iobj") (unwrap_or (caller (codes "iobj")) (object f.iobj))
+    ∷ bind (codes "caller") (object caller)
     ∷ bind (codes "verb") (string f.verb)
-    ∷ bind (codes "argstr") (unwrap_or (caller (codes "argstr")) (string f.argstr))
-    ∷ bind (codes "dobjstr") (unwrap_or (caller (codes "dobjstr")) (string f.dobjstr))
-    ∷ bind (codes "prepstr") (unwrap_or (caller (codes "prepstr")) (string f.prepstr))
-    ∷ bind (codes "iobjstr") (unwrap_or (caller (codes "iobjstr")) (string f.iobjstr))
-    ∷ bind (codes "args") (list_of f.args)
+    ∷ bind (codes "args") (list_of args)
     ∷ []
+
+-- the variables of the command
+abbrev pub command_names : List (List ℕ)
+command_names = codes "argstr" ∷ codes "dobj" ∷ codes "dobjstr" ∷ codes "prepstr" ∷ codes "iobj" ∷ codes "iobjstr" ∷ []
 
 -- the value that a folded name has
 abbrev pub value_of_name : List Binding → List ℕ → Option Tree
@@ -73,6 +70,20 @@ value_of_name bindings name = option_map (λ b. b.value) (find (λ b. bytes_eq (
 -- the variables with this one set
 abbrev pub with_variable : (List ℕ → Option Tree) → Binding → List ℕ → Option Tree
 with_variable variables b name = if bytes_eq (folded b.name) name then Some b.value else variables name
+
+-- with the value of a variable from elsewhere, if it is set there
+abbrev pub with_taken : (List ℕ → Option Tree) → List ℕ → Option Tree → List ℕ → Option Tree
+with_taken variables name None = variables
+with_taken variables name (Some v) = with_variable variables (bind name v)
+
+-- with the values of these variables from elsewhere
+abbrev pub taken_over : (List ℕ → Option Tree) → List (List ℕ) → (List ℕ → Option Tree) → List ℕ → Option Tree
+taken_over elsewhere [] variables = variables
+taken_over elsewhere (name ∷ names) variables = taken_over elsewhere names (with_taken variables name (elsewhere name))
+
+-- the variables of a called verb: its own, with those of the command as in the caller
+abbrev pub called_variables : Running → ℤ → List Tree → (List ℕ → Option Tree) → List ℕ → Option Tree
+called_variables f caller args variables = taken_over variables command_names (value_of_name (own_bindings f caller args))
 
 -- with these set, one after another
 abbrev pub with_all : (List ℕ → Option Tree) → List Binding → List ℕ → Option Tree

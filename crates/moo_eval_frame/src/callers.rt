@@ -1,31 +1,38 @@
 //! The callers of the running code, step by step: 'MOO Tasks' of the LambdaMOO Programmer's Manual.
-ghost use Rattle.std.specs.Prelude.{◌≡◌, ◌∷◌, [], ◌++◌, IfOk, IfSome, IfNone, OnOk};
+ghost use Rattle.std.specs.Prelude.{◌≡◌, ◌∷◌, [], ◌++◌, ◌-◌, length, List, IfOk, OnOk};
+ghost use Rattle.moo_eval_frame.specs.State.{trace_frame, nearest_programmer};
 ghost use Rattle.moo_eval_frame.specs.Frames.{frame_count};
+ghost use Rattle.moo_eval_frame.specs.declared.frame.TraceFrame.{TraceFrame};
+ghost use Rattle.moo_eval_frame.specs.declared.frame.TraceEntry.{TraceEntry};
+ghost use Rattle.moo_eval_frame.specs.declared.frame.TraceEntry.TheVariants.{Verb, BuiltIn};
 
-use crate::frame::TraceEntry;
+use crate::frame::{Running, TraceEntry};
+use moo_value::MooStr;
 use std::alloc::{AllocError, Global};
 use std::marker::Model;
-use std::rc::Rc;
 
-/// Holds the entries of the callers of the running code, the nearest first. A clone shares them, so that a call
-/// copies none.
+/// Holds the callers of the running code, the nearest first. They are borrowed from the calls that wait for it, so
+/// that a call copies nothing of them.
 #[cycle(callers)]
 #[derive(Drop)]
-pub struct Callers {
-    /// Returns how many of the callers are frames of verbs.
+pub struct Callers<'a> {
+    /// How many of the entries are frames of verbs.
     frames: usize,
-    nearest: Nearest,
+    nearest: Nearest<'a>,
 }
 
-/// The nearest entry, if there is one, and its own callers.
+/// The nearest caller, if there is one, with whose rights it ran, and its own callers.
 #[cycle(callers)]
 #[derive(Drop)]
-enum Nearest {
+enum Nearest<'a> {
     Nothing,
-    Step(Rc<(TraceEntry, Callers)>),
+    /// It made the call itself.
+    Caller(&'a Running, i32, &'a Callers<'a>),
+    /// It called a built-in function of this name, which made the call.
+    Through(&'static str, &'a Running, i32, &'a Callers<'a>),
 }
 
-impl Model for Callers {
+impl<'a> Model for Callers<'a> {
     ghost use Rattle.std.specs.Prelude.{◌≡◌, List, length};
     ghost use Rattle.moo_eval_frame.specs.declared.frame.TraceEntry.{TraceEntry};
 
@@ -45,9 +52,9 @@ impl Model for Callers {
     ghost size_decreases = { λ a h. Prim.grind arith };
 }
 
-impl Callers {
+impl<'a> Callers<'a> {
     /// Returns the callers of code that nothing has called.
-    pub fn none() -> Callers
+    pub fn none() -> Callers<'a>
         ensures { result ≡ [] }
     {
         Callers {
@@ -56,84 +63,122 @@ impl Callers {
         }
     }
 
-    /// Returns the same callers, shared.
+    /// Returns the callers of code that the running code calls, which runs for this programmer and has these callers.
     #[inline(always)]
-    pub fn try_clone(&self) -> Result<Callers, AllocError>
-        ensures { IfOk result (λ copy. copy ≡ self.now) }
+    pub fn called_by(
+        running: &'a Running,
+        programmer: i32,
+        callers: &'a Callers<'a>,
+    ) -> Result<Callers<'a>, AllocError>
+        ensures { IfOk result (λ all. all ≡ Verb (trace_frame running.now programmer) ∷ callers.now) }
     {
-        let nearest = match &self.nearest {
-            Nearest::Nothing => Nearest::Nothing,
-            Nearest::Step(step) => Nearest::Step(step.clone()?),
-        };
-        Ok(Callers {
-            frames: self.frames,
-            nearest,
-        })
+        match callers.frames.checked_add(1) {
+            Some(frames) => Ok(Callers {
+                frames,
+                nearest: Nearest::Caller(running, programmer, callers),
+            }),
+            None => Err(AllocError),
+        }
     }
 
-    /// Returns these callers with a nearer one before them.
-    #[inline(always)]
-    pub fn with_nearest(self, alloc: Global, entry: TraceEntry) -> Result<Callers, AllocError>
-        ensures { IfOk result (λ all. all ≡ entry ∷ self) }
+    /// Returns the same callers with a built-in function before them, by which the nearest made the call.
+    pub fn through(self, function: &'static str) -> Callers<'a>
+        ensures { (f : TraceFrame) (rest : List TraceEntry) → self.entry ≡ Verb f ∷ rest → result ≡ BuiltIn function.now ∷ self.entry }
     {
-        let frames = self.frames_behind(&entry)?;
-        let step = Rc::new(alloc, (entry, self))?;
-        Ok(Callers {
-            frames,
-            nearest: Nearest::Step(step),
-        })
-    }
-
-    // Returns how many frames there are with this entry.
-    #[inline(always)]
-    fn frames_behind(&self, entry: &TraceEntry) -> Result<usize, AllocError>
-        ensures { IfOk result (λ frames. frames ≡ frame_count (entry.now ∷ self.now)) }
-    {
-        match entry {
-            TraceEntry::Verb(_) => match self.frames().checked_add(1) {
-                Some(frames) => Ok(frames),
-                None => Err(AllocError),
+        match self.nearest {
+            Nearest::Caller(running, programmer, callers) => Callers {
+                frames: self.frames,
+                nearest: Nearest::Through(function, running, programmer, callers),
             },
-            TraceEntry::BuiltIn(_) => Ok(self.frames()),
+            nearest => Callers {
+                frames: self.frames,
+                nearest,
+            },
         }
     }
 
     /// Returns how many of them are frames of verbs.
+    #[inline(always)]
     pub fn frames(&self) -> usize
         ensures { result ≡ frame_count self.now }
     {
         self.frames
     }
 
-    /// Returns the nearest caller, and the further ones.
-    pub fn split_first(&self) -> Option<(&TraceEntry, &Callers)>
-        ensures some { IfSome result (λ p. self.now ≡ p.0.now ∷ p.1.now) }
-        ensures none { IfNone result (self.now ≡ []) }
+    /// Returns the programmer of the nearest frame of a verb, or #-1 if there is none.
+    pub fn programmer(&self) -> i32
+        ensures { result ≡ nearest_programmer self.now }
     {
         match &self.nearest {
-            Nearest::Nothing => None,
-            Nearest::Step(step) => Some((&step.0, &step.1)),
+            Nearest::Nothing => -1,
+            Nearest::Caller(_, programmer, _) | Nearest::Through(_, _, programmer, _) => {
+                *programmer
+            }
         }
     }
 
-    /// Returns copies of the entries as a vector.
+    /// Returns the entries as a vector.
     pub fn to_vec(&self, alloc: Global) -> Result<Vec<TraceEntry>, AllocError>
         ensures { IfOk result (λ all. all.items ≡ self.now) }
     {
         let mut all = Vec::new(alloc);
-        self.append_to(&mut all)?;
+        self.append_to(alloc, &mut all)?;
         Ok(all)
     }
 
-    /// Appends copies of the entries to a vector.
-    pub(crate) fn append_to(&self, all: &mut Vec<TraceEntry>) -> Result<(), AllocError>
+    /// Appends the entries to a vector.
+    pub(crate) fn append_to(
+        &self,
+        alloc: Global,
+        all: &mut Vec<TraceEntry>,
+    ) -> Result<(), AllocError>
         ensures { OnOk result (all.new.items ≡ all.old.items ++ self.now) }
     {
         let mut rest = self;
-        while let Some((nearest, behind)) = rest.split_first() {
-            all.push(nearest.try_clone()?)?;
-            rest = behind;
+        'callers: loop {
+            match &rest.nearest {
+                Nearest::Nothing => return Ok(()),
+                Nearest::Caller(running, programmer, callers) => {
+                    all.push(TraceEntry::Verb(running.trace_frame(*programmer)?))?;
+                    rest = callers;
+                }
+                Nearest::Through(function, running, programmer, callers) => {
+                    all.push(built_in(alloc, function)?)?;
+                    all.push(TraceEntry::Verb(running.trace_frame(*programmer)?))?;
+                    rest = callers;
+                }
+            }
         }
-        Ok(())
+    }
+
+    /// Returns how many of so many entries are left without these.
+    pub(crate) fn remaining(&self, many: usize) -> usize
+        ensures { result ≡ many - length self.now }
+    {
+        let mut count = many;
+        let mut rest = self;
+        'callers: loop {
+            match &rest.nearest {
+                Nearest::Nothing => return count,
+                Nearest::Caller(_, _, callers) => {
+                    count = count.saturating_sub(1);
+                    rest = callers;
+                }
+                Nearest::Through(_, _, _, callers) => {
+                    count = count.saturating_sub(2);
+                    rest = callers;
+                }
+            }
+        }
+    }
+}
+
+// Returns the entry of a built-in function.
+fn built_in(alloc: Global, function: &str) -> Result<TraceEntry, AllocError>
+    ensures { IfOk result (λ entry. entry ≡ BuiltIn function.now) }
+{
+    match MooStr::try_from_bytes(alloc, function.as_bytes()) {
+        Ok(name) => Ok(TraceEntry::BuiltIn(name)),
+        Err(_) => Err(AllocError),
     }
 }

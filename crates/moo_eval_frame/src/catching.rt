@@ -46,7 +46,8 @@ pub fn caught(
     }
 }
 
-pub(crate) fn is_caught(codes: &NodeCodes, values: &[Value], code: ErrorCode) -> bool
+/// Is true if a catch of these codes handles an error. `values` are the values of the codes.
+pub fn is_caught(codes: &NodeCodes, values: &[Value], code: ErrorCode) -> bool
     ensures { result ≡ is_caught (source_codes codes.now) (trees values.now) code }
 {
     match codes {

@@ -2,7 +2,7 @@
 //! Programmer's Manual, 'Variables' and 'Tracebacks' of docs/reference/language.md. Objects are given by their numbers, #-1 for
 //! none.
 ghost use Rattle.std.specs.Prelude.{◌≡◌, IfOk};
-ghost use Rattle.moo_eval_frame.specs.State.{trace_frame};
+ghost use Rattle.moo_eval_frame.specs.State.{trace_frame, running_of};
 ghost use Rattle.moo_eval_frame.specs.Seen.{trace_of};
 
 use crate::callers::Callers;
@@ -48,6 +48,27 @@ pub struct Frame {
     pub args: MooList,
 }
 
+/// The running code, and what is fixed while it runs: what a traceback shows of it, and what it hands on to the verbs
+/// that it calls.
+#[derive(Drop)]
+pub struct Running {
+    pub program: Program,
+    /// The d bit: errors are raised. Without it an expression that fails has the error as its value.
+    pub d: bool,
+    /// With whose rights the code begins.
+    pub programmer: i32,
+    /// The object that the verb was called on.
+    pub this: i32,
+    /// The object that has the verb.
+    pub definer: i32,
+    /// The player who began the task, or another that a wizard called for.
+    pub player: i32,
+    /// All names of the verb.
+    pub names: MooStr,
+    /// The name that it was called by.
+    pub verb: MooStr,
+}
+
 /// The data of one frame of a task, as a traceback, `callers` and a handler show it.
 #[derive(Drop)]
 pub struct TraceFrame {
@@ -76,42 +97,33 @@ pub enum TraceEntry {
 /// The running frame and its callers, with the surroundings of the task.
 #[derive(Drop)]
 pub struct CallStack<'a> {
-    pub running: Frame,
+    pub running: Running,
     /// The nearest first.
-    pub callers: Callers,
+    pub callers: Callers<'a>,
     pub surroundings: &'a Surroundings<'a>,
 }
 
-impl TraceFrame {
-    fn try_clone(&self) -> Result<TraceFrame, AllocError>
-        ensures { IfOk result (λ copy. copy ≡ self.now) }
+impl Frame {
+    /// Returns what is fixed while the frame's code runs.
+    pub fn running(self) -> Running
+        ensures { result ≡ running_of self }
     {
-        Ok(TraceFrame {
-            this: self.this,
-            verb: self.verb.try_clone()?,
+        Running {
+            program: self.program,
+            d: self.d,
             programmer: self.programmer,
+            this: self.this,
             definer: self.definer,
             player: self.player,
-            names: self.names.try_clone()?,
-        })
-    }
-}
-
-impl TraceEntry {
-    pub(crate) fn try_clone(&self) -> Result<TraceEntry, AllocError>
-        ensures { IfOk result (λ copy. copy ≡ self.now) }
-    {
-        match self {
-            TraceEntry::Verb(frame) => Ok(TraceEntry::Verb(frame.try_clone()?)),
-            TraceEntry::BuiltIn(name) => Ok(TraceEntry::BuiltIn(name.try_clone()?)),
+            names: self.names,
+            verb: self.verb,
         }
     }
 }
 
-impl Frame {
+impl Running {
     /// Returns the data of the frame while it runs for this programmer.
-    #[inline(always)]
-    fn trace_frame(&self, programmer: i32) -> Result<TraceFrame, AllocError>
+    pub(crate) fn trace_frame(&self, programmer: i32) -> Result<TraceFrame, AllocError>
         ensures { IfOk result (λ told. told ≡ trace_frame self.now programmer) }
     {
         Ok(TraceFrame {
@@ -133,22 +145,17 @@ impl CallStack<'_> {
         let running = self.running.trace_frame(active.programmer)?;
         let mut all = Vec::new(alloc);
         all.push(TraceEntry::Verb(running))?;
-        self.callers.append_to(&mut all)?;
+        self.callers.append_to(alloc, &mut all)?;
         Ok(all)
     }
 
     /// Returns the callers of a verb that the running frame calls.
     #[inline(always)]
-    pub fn callers_of_called(
-        &self,
-        alloc: Global,
-        active: &Activation,
-    ) -> Result<Callers, AllocError>
+    pub fn callers_of_called<'b>(&'b self, active: &Activation) -> Result<Callers<'b>, AllocError>
         ensures { IfOk result (λ all. all ≡ trace_of self.now active.now) }
     {
-        let running = self.running.trace_frame(active.programmer)?;
-        let callers = self.callers.try_clone()?;
-        callers.with_nearest(alloc, TraceEntry::Verb(running))
+        let callers: &'b Callers<'b> = &self.callers;
+        Callers::called_by(&self.running, active.programmer, callers)
     }
 }
 

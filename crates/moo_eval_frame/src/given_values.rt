@@ -1,20 +1,22 @@
 //! The values of the variables that every frame has.
-ghost use Rattle.std.specs.Prelude.{◌≡◌, Some, None, get_or, set, IsTrue, IsFalse, IfOk, OnOk};
-ghost use Rattle.moo_syntax_ast.specs.Given.{given_slot};
+ghost use Rattle.std.specs.Prelude.{◌≡◌, [], Some, None, get_or, set, IfOk, OnOk};
+ghost use Rattle.moo_syntax_ast.specs.Given.{given_slot, given_names};
 ghost use Rattle.moo_eval_frame.specs.GivenValues.{given_values, values_with, types_of, types, command_of, command_in};
-ghost use Rattle.moo_eval_frame.specs.Seen.{seen_values};
+ghost use Rattle.moo_eval_frame.specs.State.{running_of};
+ghost use Rattle.moo_eval_frame.specs.Variables.{first_bindings, value_of_name};
+ghost use Rattle.moo_eval_frame.specs.Seen.{seen_values, slot_value};
 
-use crate::frame::Frame;
+use crate::frame::{Frame, Running};
 use crate::shared_values::{SharedValues, set_shared};
 use moo_syntax_ast::Given;
-use moo_value::Value;
+use moo_value::{MooList, Value};
 use std::alloc::{AllocError, Global};
 use std::rc::Rc;
 
 /// Holds the values of the names that every frame has: its own, and those that it shares with the frame that called
 /// it.
 #[derive(Drop)]
-pub(crate) struct GivenValues {
+pub struct GivenValues {
     alloc: Global,
     player: Value,
     this: Value,
@@ -26,24 +28,53 @@ pub(crate) struct GivenValues {
 
 impl GivenValues {
     /// Returns the values that the first frame of a task begins with.
-    pub(crate) fn first(alloc: Global, frame: &Frame) -> Result<GivenValues, AllocError>
-        ensures values { IfOk result (λ given. seen_values (given_values given) ≡ values_with frame.now given.shared.value) }
+    pub fn first(alloc: Global, frame: &Frame) -> Result<GivenValues, AllocError>
+        ensures { IfOk result (λ given. slot_value given_names (given_values given) (value_of_name []) ≡ value_of_name (first_bindings frame.now)) }
+    {
+        GivenValues::of_frame(alloc, frame)
+    }
+
+    // Returns the values of the names that a frame has as it begins.
+    fn of_frame(alloc: Global, frame: &Frame) -> Result<GivenValues, AllocError>
+        ensures values { IfOk result (λ given. seen_values (given_values given) ≡ values_with (running_of frame.now) frame.now.caller frame.now.args given.shared.value) }
         ensures types { IfOk result (λ given. types_of given.shared.value ≡ types) }
         ensures command { IfOk result (λ given. command_of given.shared.value ≡ command_in frame.now) }
     {
-        let shared = Rc::new(alloc, SharedValues::first(frame)?)?;
-        GivenValues::with_shared(alloc, frame, shared)
+        Ok(GivenValues {
+            alloc,
+            player: Value::Obj(frame.player),
+            this: Value::Obj(frame.this),
+            caller: Value::Obj(frame.caller),
+            verb: Value::Str(frame.verb.try_clone()?),
+            args: Value::List(frame.args.try_clone()?),
+            shared: Rc::new(alloc, SharedValues::first(frame)?)?,
+        })
     }
 
-    /// Returns the values that the frame of a called verb begins with, from those of its caller.
+    /// Returns the values that the frame of a called verb begins with, from those of its caller, whose `this` is
+    /// `caller`.
     #[inline(always)]
-    pub(crate) fn handed(&self, frame: &Frame) -> Result<GivenValues, AllocError>
-        ensures values { IfOk result (λ given. seen_values (given_values given) ≡ values_with frame.now given.shared.value) }
+    pub(crate) fn handed(
+        &self,
+        running: &Running,
+        caller: i32,
+        args: MooList,
+    ) -> Result<GivenValues, AllocError>
+        ensures values { IfOk result (λ given. seen_values (given_values given) ≡ values_with running.now caller args given.shared.value) }
         ensures types { IfOk result (λ given. types_of given.shared.value ≡ types) }
         ensures command { IfOk result (λ given. command_of given.shared.value ≡ command_of self.now.shared.value) }
     {
         let shared = self.handed_shared()?;
-        GivenValues::with_shared(self.alloc, frame, shared)
+        let verb = running.verb.try_clone()?;
+        Ok(GivenValues {
+            alloc: self.alloc,
+            player: Value::Obj(running.player),
+            this: Value::Obj(running.this),
+            caller: Value::Obj(caller),
+            verb: Value::Str(verb),
+            args: Value::List(args),
+            shared,
+        })
     }
 
     // Returns the block that a called verb shares with its caller, if the names of types have the values that a frame
@@ -71,29 +102,6 @@ impl GivenValues {
         Ok(Rc::new(self.alloc, self.shared.with_types()?)?)
     }
 
-    // Returns the values of a frame, with these shared ones.
-    #[inline(always)]
-    fn with_shared(
-        alloc: Global,
-        frame: &Frame,
-        shared: Rc<SharedValues>,
-    ) -> Result<GivenValues, AllocError>
-        ensures values { IfOk result (λ given. seen_values (given_values given) ≡ values_with frame.now shared.value) }
-        ensures shared { IfOk result (λ given. given.shared.value ≡ shared.value) }
-    {
-        let verb = frame.verb.try_clone()?;
-        let args = frame.args.try_clone()?;
-        Ok(GivenValues {
-            alloc,
-            player: Value::Obj(frame.player),
-            this: Value::Obj(frame.this),
-            caller: Value::Obj(frame.caller),
-            verb: Value::Str(verb),
-            args: Value::List(args),
-            shared,
-        })
-    }
-
     /// Returns the value of a name.
     #[inline(always)]
     pub(crate) fn get(&self, given: Given) -> &Value
@@ -119,6 +127,14 @@ impl GivenValues {
             Given::Prepstr => &self.shared.prepstr,
             Given::Iobjstr => &self.shared.iobjstr,
         }
+    }
+
+    /// Returns the value of `player`.
+    #[inline(always)]
+    pub(crate) fn player(&self) -> &Value
+        ensures { result.now ≡ self.now.player }
+    {
+        &self.player
     }
 
     /// Sets the value of a name.

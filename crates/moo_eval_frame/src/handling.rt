@@ -137,12 +137,7 @@ pub fn frame_lists(alloc: Global, trace: &[TraceEntry]) -> Result<Vec<Value>, Fa
 fn above<'a>(callers: &Callers, trace: &'a [TraceEntry]) -> &'a [TraceEntry]
     ensures { result.now ≡ above callers.now trace.now }
 {
-    let mut count = trace.len();
-    let mut rest = callers;
-    while let Some((_, behind)) = rest.split_first() {
-        count = count.saturating_sub(1);
-        rest = behind;
-    }
+    let count = callers.remaining(trace.len());
     &trace[..count]
 }
 

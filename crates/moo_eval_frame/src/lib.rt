@@ -23,9 +23,10 @@ mod variables;
 
 pub use access::{measure, push, read_variable};
 pub use callers::Callers;
-pub use catching::{caught, settle_codes};
-pub use frame::{Activation, CallStack, Frame, TraceEntry, TraceFrame};
+pub use catching::{caught, is_caught, settle_codes};
+pub use frame::{Activation, CallStack, Frame, Running, TraceEntry, TraceFrame};
 pub use gathered::{Gathered, Stretch};
+pub use given_values::GivenValues;
 pub use handling::{
     Guarded, HandlerParts, chosen, frame_lists, handler_parts, push_guarded, set_caught,
 };

@@ -1,16 +1,14 @@
 //! The slots of the variables of a program.
-ghost use Rattle.std.specs.Prelude.{◌≡◌, ◌≢◌, ℕ, [], ◌+◌, ◌<◌, ◌≤◌, ◌++◌, Some, None, map, set, position, length, get_or, option_map, vec_len, vec_capacity, IsTrue, IfOk, IfSome, IfNone};
+ghost use Rattle.std.specs.Prelude.{◌≡◌, [], ◌+◌, ◌<◌, ◌≤◌, ◌++◌, Some, None, map, set, position, length, get_or, option_map, vec_len, vec_capacity, IsTrue, IfOk, IfSome};
 ghost use Rattle.std.specs.Str.{bytes_eq};
-ghost use Rattle.moo_value.specs.Tree.{IsText};
 ghost use Rattle.moo_value.specs.View.{tree};
 ghost use Rattle.moo_value.specs.Compare.{folded};
+ghost use Rattle.moo_value.specs.declared.value.Value.TheVariants.{Int};
 ghost use Rattle.moo_syntax_ast.specs.Given.{given_of};
-ghost use Rattle.moo_syntax_ast.specs.Spelling.{AreNumbersOf};
 ghost use Rattle.moo_syntax_ast.specs.Slots.{slots};
 ghost use Rattle.moo_eval_frame.specs.Variables.{value_of_name};
-ghost use Rattle.moo_eval_frame.specs.Held.{with_held, IsHeld};
+ghost use Rattle.moo_eval_frame.specs.Held.{with_held, IsSlot};
 ghost use Rattle.moo_eval_frame.specs.Seen.{slot_value};
-ghost use Rattle.moo_eval_frame.specs.Slotted.{values_in, unset_slot, with_value, AreSlotsOf};
 
 use moo_syntax_ast::Name;
 use moo_syntax_grammar::Program;
@@ -18,24 +16,15 @@ use moo_value::Value;
 use std::alloc::{AllocError, Global};
 use std::marker::Model;
 
-/// A slot: the value, if one is set, and the numbers that identify its name without a comparison of names. The
-/// numbers are 0 and 1, which identify no name, if no value is set or the name has no numbers.
-#[derive(Drop)]
-struct Slot {
-    number: u64,
-    further: u64,
-    is_set: bool,
-    value: Value,
-}
-
-/// Holds the slots of the names of a program. There are none if every frame has all of the names.
+/// Holds a slot for each name of a program, with a value if one is set.
 #[derive(Drop)]
 pub(crate) struct Slots {
     program: Program,
-    slots: Vec<Slot>,
+    values: Vec<Option<Value>>,
 }
 
 impl Model for Slots {
+    ghost use Rattle.std.specs.Prelude.{◌≡◌, length};
     ghost use Rattle.moo_syntax_ast.specs.Slots.{slots as names_of};
     ghost use Rattle.moo_eval_frame.specs.Held.{Held, held_code};
 
@@ -43,11 +32,9 @@ impl Model for Slots {
 
     ghost coded = { held_code };
 
-    ghost use Rattle.moo_eval_frame.specs.Slotted.{values_in, AreSlotsOf};
+    ghost view = { λ s. record { names = names_of s.program; values = s.values.items } };
 
-    ghost view = { λ s. record { names = names_of s.program; values = values_in s.slots.items } };
-
-    ghost invariant = { λ s. AreSlotsOf s.slots.items (names_of s.program) };
+    ghost invariant = { λ s. length s.values.items ≡ length (names_of s.program) };
 }
 
 impl Slots {
@@ -56,172 +43,117 @@ impl Slots {
     pub(crate) fn unset(alloc: Global, program: Program) -> Result<Slots, AllocError>
         ensures { IfOk result (λ own. slot_value own.names own.values (value_of_name []) ≡ value_of_name []) }
     {
-        let slots = unset_slots(alloc, program.slot_names())?;
-        Ok(Slots { program, slots })
+        let values = unset_values(alloc, program.slot_names())?;
+        Ok(Slots { program, values })
     }
 
-    /// Returns the hint at the slot of a name, if the numbers there are the name's. A value is set in it, and not
-    /// every frame has the name.
+    /// Returns the hint at the slot of a name, if the numbers of the name there are the name's.
     #[inline(always)]
     pub(crate) fn known_slot(&self, name: &Name) -> Option<usize>
         ensures there { IfSome result (λ i. position (λ own. bytes_eq (folded own) (folded name.now)) self.now.names ≡ Some i) }
-        ensures held { IfSome result (λ i. IsHeld self.now i) }
+        ensures within { IfSome result (λ i. IsSlot self.now i) }
         ensures own { IfSome result (λ _. given_of name.now ≡ None) }
     {
         let hint = name.hint();
-        if hint >= self.slots.len() {
+        let names = self.program.slot_names();
+        if hint >= names.len() {
             return None;
         }
-        let slot = &self.slots[hint];
-        if has_numbers_of(slot, name) {
-            return Some(hint);
-        }
-        None
-    }
-
-    /// Returns the slot of a name, if it may hold a value.
-    #[inline(always)]
-    pub(crate) fn slot_of(&self, name: &Name) -> Option<usize>
-        ensures some { IfSome result (λ i. (position (λ own. bytes_eq (folded own) (folded name.now)) self.now.names ≡ Some i) × (i < length self.now.values)) }
-        ensures none { IfNone result ((i : ℕ) → position (λ own. bytes_eq (folded own) (folded name.now)) self.now.names ≡ Some i → length self.now.values ≤ i) }
-    {
-        let slot = own_slot(&self.program, name)?;
-        if slot < self.slots.len() {
-            Some(slot)
+        if names[hint].is_known_as(name) {
+            Some(hint)
         } else {
             None
         }
     }
 
-    /// Returns the value in a slot that is set.
-    #[inline(always)]
-    pub(crate) fn held(&self, slot: usize) -> &Value
-        requires { IsHeld self.now slot }
-        ensures { get_or self.now.values slot None ≡ Some result.now }
+    /// Returns the slot of a name.
+    #[inline(never)]
+    pub(crate) fn slot_of(&self, name: &Name) -> Option<usize>
+        ensures there { result ≡ position (λ own. bytes_eq (folded own) (folded name.now)) self.now.names }
+        ensures within { IfSome result (λ i. IsSlot self.now i) }
     {
-        let held = &self.slots[slot];
-        &held.value
+        own_slot(&self.program, name)
     }
 
     /// Returns the value in a slot, if one is set.
     #[inline(always)]
     pub(crate) fn get(&self, slot: usize) -> Option<&Value>
-        requires { slot < length self.now.values }
+        requires { IsSlot self.now slot }
         ensures { option_map (λ v. tree v.now) result ≡ option_map (λ v. tree v) (get_or self.now.values slot None) }
     {
-        let held = &self.slots[slot];
-        if held.is_set { Some(&held.value) } else { None }
-    }
-
-    /// Overwrites a slot that is set.
-    #[inline(always)]
-    pub(crate) fn set_held(&mut self, slot: usize, value: Value)
-        requires { IsHeld self.old slot }
-        ensures { self.new ≡ with_held self.old slot value }
-    {
-        put_value(&mut self.slots, slot, value);
-    }
-
-    /// Sets a slot, and with it the numbers of its name.
-    pub(crate) fn set(&mut self, slot: usize, value: Value)
-        requires { slot < length self.old.values }
-        ensures { self.new ≡ with_held self.old slot value }
-    {
-        let (number, further) = held_numbers(&self.program.slot_names()[slot]);
-        self.slots[slot] = Slot {
-            number,
-            further,
-            is_set: true,
-            value,
-        };
-    }
-}
-
-// Returns whether a slot has the numbers of a name.
-#[inline(always)]
-fn has_numbers_of(slot: &Slot, name: &Name) -> bool
-    ensures text { IsText name.now }
-    ensures known { IsTrue result → slot.now.number ≢ 0 → (given_of name.now ≡ None) × AreNumbersOf slot.now.number slot.now.further name.now }
-    ensures unknown { IsTrue result → slot.now.number ≡ 0 → slot.now.further ≡ 0 }
-{
-    let (number, further) = text_numbers(name);
-    if slot.number != number {
-        return false;
-    }
-    slot.further == further
-}
-
-// Returns the numbers of a name. The borrowed bytes prove that the name is text, so that no other name has both
-// numbers.
-#[inline(always)]
-fn text_numbers(name: &Name) -> (u64, u64)
-    ensures text { IsText name.now }
-    ensures known { result.0 ≢ 0 → (given_of name.now ≡ None) × AreNumbersOf result.0 result.1 name.now }
-    ensures unknown { result.0 ≡ 0 → result.1 ≡ 0 }
-{
-    let _ = name.as_bytes();
-    name.numbers()
-}
-
-// Returns the numbers that a slot that is set has of its name.
-fn held_numbers(name: &Name) -> (u64, u64)
-    ensures known { result.0 ≢ 0 → IsText name.now × AreNumbersOf result.0 result.1 name.now }
-    ensures unknown { result.0 ≡ 0 → result.1 ≡ 1 }
-{
-    let (number, further) = text_numbers(name);
-    if number == 0 {
-        return (0, 1);
-    }
-    (number, further)
-}
-
-// Overwrites the value in a slot.
-#[inline(always)]
-fn put_value(all: &mut Vec<Slot>, slot: usize, value: Value)
-    requires { slot < length all.old.items }
-    ensures { all.new.items ≡ set all.old.items slot (with_value (get_or all.old.items slot unset_slot) value) }
-{
-    all[slot].value = value;
-}
-
-// Returns the slots of these names, none set. If every frame has all of the names, there are no slots.
-#[inline(always)]
-fn unset_slots(alloc: Global, names: &[Name]) -> Result<Vec<Slot>, AllocError>
-    ensures values { IfOk result (λ all. slot_value names.now (values_in all.items) (value_of_name []) ≡ value_of_name []) }
-    ensures are { IfOk result (λ all. AreSlotsOf all.items names.now) }
-{
-    if !has_own(names) {
-        return Ok(Vec::new(alloc));
-    }
-    let mut all = Vec::with_capacity(alloc, names.len())?;
-    push_unset(&mut all, names);
-    Ok(all)
-}
-
-// Returns whether not every frame has all of these names.
-#[inline(always)]
-fn has_own(names: &[Name]) -> bool {
-    for name in names {
-        if name.given().is_none() {
-            return true;
+        match &self.values[slot] {
+            Some(value) => Some(value),
+            None => None,
         }
     }
-    false
+
+    /// Sets a slot.
+    #[inline(always)]
+    pub(crate) fn set(&mut self, slot: usize, value: Value)
+        requires { IsSlot self.old slot }
+        ensures { self.new ≡ with_held self.old slot value }
+    {
+        self.values[slot] = Some(value);
+    }
+
+    /// Sets a slot to an integer. A slot that holds an integer is changed in place.
+    #[inline(always)]
+    pub(crate) fn set_integer(&mut self, slot: usize, number: i32)
+        requires { IsSlot self.old slot }
+        ensures { self.new ≡ with_held self.old slot (Int number) }
+    {
+        put_integer(&mut self.values, slot, number);
+    }
+}
+
+// Sets a slot to an integer.
+#[inline(always)]
+fn put_integer(values: &mut Vec<Option<Value>>, slot: usize, number: i32)
+    requires { slot < length values.old.items }
+    ensures { values.new.items ≡ set values.old.items slot (Some (Int number)) }
+{
+    set_integer(&mut values[slot], number);
+}
+
+// Sets a place to an integer.
+#[inline(always)]
+fn set_integer(place: &mut Option<Value>, number: i32)
+    ensures { place.new ≡ Some (Int number) }
+{
+    if let Some(Value::Int(held)) = place {
+        *held = number;
+        return;
+    }
+    replace_by_integer(place, number);
+}
+
+// Sets a place to an integer that holds no integer. It is a separate function, so that the common case stays short.
+#[cold]
+#[inline(never)]
+fn replace_by_integer(place: &mut Option<Value>, number: i32)
+    ensures { place.new ≡ Some (Int number) }
+{
+    *place = Some(Value::Int(number));
+}
+
+// Returns a slot without a value for each of these names.
+#[inline(always)]
+fn unset_values(alloc: Global, names: &[Name]) -> Result<Vec<Option<Value>>, AllocError>
+    ensures { IfOk result (λ values. values.items ≡ map (λ name. None) names.now) }
+{
+    let mut values = Vec::with_capacity(alloc, names.len())?;
+    push_unset(&mut values, names);
+    Ok(values)
 }
 
 // Appends a slot without a value for each of these names.
 #[inline(always)]
-fn push_unset(all: &mut Vec<Slot>, names: &[Name])
+fn push_unset(all: &mut Vec<Option<Value>>, names: &[Name])
     requires room { vec_len all.old + length names.now ≤ vec_capacity all.old }
-    ensures { all.new.items ≡ all.old.items ++ map (λ name. unset_slot) names.now }
+    ensures { all.new.items ≡ all.old.items ++ map (λ name. None) names.now }
 {
     for _ in names {
-        all.push_reserved(Slot {
-            number: 0,
-            further: 1,
-            is_set: false,
-            value: Value::Int(0),
-        });
+        all.push_reserved(None);
     }
 }
 

@@ -1,19 +1,21 @@
 //! The variables of a frame.
-ghost use Rattle.std.specs.Prelude.{◌≡◌, [], option_map, IfOk, OnOk};
+ghost use Rattle.std.specs.Prelude.{◌≡◌, [], Some, option_map, IfOk, OnOk};
+ghost use Rattle.moo_value.specs.Tree.{integer};
 ghost use Rattle.moo_value.specs.View.{tree};
 ghost use Rattle.moo_value.specs.Compare.{folded};
 ghost use Rattle.moo_syntax_ast.specs.Given.{given_name, given_names};
-ghost use Rattle.moo_eval_frame.specs.Variables.{bind, with_variable, first_bindings, handed_bindings, value_of_name};
+ghost use Rattle.moo_eval_frame.specs.Variables.{bind, with_variable, value_of_name, called_variables};
 ghost use Rattle.moo_eval_frame.specs.GivenValues.{given_values};
 ghost use Rattle.moo_eval_frame.specs.Seen.{value_among, own_variables, slot_value, variables_of};
+ghost use Rattle.moo_syntax_ast.specs.declared.given.Given.TheVariants.{Player};
 
-use crate::frame::Frame;
+use crate::frame::Running;
 use crate::given_values::GivenValues;
 use crate::slots::Slots;
 use crate::spelling::is_named;
-use moo_syntax_ast::{Given, Name};
+use moo_syntax_ast::Name;
 use moo_syntax_grammar::Program;
-use moo_value::{MooStr, Value};
+use moo_value::{MooList, MooStr, Value};
 use std::alloc::{AllocError, Global};
 
 /// Holds the variables of a frame: the values of the names that every frame has, a slot with a value or none for each
@@ -35,34 +37,10 @@ struct Variable {
 }
 
 impl Variables {
-    /// Returns the variables that the first frame of a task begins with.
-    pub fn first(alloc: Global, frame: &Frame) -> Result<Variables, AllocError>
-        ensures { IfOk result (λ v. variables_of v ≡ value_of_name (first_bindings frame.now)) }
-    {
-        let given = GivenValues::first(alloc, frame)?;
-        let program = frame.program.try_clone()?;
-        Variables::with_given(alloc, program, given)
-    }
-
-    /// Returns the variables that the frame of a called verb begins with, with a slot for each name of its program.
-    /// The variables of the command have the values that they have in the caller. The program is shared before the
-    /// frame is made, so that the frame isn't moved.
+    /// Returns the variables that a frame of this program begins with: these values of the names that every frame has,
+    /// and no others.
     #[inline(always)]
-    pub fn handed(
-        alloc: Global,
-        program: Program,
-        frame: &Frame,
-        caller: &Variables,
-    ) -> Result<Variables, AllocError>
-        ensures { IfOk result (λ v. variables_of v ≡ value_of_name (handed_bindings frame.now (variables_of caller.now))) }
-    {
-        let given = caller.given.handed(frame)?;
-        Variables::with_given(alloc, program, given)
-    }
-
-    // Returns the variables of a frame that has these values, with a slot for each name of a program.
-    #[inline(always)]
-    fn with_given(
+    pub fn begun(
         alloc: Global,
         program: Program,
         given: GivenValues,
@@ -77,35 +55,71 @@ impl Variables {
         })
     }
 
-    /// Sets a variable.
+    /// Returns the values of the names that the frame of a called verb has, which begin as those of its caller. The
+    /// variables of the command have the values that they have there.
+    #[inline(always)]
+    pub fn handed(
+        &self,
+        running: &Running,
+        caller: i32,
+        args: MooList,
+    ) -> Result<GivenValues, AllocError>
+        ensures { IfOk result (λ given. slot_value given_names (given_values given) (value_of_name []) ≡ called_variables running.now caller args (variables_of self.now)) }
+    {
+        self.given.handed(running, caller, args)
+    }
+
+    /// Sets a variable. Inlined, so that a variable whose slot is known needs no call.
+    #[inline(always)]
     pub fn set(&mut self, name: &Name, value: Value) -> Result<(), AllocError>
+        ensures { OnOk result (variables_of self.new ≡ with_variable (variables_of self.old) (bind name.now (tree value))) }
+    {
+        match self.own.known_slot(name) {
+            Some(slot) => {
+                self.own.set(slot, value);
+                Ok(())
+            }
+            None => self.set_unknown(name, value),
+        }
+    }
+
+    /// Sets a variable to an integer. A variable that holds an integer is changed in place.
+    #[inline(always)]
+    pub fn set_integer(&mut self, name: &Name, number: i32) -> Result<(), AllocError>
+        ensures { OnOk result (variables_of self.new ≡ with_variable (variables_of self.old) (bind name.now (integer number))) }
+    {
+        match self.own.known_slot(name) {
+            Some(slot) => {
+                self.own.set_integer(slot, number);
+                Ok(())
+            }
+            None => self.set_unknown_integer(name, number),
+        }
+    }
+
+    // Sets a variable to an integer whose slot isn't known. It is a separate function, so that the common case needs no
+    // room for a value.
+    #[inline(never)]
+    fn set_unknown_integer(&mut self, name: &Name, number: i32) -> Result<(), AllocError>
+        ensures { OnOk result (variables_of self.new ≡ with_variable (variables_of self.old) (bind name.now (integer number))) }
+    {
+        self.set_unknown(name, Value::Int(number))
+    }
+
+    // Sets a variable whose slot isn't known: one that every frame has, or one that a search finds. It is a separate
+    // function, so that the common case stays short.
+    #[inline(never)]
+    fn set_unknown(&mut self, name: &Name, value: Value) -> Result<(), AllocError>
         ensures { OnOk result (variables_of self.new ≡ with_variable (variables_of self.old) (bind name.now (tree value))) }
     {
         match name.given() {
             Some(given) => self.given.set(given, value),
-            None => self.set_own(name, value),
-        }
-    }
-
-    // Sets a variable that not every frame has.
-    #[inline(always)]
-    fn set_own(&mut self, name: &Name, value: Value) -> Result<(), AllocError>
-        ensures own { OnOk result (own_variables self.new ≡ with_variable (own_variables self.old) (bind name.now (tree value))) }
-        ensures given { self.new.given ≡ self.old.given }
-    {
-        match self.own.known_slot(name) {
-            Some(slot) => {
-                self.own.set_held(slot, value);
-                Ok(())
-            }
             None => self.set_searched(name, value),
         }
     }
 
-    // Sets a variable whose slot a search finds, or that has none. It is a separate function, so that the common case
-    // stays short.
-    #[cold]
-    #[inline(never)]
+    // Sets a variable whose slot a search finds, or that has none.
+    #[inline(always)]
     fn set_searched(&mut self, name: &Name, value: Value) -> Result<(), AllocError>
         ensures own { OnOk result (own_variables self.new ≡ with_variable (own_variables self.old) (bind name.now (tree value))) }
         ensures given { self.new.given ≡ self.old.given }
@@ -120,32 +134,33 @@ impl Variables {
         Ok(())
     }
 
-    /// Returns the value of a variable that every frame has.
-    #[inline(never)]
-    pub fn get_given(&self, given: Given) -> Option<&Value>
-        ensures { option_map (λ v. tree v.now) result ≡ variables_of self.now (folded (given_name given)) }
+    /// Returns the value of the variable `player`.
+    #[inline(always)]
+    pub fn player(&self) -> &Value
+        ensures { Some (tree result.now) ≡ variables_of self.now (folded (given_name Player)) }
     {
-        Some(self.given.get(given))
+        self.given.player()
     }
 
-    /// Returns the value of a variable, or `None` if it isn't set.
+    /// Returns the value of a variable, or `None` if it isn't set. Inlined, so that a variable whose slot is known needs
+    /// no call.
     #[inline(always)]
     pub fn get(&self, name: &Name) -> Option<&Value>
         ensures { option_map (λ v. tree v.now) result ≡ variables_of self.now (folded name.now) }
     {
-        match name.given() {
-            Some(given) => self.get_given(given),
-            None => self.own(name),
+        match self.own.known_slot(name) {
+            Some(slot) => self.own.get(slot),
+            None => self.get_unknown(name),
         }
     }
 
-    // Returns the value of a variable that not every frame has.
-    #[inline(always)]
-    fn own(&self, name: &Name) -> Option<&Value>
-        ensures { option_map (λ v. tree v.now) result ≡ own_variables self.now (folded name.now) }
+    // Returns the value of a variable whose slot isn't known: one that every frame has, or one that a search finds.
+    #[inline(never)]
+    fn get_unknown(&self, name: &Name) -> Option<&Value>
+        ensures { option_map (λ v. tree v.now) result ≡ variables_of self.now (folded name.now) }
     {
-        match self.own.known_slot(name) {
-            Some(slot) => Some(self.own.held(slot)),
+        match name.given() {
+            Some(given) => Some(self.given.get(given)),
             None => self.searched(name),
         }
     }

@@ -1,15 +1,14 @@
-use Rattle.std.proofs.Common.{sym, ap, ◌∙◌}
-use Rattle.moo_syntax_ast.specs.Given.{all_given, is_given}
-use Rattle.moo_syntax_ast.proofs.GivenNames.{passes, same_name}
-use Rattle.moo_eval_frame.specs.Seen.{own_variables, variables_of}
+use Rattle.std.proofs.Common.{None, sym, ◌∙◌}
+use Rattle.moo_eval_frame.specs.Seen.{value_among, own_variables, variables_of}
+use Rattle.moo_eval_frame.proofs.Names.{slot_at}
 use Rattle.moo_eval_frame.proofs.GivenNames.{other_at}
 use Rattle.moo_eval_frame.proofs.variables.Variables.get.Goals as goal
 
 pub returns-in-Some : goal.returns-in-Some
-returns-in-Some c =
-    let is = passes (is_given c.args.name.now) c.in-Some.given all_given (sym c.in-Some.ensures) in
-    c.get_given.ensures ∙ ap (variables_of c.args.self.now) (same_name c.args.name.now c.in-Some.given is)
-
-pub returns-in-None : goal.returns-in-None
 unfolding variables_of
-returns-in-None c = c.own.ensures ∙ other_at c.args.self.now.given (own_variables c.args.self.now) c.args.name.now (sym c.in-None.ensures)
+returns-in-Some c =
+    let found = c.in-Some.ensures in
+    let self = c.args.self.now in
+    c.get.ensures
+    ∙ sym (slot_at c.args.name.now self.own.names self.own.values (value_among self.others.items) None c.in-Some.slot found.there found.within)
+    ∙ other_at self.given (own_variables self) c.args.name.now found.own

@@ -1,9 +1,9 @@
-use Rattle.moo_eval_frame.specs.GivenValues.{given_values}
-use Rattle.moo_eval_frame.proofs.FirstValues.{handed_bound}
+use Rattle.std.proofs.Common.{w32}
+use Rattle.std.proofs.lemmas.Int.{to_z-of_z}
+use Rattle.moo_eval_frame.proofs.FirstValues.{handed_so}
 use Rattle.moo_eval_frame.proofs.variables.Variables.handed.Goals as goal
 
 pub returns : goal.returns
 returns c =
-    let made = c.in_ok-given.ensures in
-    let given = c.in_ok-given.given in
-    rw (handed_bound c.args.frame.now given.shared.value c.args.caller.now (given_values given) made.values made.types made.command) at c.with_given.ensures
+    let caller = to_z-of_z w32 c.args.caller c.ranges.caller in
+    handed_so c.args.running.now c.args.caller c.args.args c.args.self.now c.handed.result (simp caller at c.handed.ensures.values) c.handed.ensures.types c.handed.ensures.command

@@ -1,17 +1,17 @@
-use Rattle.std.proofs.Common.{None, sym, ap, ◌∙◌}
+use Rattle.std.proofs.Common.{None, Some, sym, ap, ◌∙◌}
 use Rattle.moo_value.specs.Compare.{folded}
 use Rattle.moo_eval_frame.specs.Seen.{value_among}
-use Rattle.moo_eval_frame.proofs.Names.{slot_at, no_slot}
+use Rattle.moo_eval_frame.proofs.Names.{slot_at, without_slot}
 use Rattle.moo_eval_frame.proofs.variables.Variables.searched.Goals as goal
 
 pub returns-in-Some : goal.returns-in-Some
 returns-in-Some c =
-    let found = c.in-Some.ensures.some in
+    let found = c.in-Some.ensures in
     let own = c.args.self.now.own in
-    c.get.ensures ∙ sym (slot_at c.args.name.now own.names own.values (value_among c.args.self.now.others.items) None c.in-Some.slot found.0 found.1)
+    c.get.ensures ∙ sym (slot_at c.args.name.now own.names own.values (value_among c.args.self.now.others.items) None c.in-Some.slot (sym found.there) found.within)
 
 pub returns-in-None : goal.returns-in-None
 returns-in-None c =
     c.other.ensures
     ∙ ap (λ n. value_among c.args.self.now.others.items (folded n)) c.as_bytes.ensures.value
-    ∙ sym (no_slot c.args.name.now c.args.self.now.own.names c.args.self.now.own.values (value_among c.args.self.now.others.items) c.in-None.ensures.none)
+    ∙ sym (without_slot c.args.name.now c.args.self.now.own.names c.args.self.now.own.values (value_among c.args.self.now.others.items) (sym c.in-None.ensures.there))

@@ -1,30 +1,18 @@
-use Rattle.std.proofs.Common.{sym, ap, ◌∙◌}
-use Rattle.std.proofs.lemmas.Result.{on_ok_weaker}
+use Rattle.std.proofs.Common.{ap, ◌∙◌}
 use Rattle.moo_value.specs.View.{tree}
 use Rattle.moo_syntax_ast.specs.Given.{given_names}
 use Rattle.moo_eval_frame.specs.GivenValues.{given_values}
-use Rattle.moo_eval_frame.specs.Seen.{slot_value, own_variables, variables_of}
-use Rattle.moo_eval_frame.proofs.GivenNames.{given_set, other_set}
+use Rattle.moo_eval_frame.specs.Seen.{value_among, slot_value, own_variables, variables_of}
+use Rattle.moo_eval_frame.proofs.GivenNames.{other_set}
+use Rattle.moo_eval_frame.proofs.Stored.{set_slot}
 use Rattle.moo_eval_frame.proofs.variables.Variables.set.Goals as goal
 
 pub returns-in-Some : goal.returns-in-Some
 unfolding variables_of
 returns-in-Some c =
+    let found = c.in-Some.ensures in
     let old = c.args.self.now in
-    on_ok_weaker
-    c.set.result
-    (λ e. ap (λ values. slot_value given_names values (own_variables old)) e ∙ given_set old.given (own_variables old) c.args.name.now c.in-Some.given (sym c.in-Some.ensures) c.args.value)
-    c.set.ensures
-
-pub returns-in-None : goal.returns-in-None
-unfolding variables_of
-returns-in-None c =
-    let old = c.args.self.now in
-    let new = c.set_own.new.self in
-    on_ok_weaker
-    c.set_own.result
-    (λ e.
-    ap (λ given. slot_value given_names (given_values given) (own_variables new)) c.set_own.ensures.given
-    ∙ ap (slot_value given_names (given_values old.given)) e
-    ∙ other_set old.given (own_variables old) c.args.name.now (sym c.in-None.ensures) (tree c.args.value))
-    c.set_own.ensures.own
+    ap (slot_value given_names (given_values old.given))
+    (ap (λ own. slot_value own.names own.values (value_among old.others.items)) c.set.ensures
+    ∙ set_slot c.args.name.now c.args.value old.own.names old.own.values (value_among old.others.items) c.in-Some.slot found.there found.within)
+    ∙ other_set old.given (own_variables old) c.args.name.now found.own (tree c.args.value)

@@ -2,7 +2,7 @@ use Rattle.std.proofs.Common.{ap}
 use Rattle.moo_syntax_ast.specs.Given.{given_names}
 use Rattle.moo_eval_frame.specs.GivenValues.{given_values}
 use Rattle.moo_eval_frame.specs.Seen.{slot_value, variables_of}
-use Rattle.moo_eval_frame.proofs.variables.Variables.with_given.Goals as goal
+use Rattle.moo_eval_frame.proofs.variables.Variables.begun.Goals as goal
 
 pub returns : goal.returns
 unfolding variables_of

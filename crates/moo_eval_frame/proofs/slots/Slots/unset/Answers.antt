@@ -1,0 +1,7 @@
+use Rattle.std.proofs.Common.{ap, ◌∙◌}
+use Rattle.moo_syntax_ast.specs.Slots.{slots}
+use Rattle.moo_eval_frame.proofs.FirstValues.{unset_all}
+use Rattle.moo_eval_frame.proofs.slots.Slots.unset.Goals as goal
+
+pub returns : goal.returns
+returns c = rw (c.in_ok-values.ensures, c.slot_names.ensures) (unset_all (slots c.args.program))

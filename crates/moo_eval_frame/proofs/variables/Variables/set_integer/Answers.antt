@@ -1,0 +1,21 @@
+use Rattle.std.proofs.Common.{ap, ◌∙◌, w32}
+use Rattle.std.proofs.lemmas.Int.{to_z-of_z}
+use Rattle.moo_value.specs.Tree.{integer}
+use Rattle.moo_value.specs.declared.value.Value.TheVariants.{Int}
+use Rattle.moo_syntax_ast.specs.Given.{given_names}
+use Rattle.moo_eval_frame.specs.GivenValues.{given_values}
+use Rattle.moo_eval_frame.specs.Seen.{value_among, slot_value, own_variables, variables_of}
+use Rattle.moo_eval_frame.proofs.GivenNames.{other_set}
+use Rattle.moo_eval_frame.proofs.Stored.{set_slot}
+use Rattle.moo_eval_frame.proofs.variables.Variables.set_integer.Goals as goal
+
+pub returns-in-Some : goal.returns-in-Some
+unfolding variables_of
+returns-in-Some c =
+    let found = c.in-Some.ensures in
+    let old = c.args.self.now in
+    let n = to_z-of_z w32 c.args.number c.ranges.number in
+    ap (slot_value given_names (given_values old.given))
+    (ap (λ own. slot_value own.names own.values (value_among old.others.items)) (simp n at c.set_integer.ensures)
+    ∙ set_slot c.args.name.now (Int c.args.number) old.own.names old.own.values (value_among old.others.items) c.in-Some.slot found.there found.within)
+    ∙ other_set old.given (own_variables old) c.args.name.now found.own (integer c.args.number)

@@ -1,5 +1,5 @@
 -- How a call enters a verb.
-use Rattle.std.specs.Prelude.{ℕ, suc, ℤ, List, [], ◌∷◌, codes, Option, None, Some, Result, Ok, Err, Bool, nat_lt, is_some, if◌then◌else◌}
+use Rattle.std.specs.Prelude.{ℕ, suc, ℤ, List, codes, Option, None, Some, Result, Ok, Err, Bool, nat_lt, is_some, if◌then◌else◌}
 use Rattle.std.specs.Option.{unwrap_or, option_map, option_and_then}
 use Rattle.moo_value.specs.declared.error_code.ErrorCode.{ErrorCode}
 use Rattle.moo_value.specs.declared.error_code.ErrorCode.TheVariants.{TypeMismatch, InvalidIndirection, VerbNotFound, MaximumRecursion}
@@ -10,15 +10,15 @@ use Rattle.moo_world_object.specs.declared.verb.Verb.{Verb}
 use Rattle.moo_world_object.specs.declared.verb.Need.TheVariants as need
 use Rattle.moo_world_table.specs.World.{World}
 use Rattle.moo_world_table.specs.Verbs.{verb_found}
-use Rattle.moo_world.specs.declared.looking.VerbAt.{VerbAt}
 use Rattle.moo_world.specs.Calls.{number_of}
-use Rattle.moo_world.specs.VerbCalls.{verb_place}
-use Rattle.moo_world.specs.Numbered.{object_numbered, verb_numbered}
+use Rattle.moo_world.specs.VerbCalls.{verb_place, verb_there}
+use Rattle.moo_world.specs.Numbered.{object_numbered}
 use Rattle.moo_world.specs.Rights.{is_wizard}
-use Rattle.moo_eval_frame.specs.Variables.{bind, first_bindings, value_of_name, with_variable}
+use Rattle.moo_eval_frame.specs.Variables.{called_variables}
 use Rattle.moo_eval_frame.specs.State.{Context, entries}
 use Rattle.moo_eval_frame.specs.Outcome.{or_error}
 use Rattle.moo_eval_frame.specs.declared.frame.Frame.{Frame}
+use Rattle.moo_eval_frame.specs.declared.frame.Running.{Running}
 use Rattle.moo_eval_frame.specs.declared.frame.TraceEntry.{TraceEntry}
 use Rattle.moo_eval_frame.specs.Frames.{frame_count}
 use Rattle.moo_eval_access.specs.declared.entering.Call.{Call}
@@ -29,10 +29,6 @@ pub record Entered : Type 0 where
   -- by their folded names
   pub variables : List ℕ → Option Tree
   pub programmer : ℤ
-
--- the object that has a verb, and the verb
-abbrev pub verb_there : World → VerbAt → Option (ℤ × Verb)
-verb_there w place = option_map (λ v. (place.definer, v)) (verb_numbered w place.definer place.index)
 
 -- the first verb that matches, of those that can be executed
 abbrev pub called_verb : World → ℤ → List ℕ → Option (ℤ × Verb)
@@ -64,7 +60,7 @@ object_or other (Some (string text)) = other
 object_or other (Some (list es)) = other
 
 -- the player of a called verb: that of the caller's frame, or what its variable holds if a wizard calls
-abbrev pub player_of_call : World → Frame → (List ℕ → Option Tree) → ℤ → ℤ
+abbrev pub player_of_call : World → Running → (List ℕ → Option Tree) → ℤ → ℤ
 player_of_call w f variables programmer = if is_wizard w programmer then object_or f.player (variables (codes "player")) else f.player
 
 -- The frame of a verb, with the object that has it: its owner is the programmer, and it has the d bit of its verb. A verb
@@ -89,45 +85,24 @@ verb_frame found call = record {
   args = call.args;
 }
 
--- the frame of a verb that is called on an object from another frame, which hands on what it knows of the command
-abbrev pub called_frame : Frame → ℤ → ℤ → ℤ × Verb → List ℕ → List Tree → Frame
-called_frame f player this found name vs = verb_frame found (record {
+-- what is fixed while a verb runs that is called on an object by a name, with the object that has it
+abbrev pub called_frame : ℤ × Verb → ℤ → ℤ → List ℕ → Running
+called_frame found this player name = record {
+  program = unwrap_or found.1.program no_statement;
+  d = found.1.perms.debug;
+  programmer = found.1.owner;
   this = this;
-  caller = f.this;
+  definer = found.0;
   player = player;
-  dobj = f.dobj;
-  iobj = f.iobj;
+  names = found.1.names;
   verb = name;
-  argstr = f.argstr;
-  dobjstr = f.dobjstr;
-  prepstr = f.prepstr;
-  iobjstr = f.iobjstr;
-  args = vs;
-})
+}
 
--- the variables of the command
-abbrev pub command_names : List (List ℕ)
-command_names = codes "argstr" ∷ codes "dobj" ∷ codes "dobjstr" ∷ codes "prepstr" ∷ codes "iobj" ∷ codes "iobjstr" ∷ []
-
--- with the value of a variable from elsewhere, if it is set there
-abbrev pub with_taken : (List ℕ → Option Tree) → List ℕ → Option Tree → List ℕ → Option Tree
-with_taken variables name None = variables
-with_taken variables name (Some v) = with_variable variables (bind name v)
-
--- with the values of these variables from elsewhere
-abbrev pub taken_over : (List ℕ → Option Tree) → List (List ℕ) → (List ℕ → Option Tree) → List ℕ → Option Tree
-taken_over elsewhere [] variables = variables
-taken_over elsewhere (name ∷ names) variables = taken_over elsewhere names (with_taken variables name (elsewhere name))
-
--- the variables of a called verb: those of its frame, with those of the command as in the caller
-abbrev pub called_variables : Frame → (List ℕ → Option Tree) → List ℕ → Option Tree
-called_variables f variables = taken_over variables command_names (value_of_name (first_bindings f))
-
--- a frame that is entered from a context
-abbrev pub entered : Context → (List ℕ → Option Tree) → ℤ → Frame → Entered
-entered c variables programmer f = record {
+-- a frame that is entered from a context, with these arguments
+abbrev pub entered : Context → (List ℕ → Option Tree) → ℤ → List Tree → Running → Entered
+entered c variables programmer vs f = record {
   context = record { frame = f; callers = entries c.frame programmer c.callers; indexed = None; surroundings = c.surroundings };
-  variables = called_variables f variables;
+  variables = called_variables f c.frame.this vs variables;
   programmer = f.programmer;
 }
 
@@ -136,7 +111,7 @@ abbrev pub entered_found : World → Context → (List ℕ → Option Tree) → 
 entered_found w c variables programmer this name vs (Err code) = Err code
 entered_found w c variables programmer this name vs (Ok found) =
     if has_frame_left c.callers
-    then Ok (entered c variables programmer (called_frame c.frame (player_of_call w c.frame variables programmer) this found name vs))
+    then Ok (entered c variables programmer vs (called_frame found this (player_of_call w c.frame variables programmer) name))
     else Err MaximumRecursion
 
 abbrev pub entered_by : World → Context → (List ℕ → Option Tree) → ℤ → Tree → Tree → List Tree → Result Entered ErrorCode

@@ -2,7 +2,6 @@ pub mod State
 pub mod Calls
 pub mod Entering
 pub mod SeenCalled
-pub mod Sought
 pub mod Target
 pub mod SeenTarget
 pub mod LetGo

@@ -1,7 +1,10 @@
 -- The meaning of the program's entered verbs.
-use Rattle.std.specs.Prelude.{ℤ, None}
+use Rattle.std.specs.Prelude.{ℤ, [], None}
 use Rattle.moo_world_object.specs.declared.verb.Verb.{Verb}
-use Rattle.moo_eval_frame.specs.Seen.{context_of, variables_of}
+use Rattle.moo_syntax_ast.specs.Given.{given_names}
+use Rattle.moo_eval_frame.specs.Variables.{value_of_name}
+use Rattle.moo_eval_frame.specs.GivenValues.{given_values}
+use Rattle.moo_eval_frame.specs.Seen.{context_of, slot_value}
 use Rattle.moo_eval_access.specs.declared.entering.Called.{Called}
 use Rattle.moo_eval_access.specs.declared.entering.Found.{Found}
 use Rattle.moo_eval_access.specs.Entering.{Entered}
@@ -12,6 +15,6 @@ found_of found = (found.definer, found.verb.now)
 abbrev pub entered_of : Called → Entered
 entered_of called = record {
   context = context_of called.stack None;
-  variables = variables_of called.active.variables;
-  programmer = called.active.programmer;
+  variables = slot_value given_names (given_values called.given) (value_of_name []);
+  programmer = called.stack.running.programmer;
 }

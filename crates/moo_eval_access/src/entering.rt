@@ -1,35 +1,36 @@
 //! Enters the verbs of calls: 'Calling Built-in Functions and Other Verbs' of the LambdaMOO Programmer's Manual,
 //! 'Expressions' and 'Limits' of docs/reference/language.md.
-ghost use Rattle.std.specs.Prelude.{◌≡◌, if◌then◌else◌, is_some, ◌∷◌, [], None, Some, Ok, Err, codes, option_map, IfOk, IfErr, OnOk, IsTrue};
+ghost use Rattle.std.specs.Prelude.{◌≡◌, if◌then◌else◌, is_some, None, Ok, Err, option_map, IfOk, IfErr, OnOk, IsTrue};
 ghost use Rattle.std.specs.Option.{unwrap_or};
-ghost use Rattle.moo_value.specs.Tree.{Tree, object, string, list_of};
+ghost use Rattle.moo_value.specs.Tree.{object, string, list_of};
 ghost use Rattle.moo_value.specs.View.{tree, trees};
 ghost use Rattle.moo_value.specs.declared.error_code.ErrorCode.TheVariants.{InvalidIndirection, VerbNotFound};
 ghost use Rattle.moo_syntax_ast.specs.Tree.{no_statement};
 ghost use Rattle.moo_world.specs.Numbered.{object_numbered};
 ghost use Rattle.moo_builtin_operator.specs.Places.{made_list};
-ghost use Rattle.moo_eval_access.specs.Entering.{entered_verb, entered_from, entered_found, found_verb, verb_there, called_verb, has_frame_left, object_or, player_of_call, verb_frame, called_frame, called_variables, entered};
+ghost use Rattle.moo_world.specs.VerbCalls.{verb_there};
+ghost use Rattle.moo_eval_access.specs.Entering.{entered_verb, entered_from, entered_found, found_verb, called_verb, has_frame_left, player_of_call, verb_frame, called_frame, entered_by};
 ghost use Rattle.moo_eval_access.specs.SeenCalled.{entered_of, found_of};
-ghost use Rattle.moo_eval_access.specs.Sought.{IsSought};
 ghost use Rattle.moo_eval_frame.specs.Outcome.{answers};
 ghost use Rattle.moo_eval_frame.specs.Seen.{context_of, variables_of, failure_of, seen_by, IsKnownFailure, HadMemoryIn};
 
-use moo_eval_frame::{Activation, CallStack, Failure, Frame, Stop, Variables};
-use moo_syntax_ast::Given;
+use crate::verb_name::VerbName;
+use moo_eval_frame::{Activation, CallStack, Failure, Frame, GivenValues, Running, Stop};
+use moo_syntax_ast::{NameKey, Text};
 use moo_syntax_grammar::Program;
 use moo_value::{ErrorCode, ListLimit, MooList, MooStr, Value};
 use moo_world::{Rights, VerbAt, World};
-use moo_world_object::{Need, Verb};
+use moo_world_object::Verb;
 use std::alloc::{AllocError, Global};
 
 /// The largest number of frames of a task.
 pub const MOST_FRAMES: usize = 50;
 
-/// A verb that was entered: its frame, its callers, and its state while it runs.
+/// A verb that was entered: its frame and its callers, and the values that the names have which every frame has.
 #[derive(Drop)]
 pub struct Called<'a> {
     pub stack: CallStack<'a>,
-    pub active: Activation,
+    pub given: GivenValues,
 }
 
 /// A verb that was found, and the object that has it.
@@ -37,14 +38,6 @@ pub struct Called<'a> {
 pub struct Found<'a> {
     pub definer: i32,
     pub verb: &'a Verb,
-}
-
-/// The verb that a call names, the object that it is called on and the name.
-#[derive(Clone, Copy)]
-pub struct Sought<'a> {
-    pub this: i32,
-    pub name: &'a MooStr,
-    pub found: Found<'a>,
 }
 
 /// What a frame receives besides its verb: the object it is called on, the caller, the name, and the command. Objects
@@ -72,7 +65,7 @@ pub struct Call {
 pub fn enter_verb<'a>(
     alloc: Global,
     world: &World,
-    stack: &CallStack<'a>,
+    stack: &'a CallStack<'_>,
     active: &Activation,
     base: &Value,
     name: &Value,
@@ -80,53 +73,52 @@ pub fn enter_verb<'a>(
 ) -> Result<Called<'a>, Failure>
     ensures { IsKnownFailure result → answers (entered_verb world.now (context_of stack.now None) (variables_of active.now.variables) active.now.programmer (tree base.now) (tree name.now) (trees args.items)) ≡ seen_by entered_of result }
 {
-    let sought = named_verb(world, base, name);
-    enter_sought(alloc, world, stack, active, sought, args)
-}
-
-// Returns the verb that a call names: E_TYPE for a base that is no object or a name that is no string, then the
-// errors of `sought_verb`.
-#[inline(always)]
-fn named_verb<'a>(world: &'a World, base: &Value, name: &'a Value) -> Result<Sought<'a>, ErrorCode>
-    ensures { IsSought world.now (tree base.now) (tree name.now) result }
-{
+    let args = arguments(alloc, args)?;
     match (base, name) {
-        (Value::Obj(this), Value::Str(name)) => sought_verb(world, *this, name),
-        _ => Err(ErrorCode::TypeMismatch),
+        (Value::Obj(this), Value::Str(name)) => {
+            let name = VerbName::new(name);
+            enter_named(alloc, world, stack, active, *this, &name, args)
+        }
+        _ => Err(Failure::Fails(ErrorCode::TypeMismatch)),
     }
 }
 
-/// Returns the verb that a call of a name on an object runs: E_INVIND if the object isn't valid, E_VERBNF if it has
-/// no such executable verb.
+/// Enters the verb that a call names by a literal, as `enter_verb` does. The hash of the name is known.
 #[inline(always)]
-pub fn sought_verb<'a>(
-    world: &'a World,
-    this: i32,
-    name: &'a MooStr,
-) -> Result<Sought<'a>, ErrorCode>
-    ensures { IsSought world.now (object this) (string name.now) result }
-{
-    let found = found_verb(world, this, name)?;
-    Ok(Sought { this, name, found })
-}
-
-/// Enters the verb that a call names, with its owner's rights: E_QUOTA for a list of arguments past the limits, then
-/// the errors of `sought_verb`, and E_MAXREC if no frame is left. Inlined, so that the entered verb is built in the
-/// caller's frame.
-#[inline(always)]
-pub fn enter_sought<'a>(
+pub fn enter_written<'a>(
     alloc: Global,
     world: &World,
-    stack: &CallStack<'a>,
+    stack: &'a CallStack<'_>,
     active: &Activation,
-    sought: Result<Sought<'_>, ErrorCode>,
+    base: &Value,
+    name: &Text,
     args: Vec<Value>,
 ) -> Result<Called<'a>, Failure>
-    ensures { (base name : Tree) → IsSought world.now base name sought.entry → IsKnownFailure result → answers (entered_verb world.now (context_of stack.now None) (variables_of active.now.variables) active.now.programmer base name (trees args.items)) ≡ seen_by entered_of result }
+    ensures { IsKnownFailure result → answers (entered_verb world.now (context_of stack.now None) (variables_of active.now.variables) active.now.programmer (tree base.now) (string name.now) (trees args.items)) ≡ seen_by entered_of result }
 {
     let args = arguments(alloc, args)?;
-    let Sought { this, name, found } = sought?;
-    enter_found(alloc, world, stack, active, this, found, name, args)
+    let Value::Obj(this) = base else {
+        return Err(Failure::Fails(ErrorCode::TypeMismatch));
+    };
+    let name = VerbName::of(name);
+    enter_named(alloc, world, stack, active, *this, &name, args)
+}
+
+// Enters the verb of a name that is called on an object, its arguments in a list.
+#[inline(always)]
+fn enter_named<'a>(
+    alloc: Global,
+    world: &World,
+    stack: &'a CallStack<'_>,
+    active: &Activation,
+    this: i32,
+    name: &VerbName<'_>,
+    args: MooList,
+) -> Result<Called<'a>, Failure>
+    ensures { IsKnownFailure result → answers (entered_by world.now (context_of stack.now None) (variables_of active.now.variables) active.now.programmer (object this) (string name.now) args) ≡ seen_by entered_of result }
+{
+    let found = found_verb(world, this, name)?;
+    enter_found(alloc, world, stack, active, this, found, name.text(), args)
 }
 
 /// Enters the verb of a name that is found from one object on, to run on another object, with its owner's rights.
@@ -135,7 +127,7 @@ pub fn enter_sought<'a>(
 pub fn enter_verb_from<'a>(
     alloc: Global,
     world: &World,
-    stack: &CallStack<'a>,
+    stack: &'a CallStack<'_>,
     active: &Activation,
     this: i32,
     from: i32,
@@ -145,15 +137,16 @@ pub fn enter_verb_from<'a>(
     ensures { IsKnownFailure result → answers (entered_from world.now (context_of stack.now None) (variables_of active.now.variables) active.now.programmer this from name.now (trees args.items)) ≡ seen_by entered_of result }
 {
     let args = arguments(alloc, args)?;
-    let found = found_verb(world, from, name)?;
+    let found = found_verb(world, from, &VerbName::new(name))?;
     enter_found(alloc, world, stack, active, this, found, name, args)
 }
 
+/// Enters a verb that was found, to run on an object by this name, with its owner's rights: E_MAXREC if no frame is left.
 #[inline(always)]
-fn enter_found<'a>(
+pub fn enter_found<'a>(
     alloc: Global,
     world: &World,
-    stack: &CallStack<'a>,
+    stack: &'a CallStack<'_>,
     active: &Activation,
     this: i32,
     found: Found<'_>,
@@ -166,14 +159,22 @@ fn enter_found<'a>(
         return Err(Failure::Fails(ErrorCode::MaximumRecursion));
     }
     let player = player_of_call(world, &stack.running, active);
-    let frame = called_frame(alloc, &stack.running, player, this, found, name, args)?;
-    let program = program_of(alloc, found.verb)?;
-    entered(alloc, stack, active, frame, program)
+    let running = called_frame(alloc, found, this, player, name)?;
+    let given = active.variables.handed(&running, stack.running.this, args)?;
+    let callers = stack.callers_of_called(active)?;
+    Ok(Called {
+        stack: CallStack {
+            running,
+            callers,
+            surroundings: stack.surroundings,
+        },
+        given,
+    })
 }
 
-// Returns the list of the arguments.
+/// Returns the list of the arguments: E_QUOTA past the limits.
 #[inline(always)]
-fn arguments(alloc: Global, args: Vec<Value>) -> Result<MooList, Failure>
+pub fn arguments(alloc: Global, args: Vec<Value>) -> Result<MooList, Failure>
     ensures ok { OnOk result (made_list (trees args.items) ≡ Ok (list_of (trees args.items))) }
     ensures same { IfOk result (λ list. list ≡ trees args.items) }
     ensures err { IfErr result (λ failure. HadMemoryIn failure → answers (made_list (trees args.items)) ≡ Err (failure_of failure)) }
@@ -188,11 +189,15 @@ fn arguments(alloc: Global, args: Vec<Value>) -> Result<MooList, Failure>
 /// Returns the verb that a call on an object runs, and the object that has it: the first executable verb that
 /// matches. E_INVIND if the object isn't valid, E_VERBNF if it has none.
 #[inline(always)]
-pub fn found_verb<'a>(world: &'a World, this: i32, name: &MooStr) -> Result<Found<'a>, ErrorCode>
+pub fn found_verb<'a>(
+    world: &'a World,
+    this: i32,
+    name: &VerbName<'_>,
+) -> Result<Found<'a>, ErrorCode>
     ensures ok { IfOk result (λ found. found_verb world.now this name.now ≡ Ok (found_of found)) }
     ensures err { IfErr result (λ code. found_verb world.now this name.now ≡ Err code) }
 {
-    match called_verb(world, this, name.as_bytes()) {
+    match verb_by_key(world, this, name.key()) {
         Some(found) => Ok(found),
         None => Err(nothing_found(world, this)),
     }
@@ -213,12 +218,19 @@ fn nothing_found(world: &World, this: i32) -> ErrorCode
 
 /// Returns the executable verb that a call of this name on an object runs: the first match among its own verbs, and
 /// then among its ancestors'. An object that isn't valid has none.
-#[inline(always)]
 pub fn called_verb<'a>(world: &'a World, object: i32, name: &[u8]) -> Option<Found<'a>>
     ensures { option_map found_of result ≡ called_verb world.now object name.now }
 {
-    let place = world.find_verb(object, name, Need::Call)?;
-    verb_there(world, place)
+    verb_by_key(world, object, &NameKey::new(name))
+}
+
+// Returns the executable verb that a call of the name with this key on an object runs.
+#[inline(always)]
+fn verb_by_key<'a>(world: &'a World, object: i32, key: &NameKey<'_>) -> Option<Found<'a>>
+    ensures { option_map found_of result ≡ called_verb world.now object key.now }
+{
+    let (definer, verb) = world.called_verb(object, key)?;
+    Some(Found { definer, verb })
 }
 
 /// Returns the verb at a place, if there is one.
@@ -243,55 +255,51 @@ pub fn has_frame_left(stack: &CallStack<'_>) -> bool
 /// Returns the player of a called verb: a wizard may have put another into the variable. The wizard's flag is read
 /// only if the variable holds another value.
 #[inline(always)]
-pub fn player_of_call(world: &World, caller: &Frame, active: &Activation) -> i32
+pub fn player_of_call(world: &World, caller: &Running, active: &Activation) -> i32
     ensures { result ≡ player_of_call world.now caller.now (variables_of active.now.variables) active.now.programmer }
 {
-    if is_object(active.variables.get_given(Given::Player), caller.player) {
+    if is_object(active.variables.player(), caller.player) {
         return caller.player;
     }
     if !Rights::is_wizard(world, active.programmer) {
         return caller.player;
     }
-    match active.variables.get_given(Given::Player) {
-        Some(Value::Obj(player)) => *player,
+    match active.variables.player() {
+        Value::Obj(player) => *player,
         _ => caller.player,
     }
 }
 
 // Returns whether a value is this object.
 #[inline(always)]
-fn is_object(value: Option<&Value>, number: i32) -> bool
-    ensures { IsTrue result → option_map (λ v. tree v.now) value.entry ≡ Some (object number) }
+fn is_object(value: &Value, number: i32) -> bool
+    ensures { IsTrue result → tree value.now ≡ object number }
 {
-    matches!(value, Some(Value::Obj(own)) if *own == number)
+    matches!(value, Value::Obj(own) if *own == number)
 }
 
+// Returns what is fixed while a verb runs that was found and is called by this name.
 #[inline(always)]
 fn called_frame(
     alloc: Global,
-    caller: &Frame,
-    player: i32,
-    this: i32,
     found: Found<'_>,
+    this: i32,
+    player: i32,
     name: &MooStr,
-    args: MooList,
-) -> Result<Frame, AllocError>
-    ensures { IfOk result (λ frame. frame ≡ called_frame caller.now player this (found_of found.entry) name.now args) }
+) -> Result<Running, AllocError>
+    ensures { IfOk result (λ frame. frame ≡ called_frame (found_of found.entry) this player name.now) }
 {
-    let call = Call {
+    let verb = found.verb;
+    Ok(Running {
+        program: program_of(alloc, verb)?,
+        d: verb.perms.debug,
+        programmer: verb.owner,
         this,
-        caller: caller.this,
+        definer: found.definer,
         player,
-        dobj: caller.dobj,
-        iobj: caller.iobj,
+        names: verb.names.try_clone()?,
         verb: name.try_clone()?,
-        argstr: caller.argstr.try_clone()?,
-        dobjstr: caller.dobjstr.try_clone()?,
-        prepstr: caller.prepstr.try_clone()?,
-        iobjstr: caller.iobjstr.try_clone()?,
-        args,
-    };
-    verb_frame(alloc, found, call)
+    })
 }
 
 /// Returns the frame of a verb that was found: its owner is the programmer, and it has the d bit and the program of
@@ -331,45 +339,4 @@ pub fn program_of(alloc: Global, verb: &Verb) -> Result<Program, AllocError>
         Some(program) => program.try_clone(),
         None => Program::empty(alloc),
     }
-}
-
-// Begins the verb of a frame, with a slot for each name of its program. It has the result type of its callers, so
-// that the entered verb is not moved.
-#[inline(always)]
-fn entered<'a>(
-    alloc: Global,
-    stack: &CallStack<'a>,
-    active: &Activation,
-    frame: Frame,
-    program: Program,
-) -> Result<Called<'a>, Failure>
-    ensures { IsKnownFailure result → Ok (entered (context_of stack.now None) (variables_of active.now.variables) active.now.programmer frame) ≡ seen_by entered_of result }
-{
-    let callers = stack.callers_of_called(alloc, active)?;
-    let variables = called_variables(alloc, program, &frame, &active.variables)?;
-    let programmer = frame.programmer;
-    Ok(Called {
-        stack: CallStack {
-            running: frame,
-            callers,
-            surroundings: stack.surroundings,
-        },
-        active: Activation {
-            variables,
-            programmer,
-        },
-    })
-}
-
-// Returns the variables of a frame; those of the command have the values that they have in the caller.
-#[inline(always)]
-fn called_variables(
-    alloc: Global,
-    program: Program,
-    frame: &Frame,
-    caller: &Variables,
-) -> Result<Variables, AllocError>
-    ensures { IfOk result (λ variables. variables_of variables ≡ called_variables frame.now (variables_of caller.now)) }
-{
-    Variables::handed(alloc, program, frame, caller)
 }

@@ -9,11 +9,11 @@ mod integers;
 mod object;
 mod place;
 mod target;
+mod verb_name;
 
 pub use entering::{
-    Call, Called, Found, MOST_FRAMES, Sought, called_verb, enter_sought, enter_verb,
-    enter_verb_from, found_verb, has_frame_left, player_of_call, program_of, sought_verb,
-    verb_frame, verb_there,
+    Call, Called, Found, MOST_FRAMES, called_verb, enter_found, enter_verb, enter_verb_from,
+    enter_written, found_verb, has_frame_left, player_of_call, program_of, verb_frame, verb_there,
 };
 pub use fault::failed;
 pub use growth::{set_longer, set_sum};
@@ -24,3 +24,4 @@ pub use target::{
     Path, Places, Root, Spot, Step, Target, as_property, push_step, rebuilt, root_alone,
     set_variable, taken_apart,
 };
+pub use verb_name::VerbName;

@@ -5,7 +5,8 @@ use Rattle.moo_value.specs.Tree.{Tree}
 use Rattle.moo_builtin_operator.specs.Truth.{is_true}
 use Rattle.moo_world_object.specs.declared.verb.Verb.{Verb}
 use Rattle.moo_world_table.specs.World.{World}
-use Rattle.moo_eval_access.specs.Entering.{called_verb, verb_there}
+use Rattle.moo_world.specs.VerbCalls.{verb_there}
+use Rattle.moo_eval_access.specs.Entering.{called_verb}
 use Rattle.moo_builtin.specs.Telling.{Telling}
 use Rattle.moo_session_connection.specs.declared.client.Client.{Client}
 use Rattle.moo_session_task.specs.declared.world_state.WorldState.{WorldState}

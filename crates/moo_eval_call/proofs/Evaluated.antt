@@ -1,5 +1,5 @@
 -- What the call of `eval` comes to.
-use Rattle.std.proofs.Common.{◌≡◌, ℕ, ℤ, pos, List, [], ◌∷◌, Bool, true, false, cond, codes, Result, Ok, Err, IfOk, if◌then◌else◌, refl, sym, ap, subst, ◌∙◌, arith}
+use Rattle.std.proofs.Common.{◌≡◌, ℕ, ℤ, pos, List, [], ◌∷◌, Bool, true, false, cond, codes, Result, Ok, Err, if◌then◌else◌, refl, sym, ap, subst, ◌∙◌, arith}
 use Rattle.std.specs.Prelude.{nat_le, ◌&&◌}
 use Rattle.std.proofs.lemmas.Bool.{leb-false, lt-leb}
 use Rattle.moo_value.specs.declared.error_code.ErrorCode.{ErrorCode}
@@ -26,11 +26,12 @@ use Rattle.moo_builtin.specs.Setting.{is_programmer, is_of_text, told_fault}
 use Rattle.moo_builtin.specs.Answers.{IsAnswered}
 use Rattle.moo_builtin.specs.Telling.{Telling, Faults}
 use Rattle.moo_builtin.proofs.Coming.{not_memory}
-use Rattle.std.specs.declared.alloc.AllocError.{AllocError}
 use Rattle.moo_eval_frame.specs.declared.frame.Frame.{Frame}
-use Rattle.moo_eval_access.specs.declared.entering.Called.{Called}
+use Rattle.moo_eval_frame.specs.declared.frame.TraceFrame.{TraceFrame}
+use Rattle.moo_eval_frame.specs.declared.frame.TraceEntry.{TraceEntry}
+use Rattle.moo_eval_frame.specs.declared.frame.TraceEntry.TheVariants.{Verb}
+use Rattle.moo_eval_frame.specs.State.{trace_frame}
 use Rattle.moo_eval_access.specs.Entering.{Entered, has_frame_left}
-use Rattle.moo_eval_access.specs.SeenCalled.{entered_of}
 use Rattle.moo_eval_call.specs.declared.progress.Stage.TheVariants.{Evaluated}
 use Rattle.moo_eval_call.specs.Progressing.{Calling, Progress, done, verb_next, refuses, through}
 use Rattle.moo_eval_call.specs.Evaluating.{typed_frame, begun_below, typed_below, program_next, no_program, EvaluatesText, faulty, parsed}
@@ -48,15 +49,15 @@ pub has_room : (k : Calling) (program : Block) (e : Entered) → has_frame_left 
 has_room k program e left is = ap (λ b. if b then verb_next (typed_below k program) Evaluated else refuses MaximumRecursion) left ∙ ap (λ x. verb_next x Evaluated) (sym is)
 
 -- the frame of the program, with the function between it and its caller
-pub typed_so : (r : Result Called AllocError) (k : Calling) (program : Block) (b : Entered) (f : Frame) (p q this : ℤ) →
-    IfOk r (λ h. entered_of h ≡ through (codes "eval") b) → b ≡ begun_below k f → f ≡ typed_frame program p q this →
-    p ≡ k.programmer → q ≡ k.context.frame.player → this ≡ k.context.frame.this → IfOk r (λ h. entered_of h ≡ typed_below k program)
-typed_so (Ok h) k program b f p q this above begun framed whose player caller =
-    above ∙ ap (λ x. through (codes "eval") x) (begun ∙ ap (begun_below k) (framed
+pub typed_so : (h : Entered) (k : Calling) (program : Block) (b : Entered) (f : Frame) (p q this : ℤ) →
+    ((t : TraceFrame) (rest : List TraceEntry) → b.context.callers ≡ Verb t ∷ rest → h ≡ through (codes "eval") b) → b ≡ begun_below k f → f ≡ typed_frame program p q this →
+    p ≡ k.programmer → q ≡ k.context.frame.player → this ≡ k.context.frame.this → h ≡ typed_below k program
+typed_so h k program b f p q this above begun framed whose player caller =
+    above (trace_frame k.context.frame k.programmer) k.context.callers (ap (λ x. x.context.callers) begun)
+    ∙ ap (λ x. through (codes "eval") x) (begun ∙ ap (begun_below k) (framed
     ∙ ap (λ x. typed_frame program x q this) whose
     ∙ ap (λ x. typed_frame program k.programmer x this) player
     ∙ ap (λ x. typed_frame program k.programmer k.context.frame.player x) caller))
-typed_so (Err e) k program b f p q this above begun framed whose player caller = tt
 
 -- by whether the limits allow it
 not_made : (b : Bool) (t : Tree) (e : ErrorCode) → cond b (Ok t) (Err Quota) ≡ Err e → (b ≡ false) × (Quota ≡ e)

@@ -19,7 +19,8 @@ use Rattle.moo_builtin.specs.Telling.{Telling}
 use Rattle.moo_builtin.specs.declared.call.Caller.{Caller}
 use Rattle.moo_builtin.specs.Calls.{CallsPlain}
 use Rattle.moo_builtin.specs.Outcomes.{Replies}
-use Rattle.moo_eval_call.specs.Tasks.{Reply, nearest_programmer, set_task_perms, replied}
+use Rattle.moo_eval_frame.specs.State.{nearest_programmer}
+use Rattle.moo_eval_call.specs.Tasks.{Reply, set_task_perms, replied}
 use Rattle.moo_eval_call.specs.Connections.{connected_players, elapsed_since, last_heard, last_login}
 use Rattle.moo_eval_call.specs.Asking.{notify, boot_player, set_player_flag, dump_database, shutdown, server_log}
 

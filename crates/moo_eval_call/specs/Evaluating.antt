@@ -11,7 +11,7 @@ use Rattle.moo_syntax.specs.FaultText.{fault_text}
 use Rattle.moo_builtin_operator.specs.Places.{made_list}
 use Rattle.moo_eval_frame.specs.declared.frame.Frame.{Frame}
 use Rattle.moo_eval_frame.specs.Outcome.{answers}
-use Rattle.moo_eval_frame.specs.State.{entries}
+use Rattle.moo_eval_frame.specs.State.{entries, running_of}
 use Rattle.moo_eval_frame.specs.Variables.{first_bindings, value_of_name}
 use Rattle.moo_world_table.specs.World.{World}
 use Rattle.moo_builtin.specs.Setting.{is_programmer}
@@ -44,7 +44,7 @@ typed_frame program programmer player caller = record {
 -- a frame that the running one calls, with its own first variables
 abbrev pub begun_below : Calling → Frame → Entered
 begun_below k f = record {
-  context = record { frame = f; callers = entries k.context.frame k.programmer k.context.callers; indexed = None; surroundings = k.context.surroundings };
+  context = record { frame = running_of f; callers = entries k.context.frame k.programmer k.context.callers; indexed = None; surroundings = k.context.surroundings };
   variables = value_of_name (first_bindings f);
   programmer = f.programmer;
 }

@@ -1,11 +1,10 @@
 -- What the functions that inspect the running task give, and what they change.
-use Rattle.std.specs.Prelude.{ℕ, ℤ, pos, negsuc, Bool, List, [], ◌∷◌, Result, Ok, Err, if◌then◌else◌}
+use Rattle.std.specs.Prelude.{ℕ, pos, Bool, List, [], ◌∷◌, Result, Ok, Err, if◌then◌else◌}
 use Rattle.moo_value.specs.declared.error_code.ErrorCode.TheVariants.{TypeMismatch, Permission}
 use Rattle.moo_value.specs.Tree.{Tree, integer, object, error}
 use Rattle.moo_world.specs.Rights.{controls}
 use Rattle.moo_builtin_value.specs.Calls.{Raised}
 use Rattle.moo_eval_frame.specs.declared.frame.TraceEntry.{TraceEntry}
-use Rattle.moo_eval_frame.specs.declared.frame.TraceEntry.TheVariants.{Verb, BuiltIn}
 use Rattle.moo_eval_frame.specs.Outcome.{raised, Failure, fails, stops}
 use Rattle.moo_eval_access.specs.State.{State}
 
@@ -16,12 +15,6 @@ Reply = Result Tree Failure × State
 -- how many ticks a task has
 abbrev pub most_ticks : ℕ
 most_ticks = 100000
-
--- the programmer of the nearest frame of a verb, #-1 if there is none
-abbrev pub nearest_programmer : List TraceEntry → ℤ
-nearest_programmer [] = negsuc 0
-nearest_programmer (Verb f ∷ callers) = f.programmer
-nearest_programmer (BuiltIn name ∷ callers) = nearest_programmer callers
 
 -- the running frame gets another programmer, if its own programmer is that one or a wizard
 abbrev pub set_task_perms : List Tree → State → Reply

@@ -19,7 +19,7 @@ use std::alloc::Global;
 pub(crate) fn create<'a>(
     alloc: Global,
     world: &mut World,
-    stack: &CallStack<'a>,
+    stack: &'a CallStack<'_>,
     active: &Activation,
     up: i32,
     owner: i32,

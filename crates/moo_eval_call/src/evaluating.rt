@@ -17,7 +17,7 @@ use crate::progress::{Progress, Stage};
 use moo_builtin::{is_programmer, told_fault};
 use moo_builtin_operator::list;
 use moo_eval_access::{Called, has_frame_left};
-use moo_eval_frame::{Activation, CallStack, Failure, Frame, Variables};
+use moo_eval_frame::{Activation, CallStack, Failure, Frame, GivenValues};
 use moo_syntax::{SyntaxFault, parse};
 use moo_syntax_grammar::{Names, Program};
 use moo_value::{ErrorCode, MooList, MooStr, Value};
@@ -29,7 +29,7 @@ use std::alloc::{AllocError, Global};
 pub(crate) fn begin_evaluating<'a>(
     alloc: Global,
     world: &World,
-    stack: &CallStack<'a>,
+    stack: &'a CallStack<'_>,
     active: &Activation,
     args: &[Value],
 ) -> Result<Progress<'a>, Failure>
@@ -44,7 +44,7 @@ pub(crate) fn begin_evaluating<'a>(
 fn evaluate_text<'a>(
     alloc: Global,
     world: &World,
-    stack: &CallStack<'a>,
+    stack: &'a CallStack<'_>,
     active: &Activation,
     text: &MooStr,
 ) -> Result<Progress<'a>, Failure>
@@ -96,7 +96,7 @@ fn pair(alloc: Global, first: Value, second: Value) -> Result<Vec<Value>, AllocE
 
 fn program_next<'a>(
     alloc: Global,
-    stack: &CallStack<'a>,
+    stack: &'a CallStack<'_>,
     active: &Activation,
     program: Program,
 ) -> Result<Progress<'a>, Failure>
@@ -111,7 +111,7 @@ fn program_next<'a>(
 
 fn typed_below<'a>(
     alloc: Global,
-    stack: &CallStack<'a>,
+    stack: &'a CallStack<'_>,
     active: &Activation,
     program: Program,
 ) -> Result<Called<'a>, AllocError>
@@ -126,31 +126,27 @@ fn typed_below<'a>(
         caller.this,
     )?;
     let called = begun_below(alloc, stack, active, frame)?;
-    through(alloc, "eval", called)
+    Ok(through("eval", called))
 }
 
 // Begins a frame that the running one calls.
 fn begun_below<'a>(
     alloc: Global,
-    stack: &CallStack<'a>,
+    stack: &'a CallStack<'_>,
     active: &Activation,
     frame: Frame,
 ) -> Result<Called<'a>, AllocError>
     ensures { IfOk result (λ called. entered_of called ≡ begun_below (calling_of stack.now active.now) frame) }
 {
-    let callers = stack.callers_of_called(alloc, active)?;
-    let variables = Variables::first(alloc, &frame)?;
-    let programmer = frame.programmer;
+    let callers = stack.callers_of_called(active)?;
+    let given = GivenValues::first(alloc, &frame)?;
     Ok(Called {
         stack: CallStack {
-            running: frame,
+            running: frame.running(),
             callers,
             surroundings: stack.surroundings,
         },
-        active: Activation {
-            variables,
-            programmer,
-        },
+        given,
     })
 }
 

@@ -18,7 +18,7 @@ use std::alloc::Global;
 pub(crate) fn begin_move<'a>(
     alloc: Global,
     world: &mut World,
-    stack: &CallStack<'a>,
+    stack: &'a CallStack<'_>,
     active: &Activation,
     what: i32,
     to: i32,
@@ -44,7 +44,7 @@ pub(crate) fn begin_move<'a>(
 pub(crate) fn accept<'a>(
     alloc: Global,
     world: &mut World,
-    stack: &CallStack<'a>,
+    stack: &'a CallStack<'_>,
     active: &Activation,
     what: i32,
     to: i32,
@@ -69,7 +69,7 @@ fn may_enter(world: &World, programmer: i32, answer: bool) -> bool
 fn move_object<'a>(
     alloc: Global,
     world: &mut World,
-    stack: &CallStack<'a>,
+    stack: &'a CallStack<'_>,
     active: &Activation,
     what: i32,
     to: i32,
@@ -96,7 +96,7 @@ fn is_to_move(world: &World, what: i32, to: i32) -> bool
 pub(crate) fn leave<'a>(
     alloc: Global,
     world: &World,
-    stack: &CallStack<'a>,
+    stack: &'a CallStack<'_>,
     active: &Activation,
     what: i32,
     to: i32,
@@ -120,7 +120,7 @@ fn has_come(world: &World, what: i32, to: i32) -> bool
 fn call_verb<'a>(
     alloc: Global,
     world: &World,
-    stack: &CallStack<'a>,
+    stack: &'a CallStack<'_>,
     active: &Activation,
     o: i32,
     name: &str,

@@ -20,7 +20,7 @@ use std::alloc::Global;
 pub(crate) fn pass<'a>(
     alloc: Global,
     world: &World,
-    stack: &CallStack<'a>,
+    stack: &'a CallStack<'_>,
     active: &Activation,
     args: Vec<Value>,
 ) -> Result<Progress<'a>, Failure>

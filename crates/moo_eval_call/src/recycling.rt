@@ -20,7 +20,7 @@ use std::alloc::Global;
 pub(crate) fn begin_recycling<'a>(
     alloc: Global,
     world: &World,
-    stack: &CallStack<'a>,
+    stack: &'a CallStack<'_>,
     active: &Activation,
     o: i32,
 ) -> Result<Progress<'a>, Failure>
@@ -37,7 +37,7 @@ pub(crate) fn begin_recycling<'a>(
 pub(crate) fn empty<'a>(
     alloc: Global,
     world: &mut World,
-    stack: &CallStack<'a>,
+    stack: &'a CallStack<'_>,
     active: &Activation,
     o: i32,
 ) -> Result<Progress<'a>, Failure>
@@ -52,7 +52,7 @@ pub(crate) fn empty<'a>(
 fn move_out<'a>(
     alloc: Global,
     world: &mut World,
-    stack: &CallStack<'a>,
+    stack: &'a CallStack<'_>,
     active: &Activation,
     o: i32,
     inside: i32,
@@ -87,7 +87,7 @@ fn owner_of(world: &World, o: i32) -> i32
 fn call_verb<'a>(
     alloc: Global,
     world: &World,
-    stack: &CallStack<'a>,
+    stack: &'a CallStack<'_>,
     active: &Activation,
     o: i32,
     name: &str,

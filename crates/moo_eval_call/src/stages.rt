@@ -23,7 +23,7 @@ use std::alloc::{AllocError, Global};
 pub fn resume_call<'a>(
     alloc: Global,
     world: &mut World,
-    stack: &CallStack<'a>,
+    stack: &'a CallStack<'_>,
     active: &Activation,
     notices: &mut Vec<Notice>,
     stage: Stage,
@@ -51,7 +51,7 @@ fn notice(notices: &mut Vec<Notice>, stage: Stage) -> Result<(), AllocError>
 fn next_progress<'a>(
     alloc: Global,
     world: &mut World,
-    stack: &CallStack<'a>,
+    stack: &'a CallStack<'_>,
     active: &Activation,
     stage: Stage,
     answer: Value,

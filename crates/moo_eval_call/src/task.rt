@@ -5,7 +5,7 @@ ghost use Rattle.moo_eval_frame.specs.declared.notice.Notice.{Notice};
 ghost use Rattle.moo_eval_frame.specs.Handling.{frame_lists, listed};
 ghost use Rattle.moo_eval_frame.specs.Outcome.{answers};
 ghost use Rattle.moo_eval_frame.specs.Seen.{context_of, seen_answer, IsKnownFailure};
-ghost use Rattle.moo_eval_call.specs.Tasks.{nearest_programmer, set_task_perms};
+ghost use Rattle.moo_eval_call.specs.Tasks.{set_task_perms};
 ghost use Rattle.moo_eval_call.specs.Calls.{is_of_task, task_reply};
 ghost use Rattle.moo_eval_call.specs.Seen.{state_at};
 
@@ -13,7 +13,7 @@ use crate::asking::{boot_player, dump_database, notify, server_log, set_player_f
 use crate::connections::{connected_players, connected_seconds, idle_seconds};
 use crate::ticks::Ticks;
 use moo_builtin_operator as operation;
-use moo_eval_frame::{Activation, CallStack, Callers, Failure, Notice, TraceEntry, frame_lists};
+use moo_eval_frame::{Activation, CallStack, Failure, Notice, frame_lists};
 use moo_syntax_function::Function;
 use moo_value::{ErrorCode, Value};
 use moo_world::{Rights, World};
@@ -57,7 +57,7 @@ pub(crate) fn task_reply(
     match function {
         Function::TicksLeft => Ok(Value::Int(ticks.left())),
         Function::Callers => callers(alloc, stack),
-        Function::CallerPerms => Ok(Value::Obj(nearest_programmer(&stack.callers))),
+        Function::CallerPerms => Ok(Value::Obj(stack.callers.programmer())),
         Function::SetTaskPerms => set_task_perms(world, active, args),
         Function::ConnectedPlayers => connected_players(alloc, stack.surroundings, args),
         Function::IdleSeconds => idle_seconds(stack.surroundings, args),
@@ -79,20 +79,6 @@ fn callers(alloc: Global, stack: &CallStack<'_>) -> Result<Value, Failure>
     let entries = stack.callers.to_vec(alloc)?;
     let frames = frame_lists(alloc, &entries)?;
     Ok(operation::list(alloc, frames)?)
-}
-
-// Returns the programmer of the frame that called the running one.
-fn nearest_programmer(callers: &Callers) -> i32
-    ensures { result ≡ nearest_programmer callers.now }
-{
-    let mut rest = callers;
-    while let Some((nearest, behind)) = rest.split_first() {
-        if let TraceEntry::Verb(frame) = nearest {
-            return frame.programmer;
-        }
-        rest = behind;
-    }
-    -1
 }
 
 // Sets the running frame's programmer to the one given, if the present programmer is that one or a wizard; else

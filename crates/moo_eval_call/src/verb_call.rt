@@ -1,5 +1,5 @@
 //! Begins calls of functions that call verbs.
-ghost use Rattle.std.specs.Prelude.{◌≡◌, ℕ, List, Err, IfOk, IfErr};
+ghost use Rattle.std.specs.Prelude.{◌≡◌, ℕ, List, Err, IfOk, IfErr, None};
 ghost use Rattle.moo_builtin_operator.specs.Places.{made_list};
 ghost use Rattle.moo_eval_frame.specs.Outcome.{answers};
 ghost use Rattle.moo_syntax_function.specs.declared.function.Function.TheVariants.{Pass};
@@ -54,7 +54,7 @@ fn calls_verbs(function: Function) -> bool
 pub fn start_call<'a>(
     alloc: Global,
     world: &mut World,
-    stack: &CallStack<'a>,
+    stack: &'a CallStack<'_>,
     active: &Activation,
     function: Function,
     values: Gathered,
@@ -85,7 +85,7 @@ fn arguments(alloc: Global, function: Function, values: Gathered) -> Result<Vec<
 fn begin<'a>(
     alloc: Global,
     world: &mut World,
-    stack: &CallStack<'a>,
+    stack: &'a CallStack<'_>,
     active: &Activation,
     function: Function,
     args: Vec<Value>,
@@ -101,7 +101,7 @@ fn begin<'a>(
 fn first_progress<'a>(
     alloc: Global,
     world: &mut World,
-    stack: &CallStack<'a>,
+    stack: &'a CallStack<'_>,
     active: &Activation,
     function: Function,
     args: Vec<Value>,
@@ -120,7 +120,7 @@ fn first_progress<'a>(
 fn begin_moving<'a>(
     alloc: Global,
     world: &mut World,
-    stack: &CallStack<'a>,
+    stack: &'a CallStack<'_>,
     active: &Activation,
     args: &[Value],
 ) -> Result<Progress<'a>, Failure>
@@ -135,7 +135,7 @@ fn begin_moving<'a>(
 fn begin_creating<'a>(
     alloc: Global,
     world: &mut World,
-    stack: &CallStack<'a>,
+    stack: &'a CallStack<'_>,
     active: &Activation,
     args: &[Value],
 ) -> Result<Progress<'a>, Failure>
@@ -151,7 +151,7 @@ fn begin_creating<'a>(
 fn recycle<'a>(
     alloc: Global,
     world: &World,
-    stack: &CallStack<'a>,
+    stack: &'a CallStack<'_>,
     active: &Activation,
     args: &[Value],
 ) -> Result<Progress<'a>, Failure>

@@ -7,7 +7,7 @@ use Rattle.moo_eval_frame.specs.Outcome as outcome
 use Rattle.moo_eval_frame.specs.Outcome.{Stop, raised, Flow, next, returned, broken, continued}
 use Rattle.moo_eval_frame.specs.declared.notice.Notice.{Notice}
 use Rattle.moo_eval_frame.specs.Surroundings.{Surroundings}
-use Rattle.moo_eval_frame.specs.State.{Context}
+use Rattle.moo_eval_frame.specs.State.{Context, running_of}
 use Rattle.moo_eval_access.specs.State.{State}
 use Rattle.moo_eval_frame.specs.Variables.{first_bindings, value_of_name}
 use Rattle.moo_eval_frame.specs.Traceback.{traceback}
@@ -32,7 +32,7 @@ end_of (Err (raised raise)) = uncaught (traceback raise.message raise.trace)
 end_of (Err (outcome.out_of_ticks trace)) = out_of_ticks (traceback (codes "Task ran out of ticks") trace)
 
 abbrev pub first_context : Surroundings → Frame → Context
-first_context around start = record { frame = start; callers = []; indexed = None; surroundings = around }
+first_context around start = record { frame = running_of start; callers = []; indexed = None; surroundings = around }
 
 abbrev pub first_state : Frame → World → State
 first_state start world = record {

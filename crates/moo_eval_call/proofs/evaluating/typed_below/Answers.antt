@@ -11,5 +11,5 @@ returns c =
     let f : SFits w32 c.args.active.now.programmer = search rules in
     let g : SFits w32 c.args.stack.now.running.player = search rules in
     let h : SFits w32 c.args.stack.now.running.this = search rules in
-    typed_so c.through.result (calling_of c.args.stack.now c.args.active.now) c.args.program (entered_of c.in_ok-called.called) c.in_ok-frame.frame _ _ _ c.through.ensures c.in_ok-called.ensures c.in_ok-frame.ensures
+    typed_so (entered_of c.through.result) (calling_of c.args.stack.now c.args.active.now) c.args.program (entered_of c.in_ok-called.called) c.in_ok-frame.frame _ _ _ c.through.ensures c.in_ok-called.ensures c.in_ok-frame.ensures
     (to_z-of_z w32 c.args.active.now.programmer f) (to_z-of_z w32 c.args.stack.now.running.player g) (to_z-of_z w32 c.args.stack.now.running.this h)

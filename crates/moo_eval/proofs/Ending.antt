@@ -1,13 +1,14 @@
 -- A task ends as its statements lead.
-use Rattle.std.proofs.Common.{◌≡◌, ℕ, ℤ, List, [], ◌++◌, Option, None, Result, refl, sym, subst, ◌∙◌, append-nil}
+use Rattle.std.proofs.Common.{◌≡◌, ℕ, ℤ, List, [], ◌++◌, Option, None, Result, refl, sym, ap, subst, ◌∙◌, append-nil}
 use Rattle.moo_world_table.specs.World.{World}
 use Rattle.moo_eval_frame.specs.declared.frame.Frame.{Frame}
+use Rattle.moo_eval_frame.specs.declared.frame.Running.{Running}
 use Rattle.moo_eval_frame.specs.declared.frame.TraceEntry.{TraceEntry}
 use Rattle.moo_eval_frame.specs.declared.notice.Notice.{Notice}
 use Rattle.moo_eval_frame.specs.Surroundings.{Surroundings}
 use Rattle.moo_eval_frame.specs.Outcome.{Stop, Flow}
 use Rattle.moo_eval_frame.specs.Variables.{first_bindings, value_of_name}
-use Rattle.moo_eval_frame.specs.State.{Context}
+use Rattle.moo_eval_frame.specs.State.{Context, running_of}
 use Rattle.moo_value.specs.Tree.{Tree}
 use Rattle.moo_syntax_ast.specs.Tree.{Block}
 use Rattle.moo_eval_access.specs.State.{State}
@@ -29,14 +30,16 @@ task_ends around start before old new (ended.OutOfTicks lines) last outcome Know
 task_ends around start before old new ended.Memory last outcome Known end known runs asked = tt
 
 -- statements that run as the first of a task do
-pub first_runs : (around : Surroundings) (start : Frame) (before : World) (callers : List TraceEntry) (ticks : ℕ) (variables : List ℕ → Option Tree) (programmer : ℤ) (notices : List Notice) (b : Block) (o : Result Flow Stop) (last : State)
-    → callers ≡ [] → ticks ≡ most_ticks → variables ≡ value_of_name (first_bindings start) → programmer ≡ start.programmer → notices ≡ [] → b ≡ start.program
-    → RunsAll Faults (record { frame = start; callers = callers; indexed = None; surroundings = around }) b (record { ticks = ticks; world = before; variables = variables; programmer = programmer; notices = notices }) o last
+pub first_runs : (around : Surroundings) (start : Frame) (before : World) (frame : Running) (callers : List TraceEntry) (ticks : ℕ) (variables : List ℕ → Option Tree) (programmer : ℤ) (notices : List Notice) (b : Block) (o : Result Flow Stop) (last : State)
+    → frame ≡ running_of start → callers ≡ [] → ticks ≡ most_ticks → variables ≡ value_of_name (first_bindings start) → programmer ≡ frame.programmer → notices ≡ [] → b ≡ frame.program
+    → RunsAll Faults (record { frame = frame; callers = callers; indexed = None; surroundings = around }) b (record { ticks = ticks; world = before; variables = variables; programmer = programmer; notices = notices }) o last
     → RunsAll Faults (first_context around start) start.program (first_state start before) o last
-first_runs around start before callers ticks variables programmer notices b o last p q r v m u d =
-    let context : ◌≡◌ {A = Context} (record { frame = start; callers = callers; indexed = None; surroundings = around }) (first_context around start) = λ i. record { frame = start; callers = p i; indexed = None; surroundings = around } in
-    let state : ◌≡◌ {A = State} (record { ticks = ticks; world = before; variables = variables; programmer = programmer; notices = notices }) (first_state start before) = λ i. record { ticks = q i; world = before; variables = r i; programmer = v i; notices = m i } in
-    subst (λ x. RunsAll Faults (first_context around start) x (first_state start before) o last) u (subst (λ x. RunsAll Faults x b (first_state start before) o last) context (subst (λ x. RunsAll Faults (record { frame = start; callers = callers; indexed = None; surroundings = around }) b x o last) state d))
+first_runs around start before frame callers ticks variables programmer notices b o last f p q r v m u d =
+    let own = v ∙ ap (λ x. x.programmer) f in
+    let program : b ≡ start.program = u ∙ ap (λ x. x.program) f in
+    let context : ◌≡◌ {A = Context} (record { frame = frame; callers = callers; indexed = None; surroundings = around }) (first_context around start) = λ i. record { frame = f i; callers = p i; indexed = None; surroundings = around } in
+    let state : ◌≡◌ {A = State} (record { ticks = ticks; world = before; variables = variables; programmer = programmer; notices = notices }) (first_state start before) = λ i. record { ticks = q i; world = before; variables = r i; programmer = own i; notices = m i } in
+    subst (λ x. RunsAll Faults (first_context around start) x (first_state start before) o last) program (subst (λ x. RunsAll Faults x b (first_state start before) o last) context (subst (λ x. RunsAll Faults (record { frame = frame; callers = callers; indexed = None; surroundings = around }) b x o last) state d))
 
 -- notices that stay, with others after them or without
 pub followed : (old new more : List Notice) → new ≡ old ++ more → IsBegunBy old new

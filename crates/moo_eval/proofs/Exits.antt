@@ -91,3 +91,6 @@ property_put {T = T} {c = c} {n = n} {w = w} {f = f} {p = p} {ns = ns} {base = b
 -- statements that are these run as these do
 pub runs_at : {T : Telling} {c : Context} {b b' : Block} {s s' : State} {o : Result Flow Stop} → b ≡ b' → RunsAll T c b s o s' → RunsAll T c b' s o s'
 runs_at {T = T} {c = c} {s = s} {s' = s'} {o = o} q h = subst (λ x. RunsAll T c x s o s') q h
+
+pub runs_from : {T : Telling} {c : Context} {b b' : Block} {s t s' : State} {o : Result Flow Stop} → s ≡ t → b ≡ b' → RunsAll T c b s o s' → RunsAll T c b' t o s'
+runs_from {T = T} {c = c} {b' = b'} {s' = s'} {o = o} e q h = subst (λ x. RunsAll T c b' x o s') e (runs_at q h)

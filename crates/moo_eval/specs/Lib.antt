@@ -4,3 +4,4 @@ pub mod Ends
 pub mod Growth
 pub mod Element
 pub mod Leaves
+pub mod Attempts

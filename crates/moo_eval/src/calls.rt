@@ -1,29 +1,31 @@
-//! Evaluates catches, and calls of verbs and functions.
+//! Evaluates calls of verbs and functions.
 ghost use Rattle.std.specs.Prelude.{◌≡◌, ◌≢◌, ◌≤◌, ◌<◌, ◌∷◌, ℕ, List, [], Option, None, Some, OnOk, is_ok, IsTrue};
 ghost use Rattle.std.specs.Borrow.{Bor};
 ghost use Rattle.moo_value.specs.declared.value.Value.{Value as ValueModel};
+ghost use Rattle.moo_value.specs.Tree.{string};
 ghost use Rattle.moo_value.specs.View.{tree as tree_of};
-ghost use Rattle.moo_syntax_ast.specs.Tree.{Expr, Items, no_statement, property, verb_call, call};
-ghost use Rattle.moo_syntax_lower.specs.Source.{source, source_items, source_codes};
-ghost use Rattle.moo_eval_frame.specs.Catching.{guards};
+ghost use Rattle.moo_syntax_ast.specs.Tree.{Expr, Items, no_statement, verb_call, call};
+ghost use Rattle.moo_syntax_lower.specs.Source.{source, source_items};
 ghost use Rattle.moo_eval_frame.specs.declared.frame.Activation.{Activation};
 ghost use Rattle.moo_eval_access.specs.SeenCalled.{entered_of};
 ghost use Rattle.moo_eval_call.specs.VerbCalls.{caller_of};
 ghost use Rattle.moo_eval_call.specs.SeenByHooks.{progress_of};
 ghost use Rattle.moo_eval.specs.Hooks.{RunsCalled};
-ghost use Rattle.moo_eval_semantics.specs.Meaning.{Applies, Computes, EvaluatesAll, Proceeds};
-ghost use Rattle.moo_eval_frame.specs.Seen.{context_of, seen_answer, seen_answers, seen_flow, catch_of, IsKnown, IsKnownFailure};
+ghost use Rattle.moo_eval_semantics.specs.Meaning.{Applies, Computes, Proceeds};
+ghost use Rattle.moo_eval_frame.specs.Seen.{context_of, seen_answer, seen_flow, IsKnown, IsKnownFailure};
 ghost use Rattle.moo_eval_semantics.specs.Operands.{answered};
 ghost use Rattle.moo_builtin.specs.Telling.{Faults};
 ghost use Rattle.moo_eval.specs.Seen.{state_of};
 
 use crate::hooks::Pending;
 use crate::interpreter::Task;
-use moo_eval_access::{Called, enter_verb};
+use crate::property::as_text;
+use moo_eval_access::{Called, enter_verb, enter_written};
 use moo_eval_call::{Progress, start_call, verb_caller};
-use moo_eval_frame::{Activation, CallStack, Failure, Flow, Gathered, Stop, caught};
+use moo_eval_frame::{Activation, CallStack, Failure, Flow, Gathered, Stop, Variables};
+use moo_syntax_ast::Text;
 use moo_syntax_function::Function;
-use moo_syntax_lower::{FunctionName, Node, NodeCodes, NodeItem};
+use moo_syntax_lower::{FunctionName, Node, NodeItem};
 use moo_value::Value;
 use moo_world::World;
 
@@ -45,9 +47,35 @@ impl Task {
         ensures ticks { self.new.ticks_left ≤ self.old.ticks_left }
     {
         let base = self.evaluate(world, active, stack, indexed, base)?;
+        if let Some(name) = as_text(name) {
+            self.take_tick(active, stack)?;
+            let values = self.evaluate_all(world, active, stack, indexed, items)?;
+            return self.call_written(world, active, stack, &base, name, values);
+        }
         let name = self.evaluate(world, active, stack, indexed, name)?;
         let values = self.evaluate_all(world, active, stack, indexed, items)?;
         self.call_verb(world, active, stack, &base, &name, values)
+    }
+
+    // Calls a verb whose name is a literal, its operands evaluated. Not inlined, so that calls in the arguments of calls
+    // need no stack space for it.
+    #[cycle(evaluation)]
+    #[inline(never)]
+    fn call_written(
+        &mut self,
+        world: &mut World,
+        active: &Activation,
+        stack: &CallStack<'_>,
+        base: &Value,
+        name: &Text,
+        values: Gathered,
+    ) -> Result<Value, Failure>
+        ensures meaning { (indexed : Option (Bor ValueModel)) (a b : Expr) (items : Items) → IsKnownFailure result → Applies Faults (context_of stack.now indexed) (verb_call a b items) (tree_of base.now ∷ string name.now ∷ values) [] (state_of self.old world.old active.now) (seen_answer result) (state_of self.new world.new active.now) }
+        ensures ticks { self.new.ticks_left ≤ self.old.ticks_left }
+    {
+        let args = values.into_arguments(self.alloc())?;
+        let called = enter_written(self.alloc(), world, stack, active, base, name, args)?;
+        self.run_called(world, called)
     }
 
     // Calls a verb, its operands evaluated. Not inlined, so that calls in the arguments of calls need no stack space
@@ -82,9 +110,13 @@ impl Task {
     {
         let Called {
             stack: callee,
-            active: first,
+            given,
         } = called;
-        let mut running = first;
+        let program = callee.running.program.try_clone()?;
+        let mut running = Activation {
+            variables: Variables::begun(self.alloc(), program, given)?,
+            programmer: callee.running.programmer,
+        };
         let statements = callee.running.program.code();
         answered(self.run_all(world, &mut running, &callee, statements))
     }
@@ -138,7 +170,7 @@ impl Task {
         &mut self,
         world: &mut World,
         active: &Activation,
-        stack: &CallStack<'a>,
+        stack: &'a CallStack<'_>,
         first: Progress<'a>,
     ) -> Result<Value, Failure>
         ensures meaning { IsKnownFailure result → Proceeds Faults (context_of stack.now None) (progress_of first.entry) (state_of self.old world.old active.now) (seen_answer result) (state_of self.new world.new active.now) }
@@ -152,55 +184,6 @@ impl Task {
             };
             let answer = self.run_called(world, Box::into_inner(called))?;
             pending = self.resume(world, active, stack, stage, answer)?;
-        }
-    }
-
-    // Evaluates the codes first. If they name the error, it is the value, or `other` gives the value in its place.
-    #[cycle(evaluation)]
-    #[inline(always)]
-    pub(crate) fn catch(
-        &mut self,
-        world: &mut World,
-        active: &mut Activation,
-        stack: &CallStack<'_>,
-        indexed: Option<&Value>,
-        body: &Node,
-        codes: &NodeCodes,
-        other: &Option<Box<Node>>,
-    ) -> Result<Value, Failure>
-        ensures meaning { IsKnownFailure result → Computes Faults (context_of stack.now indexed.entry) (catch_of (source body.now) (source_codes codes.now) other.now) (state_of self.old world.old active.old) (seen_answer result) (state_of self.new world.new active.new) }
-        ensures ticks { self.new.ticks_left ≤ self.old.ticks_left }
-    {
-        let values = self.guards(world, active, stack, indexed, codes)?;
-        let outcome = self.evaluate(world, active, stack, indexed, body);
-        let Some(code) = caught(codes, &values, &outcome) else {
-            return Ok(outcome?);
-        };
-        match other {
-            None => Ok(Value::Err(code)),
-            Some(other) => Ok(self.evaluate(world, active, stack, indexed, other)?),
-        }
-    }
-
-    /// Returns the values of the codes of a catch or of a handler.
-    #[cycle(evaluation)]
-    pub(crate) fn guards(
-        &mut self,
-        world: &mut World,
-        active: &mut Activation,
-        stack: &CallStack<'_>,
-        indexed: Option<&Value>,
-        codes: &NodeCodes,
-    ) -> Result<Vec<Value>, Failure>
-        ensures meaning { IsKnownFailure result → EvaluatesAll Faults (context_of stack.now indexed.entry) (guards (source_codes codes.now)) (state_of self.old world.old active.old) (seen_answers result) (state_of self.new world.new active.new) }
-        ensures ticks { self.new.ticks_left ≤ self.old.ticks_left }
-    {
-        match codes {
-            NodeCodes::Any => Ok(Vec::new(self.alloc())),
-            NodeCodes::Listed(items) => {
-                let values = self.evaluate_all(world, active, stack, indexed, items)?;
-                Ok(values.into_values(self.alloc())?)
-            }
         }
     }
 }

@@ -28,7 +28,7 @@ impl Task {
         &mut self,
         world: &mut World,
         active: &Activation,
-        stack: &CallStack<'a>,
+        stack: &'a CallStack<'_>,
         stage: Stage,
         answer: Value,
     ) -> Result<Pending<'a>, Failure>
@@ -46,7 +46,7 @@ impl Task {
         &mut self,
         world: &mut World,
         active: &Activation,
-        stack: &CallStack<'a>,
+        stack: &'a CallStack<'_>,
         first: Progress<'a>,
     ) -> Result<Pending<'a>, Failure>
         ensures meaning { IsKnownFailure result → LeadsTo Faults (context_of stack.now None) (progress_of first.entry) (state_of self.old world.old active.now) (seen_pending result) (state_of self.new world.new active.now) }

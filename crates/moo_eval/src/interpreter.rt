@@ -215,7 +215,7 @@ impl Task {
         &mut self,
         world: &mut World,
         active: &Activation,
-        stack: &CallStack<'a>,
+        stack: &'a CallStack<'_>,
         stage: Stage,
         answer: Value,
     ) -> Result<Progress<'a>, Failure>

@@ -4,6 +4,7 @@
 mod arithmetic;
 mod assignment;
 mod calls;
+mod catching;
 mod conditions;
 mod deciding;
 mod element;

@@ -95,9 +95,9 @@ impl Task {
     }
 }
 
-// Returns the literal string that a node is.
+/// Returns the literal string that a node is.
 #[inline(always)]
-fn as_text(node: &Node) -> Option<&Text>
+pub(crate) fn as_text(node: &Node) -> Option<&Text>
     ensures { IfSome result (λ text. source node.now ≡ literal (Str text.now)) }
 {
     match node {

@@ -1,16 +1,19 @@
 //! Runs whole tasks: 'MOO Tasks' of the LambdaMOO Programmer's Manual, 'Tracebacks' and 'Limits' of
 //! docs/reference/language.md.
-ghost use Rattle.std.specs.Prelude.{◌≡◌};
-ghost use Rattle.moo_eval_frame.specs.Seen.{seen_flow, IsKnown};
+ghost use Rattle.std.specs.Prelude.{◌≡◌, [], IfOk};
+ghost use Rattle.moo_eval_frame.specs.Seen.{seen_flow, IsKnown, slot_value};
 ghost use Rattle.moo_eval_frame.specs.Variables.{first_bindings, value_of_name};
 ghost use Rattle.moo_eval_frame.specs.Seen.{surroundings_of, variables_of};
 ghost use Rattle.moo_builtin.specs.Telling.{Faults};
 ghost use Rattle.moo_eval_semantics.specs.Task.{TaskEnds, end_of};
 ghost use Rattle.moo_eval.specs.Ends.{IfEnded, LeavesNotices, IsBegunBy};
+ghost use Rattle.moo_syntax_ast.specs.Given.{given_names};
+ghost use Rattle.moo_eval_frame.specs.GivenValues.{given_values};
 
 use crate::interpreter::Task;
 use moo_eval_frame::{
-    Activation, CallStack, Callers, Flow, Frame, Stop, TaskEnv, Variables, traceback_lines,
+    Activation, CallStack, Callers, Flow, Frame, GivenValues, Stop, TaskEnv, Variables,
+    traceback_lines,
 };
 use moo_value::Value;
 use moo_world::World;
@@ -39,8 +42,8 @@ pub fn run_task(alloc: Global, world: &mut World, start: Frame, env: &mut TaskEn
     ensures kept { env.new.surroundings ≡ env.old.surroundings }
     ensures notices { IsBegunBy env.old.notices.items env.new.notices.items }
 {
-    match Variables::first(alloc, &start) {
-        Ok(variables) => run_frame(alloc, world, start, variables, env),
+    match GivenValues::first(alloc, &start) {
+        Ok(given) => run_frame(alloc, world, start, given, env),
         Err(AllocError) => Ended::Memory,
     }
 }
@@ -50,22 +53,25 @@ fn run_frame(
     alloc: Global,
     world: &mut World,
     start: Frame,
-    variables: Variables,
+    given: GivenValues,
     env: &mut TaskEnv<'_>,
 ) -> Ended
-    requires { variables_of variables ≡ value_of_name (first_bindings start) }
+    requires { slot_value given_names (given_values given) (value_of_name []) ≡ value_of_name (first_bindings start) }
     ensures ends { IfEnded result (λ end. LeavesNotices env.old.notices.items (TaskEnds Faults (surroundings_of env.old.surroundings) start world.old end world.new) env.new.notices.items) }
     ensures kept { env.new.surroundings ≡ env.old.surroundings }
     ensures notices { IsBegunBy env.old.notices.items env.new.notices.items }
 {
-    let mut active = Activation {
-        variables,
-        programmer: start.programmer,
-    };
     let stack = CallStack {
-        running: start,
+        running: start.running(),
         callers: Callers::none(),
         surroundings: &env.surroundings,
+    };
+    let Ok(variables) = first_variables(alloc, &stack, given) else {
+        return Ended::Memory;
+    };
+    let mut active = Activation {
+        variables,
+        programmer: stack.running.programmer,
     };
     let mut task = Task::new(alloc);
     let statements = stack.running.program.code();
@@ -74,6 +80,18 @@ fn run_frame(
         return Ended::Memory;
     };
     end_of_task(alloc, outcome)
+}
+
+// Returns the variables of the running frame, which begin with these values.
+fn first_variables(
+    alloc: Global,
+    stack: &CallStack<'_>,
+    given: GivenValues,
+) -> Result<Variables, AllocError>
+    ensures { IfOk result (λ v. variables_of v ≡ slot_value given_names (given_values given) (value_of_name [])) }
+{
+    let program = stack.running.program.try_clone()?;
+    Variables::begun(alloc, program, given)
 }
 
 fn end_of_task(alloc: Global, outcome: Result<Flow, Stop>) -> Ended

@@ -19,7 +19,7 @@ use Rattle.moo_value.specs.declared.error_code.ErrorCode.TheVariants.{TypeMismat
 use Rattle.moo_eval_access.specs.SeenTarget.{path_of}
 use Rattle.moo_eval_access.specs.SeenCalled.{entered_of}
 use Rattle.moo_eval.proofs.Hooking.{comes_on}
-use Rattle.moo_eval.proofs.Caught.{guards_end, passes_on, known_caught}
+use Rattle.moo_eval.proofs.Caught.{guards_end, attempt_stops, attempt_gives, attempt_caught, attempt_goes_on, attempt_spent}
 use Rattle.moo_syntax_ast.specs.Tree as program
 use Rattle.moo_syntax_ast.specs.declared.operator.BinaryOperator.TheVariants.{Add}
 use Rattle.moo_syntax_ast.specs.Tree.{variable, binary, splice, element, no_items}
@@ -31,7 +31,7 @@ use Rattle.moo_eval.proofs.Extended.{extended, unextended}
 use Rattle.moo_eval.proofs.Properties as property
 use Rattle.moo_builtin_operator.specs.Truth.{is_true, truth_value}
 use Rattle.moo_eval.proofs.Passing.{undecided, decided, operand_stops, negated, not_stops, truth_of, if_err}
-use Rattle.moo_eval.proofs.Exits.{none_left, refused, gathered, unlisted, same_state, optional_ends, goes_on-not, state_at, guarded_on, property_put, runs_at}
+use Rattle.moo_eval.proofs.Exits.{none_left, refused, gathered, unlisted, same_state, optional_ends, goes_on-not, state_at, guarded_on, property_put, runs_from}
 use Rattle.moo_eval_frame.proofs.Rest.{drop_next}
 use Rattle.moo_syntax_lower.proofs.Rows.{row_items}
 use Rattle.moo_syntax_lower.proofs.StatementRows.{row_block, row_arms, row_handlers}
@@ -471,29 +471,93 @@ pub call_verb-returns-in_err-called-clause-meaning : goal.call_verb-returns-in_e
 call_verb-returns-in_err-called-clause-meaning t c =
     let p = err_from_is_err_and c.from_residual-in_err-called.result c.from_residual-in_err-called.ensures.1 in rw (p.1, p.2) (λ indexed a b items k. verb_fails (rw c.in_ok-args.ensures.ok at (c.in_err-called.ensures k)))
 
+pub call_written-returns-clause-meaning : goal.call_written-returns-clause-meaning
+call_written-returns-clause-meaning t c =
+    λ indexed a b items k. let h = c.run_called.ensures.meaning c.args.active.now k in verb_runs (rw c.in_ok-args.ensures.ok at (c.in_ok-called.ensures tt)) h.runs h.leaves h.gives
+
+pub call_written-returns-in_err-args-clause-meaning : goal.call_written-returns-in_err-args-clause-meaning
+call_written-returns-in_err-args-clause-meaning t c =
+    let p = err_from_is_err_and c.from_residual.result c.from_residual.ensures.1 in rw (p.1, p.2) (λ indexed a b items k. verb_fails (unlisted _ _ (c.in_err-args.ensures.err k)))
+
+pub call_written-returns-in_err-called-clause-meaning : goal.call_written-returns-in_err-called-clause-meaning
+call_written-returns-in_err-called-clause-meaning t c =
+    let p = err_from_is_err_and c.from_residual-in_err-called.result c.from_residual-in_err-called.ensures.1 in rw (p.1, p.2) (λ indexed a b items k. verb_fails (rw c.in_ok-args.ensures.ok at (c.in_err-called.ensures k)))
+
 pub catch-returns-in_err-values-clause-meaning : goal.catch-returns-in_err-values-clause-meaning
 catch-returns-in_err-values-clause-meaning t c =
     let p = err_from_is_err_and c.from_residual.result c.from_residual.ensures.1 in rw (p.1, p.2) (λ k. guards_end (source c.args.body.now) (source_codes c.args.codes.now) c.args.other.now (c.in_err-values.ensures.meaning k))
 
-pub catch-returns-in_err-outcome-clause-meaning : goal.catch-returns-in_err-outcome-clause-meaning
-catch-returns-in_err-outcome-clause-meaning t c =
-    let p = err_from_is_err_and c.from_residual-in_err-outcome.result c.from_residual-in_err-outcome.ensures.1 in rw (p.1, p.2) (λ k. passes_on (source_codes c.args.codes.now) c.args.other.now (c.in_ok-values.ensures.meaning tt) (c.evaluate-outcome.ensures.meaning (rw c.in_err-outcome.was k)) (rw c.deref.ensures.value at (sym c.caught.ensures ∙ none_left _ c.in_default.not-Some)) (ap (λ x. passes (seen_value x)) c.in_err-outcome.was))
+pub catch-returns-in_err-value-clause-meaning : goal.catch-returns-in_err-value-clause-meaning
+catch-returns-in_err-value-clause-meaning t c =
+    let p = err_from_is_err_and c.from_residual-in_err-value.result c.from_residual-in_err-value.ensures.1 in rw (p.1, p.2) (λ k. attempt_stops (source_codes c.args.codes.now) c.args.other.now (c.in_ok-values.ensures.meaning tt) (rw c.deref.ensures.value at (c.in_err-value.ensures.meaning k)))
 
-pub catch-returns-in_default-clause-meaning : goal.catch-returns-in_default-clause-meaning
-catch-returns-in_default-clause-meaning t c =
-    λ k. passes_on (source_codes c.args.codes.now) c.args.other.now (c.in_ok-values.ensures.meaning tt) (c.evaluate-outcome.ensures.meaning (rw c.in_ok-outcome.was tt)) (rw c.deref.ensures.value at (sym c.caught.ensures ∙ none_left _ c.in_default.not-Some)) (ap (λ x. passes (seen_value x)) c.in_ok-outcome.was)
+pub catch-returns-in-Value-clause-meaning : goal.catch-returns-in-Value-clause-meaning
+catch-returns-in-Value-clause-meaning t c =
+    λ k. attempt_gives (source_codes c.args.codes.now) c.args.other.now (c.in_ok-values.ensures.meaning tt) (rw (c.deref.ensures.value, c.in-Value.is) at (c.in_ok-value.ensures.meaning tt))
 
 pub catch-returns-in-None-clause-meaning : goal.catch-returns-in-None-clause-meaning
 catch-returns-in-None-clause-meaning t c =
-    λ k. rw c.in-None.is (applies (c.in_ok-values.ensures.meaning tt) no_more (catch_gives (c.evaluate-outcome.ensures.meaning (known_caught (source_codes c.args.codes.now) _ c.evaluate-outcome.result c.in-Some.code (sym c.caught.ensures ∙ c.in-Some.is))) (rw c.deref.ensures.value at (sym c.caught.ensures ∙ c.in-Some.is))))
+    λ k. rw c.in-None.is (attempt_caught (c.in_ok-values.ensures.meaning tt) (rw (c.deref.ensures.value, c.in-Caught.is) at (c.in_ok-value.ensures.meaning tt)))
 
-pub catch-returns-in_err-evaluate-in-Some-other-clause-meaning : goal.catch-returns-in_err-evaluate-in-Some-other-clause-meaning
-catch-returns-in_err-evaluate-in-Some-other-clause-meaning t c =
-    let p = err_from_is_err_and c.from_residual-in_err-evaluate-in-Some-other.result c.from_residual-in_err-evaluate-in-Some-other.ensures.1 in rw (p.1, p.2, c.in-Some-other.is, ← c.deref-in-Some-other.ensures) (λ k. applies (c.in_ok-values.ensures.meaning tt) no_more (catch_or_goes_on (c.evaluate-outcome.ensures.meaning (known_caught (source_codes c.args.codes.now) _ c.evaluate-outcome.result c.in-Some.code (sym c.caught.ensures ∙ c.in-Some.is))) (rw c.deref.ensures.value at (sym c.caught.ensures ∙ c.in-Some.is)) (c.in_err-evaluate-in-Some-other.ensures.meaning k) refl))
+pub catch-returns-in_err-evaluate-in-Some-clause-meaning : goal.catch-returns-in_err-evaluate-in-Some-clause-meaning
+catch-returns-in_err-evaluate-in-Some-clause-meaning t c =
+    let p = err_from_is_err_and c.from_residual-in_err-evaluate-in-Some.result c.from_residual-in_err-evaluate-in-Some.ensures.1 in rw (p.1, p.2, c.in-Some.is, ← c.deref-in-Some.ensures) (λ k. attempt_goes_on (c.in_ok-values.ensures.meaning tt) (rw (c.deref.ensures.value, c.in-Caught.is) at (c.in_ok-value.ensures.meaning tt)) (c.in_err-evaluate-in-Some.ensures.meaning k) refl)
 
 pub catch-returns-clause-meaning : goal.catch-returns-clause-meaning
 catch-returns-clause-meaning t c =
-    λ k. rw (c.in-Some-other.is, ← c.deref-in-Some-other.ensures) (applies (c.in_ok-values.ensures.meaning tt) no_more (catch_or_goes_on (c.evaluate-outcome.ensures.meaning (known_caught (source_codes c.args.codes.now) _ c.evaluate-outcome.result c.in-Some.code (sym c.caught.ensures ∙ c.in-Some.is))) (rw c.deref.ensures.value at (sym c.caught.ensures ∙ c.in-Some.is)) (c.in_ok-evaluate-in-Some-other.ensures.meaning tt) refl))
+    λ k. rw (c.in-Some.is, ← c.deref-in-Some.ensures) (attempt_goes_on (c.in_ok-values.ensures.meaning tt) (rw (c.deref.ensures.value, c.in-Caught.is) at (c.in_ok-value.ensures.meaning tt)) (c.in_ok-evaluate-in-Some.ensures.meaning tt) refl)
+
+pub attempt-returns-in-Property-clause-meaning : goal.attempt-returns-in-Property-clause-meaning
+attempt-returns-in-Property-clause-meaning t c =
+    λ k. rw (c.in-Property.is, ← c.deref.ensures, ← c.deref-in-Property.ensures) (c.attempt_property.ensures.meaning k)
+
+pub attempt-returns-in-Index-clause-meaning : goal.attempt-returns-in-Index-clause-meaning
+attempt-returns-in-Index-clause-meaning t c =
+    λ k. rw (c.in-Index.is, ← c.deref-in-Index.ensures, ← c.deref-in-Index-2.ensures) (c.attempt_index.ensures.meaning k)
+
+pub attempt-returns-in-VerbCall-clause-meaning : goal.attempt-returns-in-VerbCall-clause-meaning
+attempt-returns-in-VerbCall-clause-meaning t c =
+    λ k. rw (c.in-VerbCall.is, row_items, ← c.deref-in-VerbCall.ensures, ← c.deref-in-VerbCall-2.ensures, ← c.deref-in-VerbCall-3.ensures, ← c.deref-in-VerbCall-4.ensures.value) (c.attempt_call.ensures.meaning k)
+
+pub attempt-returns-in_default-clause-meaning : goal.attempt-returns-in_default-clause-meaning
+attempt-returns-in_default-clause-meaning t c =
+    λ k. record { outcome = _; evaluates = c.evaluate-outcome.ensures.meaning (c.attempted.ensures.known k); seen = c.attempted.ensures.seen }
+
+pub attempt_property-returns-in-Ok-clause-meaning : goal.attempt_property-returns-in-Ok-clause-meaning
+attempt_property-returns-in-Ok-clause-meaning t c =
+    λ k. record { outcome = _; evaluates = begins c.in_ok-take_tick.ensures.taken (rw (c.in_ok-take_tick.ensures.left, c.in-Ok.is) at (c.property.ensures.meaning (rw c.in-Ok.is tt))) refl; seen = (refl, refl) }
+
+pub attempt_property-returns-in-Err-clause-meaning : goal.attempt_property-returns-in-Err-clause-meaning
+attempt_property-returns-in-Err-clause-meaning t c =
+    λ k. record { outcome = _; evaluates = begins c.in_ok-take_tick.ensures.taken (rw (c.in_ok-take_tick.ensures.left, c.in-Err.is) at (c.property.ensures.meaning (rw c.in-Err.is (c.settle_attempt.ensures.known k)))) refl; seen = c.settle_attempt.ensures.seen k }
+
+pub attempt_property-returns-in_err-take_tick-clause-meaning : goal.attempt_property-returns-in_err-take_tick-clause-meaning
+attempt_property-returns-in_err-take_tick-clause-meaning t c =
+    let p = err_from_is_err_and c.from_residual.result c.from_residual.ensures.1 in rw (p.1, p.2) (λ k. let h = c.in_err-take_tick.ensures.spent k in rw c.in_err-take_tick.ensures.kept (attempt_spent h.1 h.0))
+
+pub attempt_index-returns-in-Ok-clause-meaning : goal.attempt_index-returns-in-Ok-clause-meaning
+attempt_index-returns-in-Ok-clause-meaning t c =
+    λ k. record { outcome = _; evaluates = begins c.in_ok-take_tick.ensures.taken (rw (c.in_ok-take_tick.ensures.left, c.in-Ok.is) at (c.index.ensures.meaning (rw c.in-Ok.is tt))) refl; seen = (refl, refl) }
+
+pub attempt_index-returns-in-Err-clause-meaning : goal.attempt_index-returns-in-Err-clause-meaning
+attempt_index-returns-in-Err-clause-meaning t c =
+    λ k. record { outcome = _; evaluates = begins c.in_ok-take_tick.ensures.taken (rw (c.in_ok-take_tick.ensures.left, c.in-Err.is) at (c.index.ensures.meaning (rw c.in-Err.is (c.settle_attempt.ensures.known k)))) refl; seen = c.settle_attempt.ensures.seen k }
+
+pub attempt_index-returns-in_err-take_tick-clause-meaning : goal.attempt_index-returns-in_err-take_tick-clause-meaning
+attempt_index-returns-in_err-take_tick-clause-meaning t c =
+    let p = err_from_is_err_and c.from_residual.result c.from_residual.ensures.1 in rw (p.1, p.2) (λ k. let h = c.in_err-take_tick.ensures.spent k in rw c.in_err-take_tick.ensures.kept (attempt_spent h.1 h.0))
+
+pub attempt_call-returns-in-Ok-clause-meaning : goal.attempt_call-returns-in-Ok-clause-meaning
+attempt_call-returns-in-Ok-clause-meaning t c =
+    λ k. record { outcome = _; evaluates = begins c.in_ok-take_tick.ensures.taken (rw (c.in_ok-take_tick.ensures.left, c.in-Ok.is) at (c.verb_call.ensures.meaning (rw c.in-Ok.is tt))) refl; seen = (refl, refl) }
+
+pub attempt_call-returns-in-Err-clause-meaning : goal.attempt_call-returns-in-Err-clause-meaning
+attempt_call-returns-in-Err-clause-meaning t c =
+    λ k. record { outcome = _; evaluates = begins c.in_ok-take_tick.ensures.taken (rw (c.in_ok-take_tick.ensures.left, c.in-Err.is) at (c.verb_call.ensures.meaning (rw c.in-Err.is (c.settle_attempt.ensures.known k)))) refl; seen = c.settle_attempt.ensures.seen k }
+
+pub attempt_call-returns-in_err-take_tick-clause-meaning : goal.attempt_call-returns-in_err-take_tick-clause-meaning
+attempt_call-returns-in_err-take_tick-clause-meaning t c =
+    let p = err_from_is_err_and c.from_residual.result c.from_residual.ensures.1 in rw (p.1, p.2) (λ k. let h = c.in_err-take_tick.ensures.spent k in rw c.in_err-take_tick.ensures.kept (attempt_spent h.1 h.0))
 
 pub evaluate_node-returns-in-VerbCall-clause-meaning : goal.evaluate_node-returns-in-VerbCall-clause-meaning
 evaluate_node-returns-in-VerbCall-clause-meaning t c =
@@ -1077,17 +1141,30 @@ pub verb_call-returns-in_err-name-clause-meaning : goal.verb_call-returns-in_err
 verb_call-returns-in_err-name-clause-meaning t c =
     let p = err_from_is_err_and c.from_residual-in_err-name.result c.from_residual-in_err-name.ensures.1 in rw (p.1, p.2) (λ k. operands_end (element_then (c.in_ok-base.ensures.meaning tt) (element_stops (c.in_err-name.ensures.meaning k)) refl))
 
+pub verb_call-returns-in_err-take_tick-clause-meaning : goal.verb_call-returns-in_err-take_tick-clause-meaning
+verb_call-returns-in_err-take_tick-clause-meaning t c =
+    let p = err_from_is_err_and c.from_residual-in_err-take_tick.result c.from_residual-in_err-take_tick.ensures.1 in rw (p.1, p.2) (λ k. let h = c.in_err-take_tick.ensures.spent k in rw (c.in-Some.ensures, c.in_err-take_tick.ensures.kept, h.1) (operands_end (element_then (c.in_ok-base.ensures.meaning tt) (element_stops (spent h.0)) refl)))
+
 pub verb_call-returns-in_err-values-clause-meaning : goal.verb_call-returns-in_err-values-clause-meaning
 verb_call-returns-in_err-values-clause-meaning t c =
-    let p = err_from_is_err_and c.from_residual-in_err-values.result c.from_residual-in_err-values.ensures.1 in rw (p.1, p.2) (λ k. operands_end (element_then (c.in_ok-base.ensures.meaning tt) (element_then (c.in_ok-name.ensures.meaning tt) (c.in_err-values.ensures.meaning k) refl) refl))
+    let p = err_from_is_err_and c.from_residual-in_err-values.result c.from_residual-in_err-values.ensures.1 in rw (p.1, p.2) (λ k. rw c.in-Some.ensures (operands_end (element_then (c.in_ok-base.ensures.meaning tt) (element_then (literal_read c.in_ok-take_tick.ensures.taken) (rw c.in_ok-take_tick.ensures.left at (c.in_err-values.ensures.meaning k)) refl) refl)))
+
+pub verb_call-returns-in-Some-clause-meaning : goal.verb_call-returns-in-Some-clause-meaning
+verb_call-returns-in-Some-clause-meaning t c =
+    λ k. rw c.in-Some.ensures (applies (element_then (c.in_ok-base.ensures.meaning tt) (element_then (literal_read c.in_ok-take_tick.ensures.taken) (rw c.in_ok-take_tick.ensures.left at (c.in_ok-values.ensures.meaning tt)) refl) refl) no_more (c.call_written.ensures.meaning c.args.indexed _ _ _ k))
+
+pub verb_call-returns-in_err-values-2-clause-meaning : goal.verb_call-returns-in_err-values-2-clause-meaning
+verb_call-returns-in_err-values-2-clause-meaning t c =
+    let p = err_from_is_err_and c.from_residual-in_err-values-2.result c.from_residual-in_err-values-2.ensures.1 in rw (p.1, p.2) (λ k. operands_end (element_then (c.in_ok-base.ensures.meaning tt) (element_then (c.in_ok-name.ensures.meaning tt) (c.in_err-values-2.ensures.meaning k) refl) refl))
 
 pub verb_call-returns-clause-meaning : goal.verb_call-returns-clause-meaning
 verb_call-returns-clause-meaning t c =
-    λ k. applies (element_then (c.in_ok-base.ensures.meaning tt) (element_then (c.in_ok-name.ensures.meaning tt) (c.in_ok-values.ensures.meaning tt) refl) refl) no_more (c.call_verb.ensures.meaning c.args.indexed (source c.args.base.now) (source c.args.name.now) (source_items c.args.items.now) k)
+    λ k. applies (element_then (c.in_ok-base.ensures.meaning tt) (element_then (c.in_ok-name.ensures.meaning tt) (c.in_ok-values-2.ensures.meaning tt) refl) refl) no_more (c.call_verb.ensures.meaning c.args.indexed (source c.args.base.now) (source c.args.name.now) (source_items c.args.items.now) k)
 
 pub run_called-returns-clause-meaning : goal.run_called-returns-clause-meaning
 run_called-returns-clause-meaning t c =
-    λ caller k. record { outcome = _; last = _; runs = runs_at c.code-statements.ensures (c.run_all.ensures.meaning (c.answered.ensures.known k)); leaves = refl; gives = c.answered.ensures.answer }
+    let f : SFits w32 c.args.called.stack.running.programmer = search rules in
+    λ caller k. record { outcome = _; last = _; runs = runs_from (same_state c.in_ok-begun.ensures (to_z-of_z w32 c.args.called.stack.running.programmer f)) c.code-statements.ensures (c.run_all.ensures.meaning (c.answered.ensures.known k)); leaves = refl; gives = c.answered.ensures.answer }
 
 pub evaluate_node-returns-in-Variable-clause-meaning : goal.evaluate_node-returns-in-Variable-clause-meaning
 evaluate_node-returns-in-Variable-clause-meaning t c =

@@ -151,6 +151,9 @@ decreases-verb_call l = 16 * l.self.now.ticks_left + 10
 abbrev pub decreases-call_verb : goal.decreases-call_verb
 decreases-call_verb l = 16 * l.self.now.ticks_left + 9
 
+abbrev pub decreases-call_written : goal.decreases-call_written
+decreases-call_written l = 16 * l.self.now.ticks_left + 9
+
 abbrev pub decreases-run_called : goal.decreases-run_called
 decreases-run_called l = 16 * l.self.now.ticks_left + 7
 
@@ -165,6 +168,18 @@ decreases-call_caller l = 16 * l.self.now.ticks_left + 9
 
 abbrev pub decreases-catch : goal.decreases-catch
 decreases-catch l = 16 * l.self.now.ticks_left + 9
+
+abbrev pub decreases-attempt : goal.decreases-attempt
+decreases-attempt l = 16 * l.self.now.ticks_left + 8
+
+abbrev pub decreases-attempt_property : goal.decreases-attempt_property
+decreases-attempt_property l = 16 * l.self.now.ticks_left
+
+abbrev pub decreases-attempt_index : goal.decreases-attempt_index
+decreases-attempt_index l = 16 * l.self.now.ticks_left
+
+abbrev pub decreases-attempt_call : goal.decreases-attempt_call
+decreases-attempt_call l = 16 * l.self.now.ticks_left
 
 abbrev pub decreases-guards : goal.decreases-guards
 decreases-guards l = 16 * l.self.now.ticks_left + 8

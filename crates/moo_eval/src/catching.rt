@@ -1,0 +1,221 @@
+//! Evaluates catches.
+ghost use Rattle.std.specs.Prelude.{◌≤◌, Err};
+ghost use Rattle.moo_value.specs.View.{trees};
+ghost use Rattle.moo_syntax_ast.specs.Tree.{property, verb_call, index};
+ghost use Rattle.moo_syntax_lower.specs.Source.{source, source_items, source_codes};
+ghost use Rattle.moo_eval_frame.specs.Catching.{guards};
+ghost use Rattle.moo_eval_frame.specs.Outcome.{settled};
+ghost use Rattle.moo_eval_frame.specs.Seen.{context_of, trace_of, failure_of, seen_answer, seen_answers, seen_value, catch_of, HadMemoryIn, IsKnown, IsKnownFailure};
+ghost use Rattle.moo_builtin.specs.Telling.{Faults};
+ghost use Rattle.moo_eval_semantics.specs.Meaning.{Computes, EvaluatesAll};
+ghost use Rattle.moo_eval.specs.Attempts.{Attempts, IsSeen};
+ghost use Rattle.moo_eval.specs.Seen.{state_of};
+
+use crate::interpreter::Task;
+use moo_eval_frame::{Activation, CallStack, Failure, Stop, caught, is_caught};
+use moo_syntax_lower::{Node, NodeCodes, NodeItem};
+use moo_value::{ErrorCode, Value};
+use moo_world::World;
+
+/// How the body of a catch ended, if it was not stopped.
+#[derive(Drop)]
+pub(crate) enum Attempt {
+    Value(Value),
+    /// With an error that the codes of the catch name.
+    Caught(ErrorCode),
+}
+
+impl Task {
+    // Evaluates the codes first. If they name the error, it is the value, or `other` gives the value in its place.
+    #[cycle(evaluation)]
+    #[inline(always)]
+    pub(crate) fn catch(
+        &mut self,
+        world: &mut World,
+        active: &mut Activation,
+        stack: &CallStack<'_>,
+        indexed: Option<&Value>,
+        body: &Node,
+        codes: &NodeCodes,
+        other: &Option<Box<Node>>,
+    ) -> Result<Value, Failure>
+        ensures meaning { IsKnownFailure result → Computes Faults (context_of stack.now indexed.entry) (catch_of (source body.now) (source_codes codes.now) other.now) (state_of self.old world.old active.old) (seen_answer result) (state_of self.new world.new active.new) }
+        ensures ticks { self.new.ticks_left ≤ self.old.ticks_left }
+    {
+        let values = self.guards(world, active, stack, indexed, codes)?;
+        match self.attempt(world, active, stack, indexed, body, codes, &values)? {
+            Attempt::Value(value) => Ok(value),
+            Attempt::Caught(code) => match other {
+                None => Ok(Value::Err(code)),
+                Some(other) => Ok(self.evaluate(world, active, stack, indexed, other)?),
+            },
+        }
+    }
+
+    /// Returns the values of the codes of a catch or of a handler.
+    #[cycle(evaluation)]
+    pub(crate) fn guards(
+        &mut self,
+        world: &mut World,
+        active: &mut Activation,
+        stack: &CallStack<'_>,
+        indexed: Option<&Value>,
+        codes: &NodeCodes,
+    ) -> Result<Vec<Value>, Failure>
+        ensures meaning { IsKnownFailure result → EvaluatesAll Faults (context_of stack.now indexed.entry) (guards (source_codes codes.now)) (state_of self.old world.old active.old) (seen_answers result) (state_of self.new world.new active.new) }
+        ensures ticks { self.new.ticks_left ≤ self.old.ticks_left }
+    {
+        match codes {
+            NodeCodes::Any => Ok(Vec::new(self.alloc())),
+            NodeCodes::Listed(items) => {
+                let values = self.evaluate_all(world, active, stack, indexed, items)?;
+                Ok(values.into_values(self.alloc())?)
+            }
+        }
+    }
+
+    // Evaluates the body of a catch.
+    #[cycle(evaluation)]
+    #[inline(always)]
+    fn attempt(
+        &mut self,
+        world: &mut World,
+        active: &mut Activation,
+        stack: &CallStack<'_>,
+        indexed: Option<&Value>,
+        body: &Node,
+        codes: &NodeCodes,
+        values: &[Value],
+    ) -> Result<Attempt, Failure>
+        ensures meaning { IsKnownFailure result → Attempts Faults (context_of stack.now indexed.entry) (source_codes codes.now) (trees values.now) (source body.now) (state_of self.old world.old active.old) result (state_of self.new world.new active.new) }
+        ensures ticks { self.new.ticks_left ≤ self.old.ticks_left }
+    {
+        match body {
+            Node::Property(base, name) => {
+                self.attempt_property(world, active, stack, indexed, base, name, codes, values)
+            }
+            Node::Index(base, place) => {
+                self.attempt_index(world, active, stack, indexed, base, place, codes, values)
+            }
+            Node::VerbCall(base, name, items) => {
+                self.attempt_call(
+                    world, active, stack, indexed, base, name, items, codes, values,
+                )
+            }
+            _ => {
+                let outcome = self.evaluate(world, active, stack, indexed, body);
+                attempted(codes, values, outcome)
+            }
+        }
+    }
+
+    // Evaluates a property in a catch. An error of its own that the codes name isn't raised first.
+    #[cycle(evaluation)]
+    #[inline(never)]
+    fn attempt_property(
+        &mut self,
+        world: &mut World,
+        active: &mut Activation,
+        stack: &CallStack<'_>,
+        indexed: Option<&Value>,
+        base: &Node,
+        name: &Node,
+        codes: &NodeCodes,
+        values: &[Value],
+    ) -> Result<Attempt, Failure>
+        ensures meaning { IsKnownFailure result → Attempts Faults (context_of stack.now indexed.entry) (source_codes codes.now) (trees values.now) (property (source base.now) (source name.now)) (state_of self.old world.old active.old) result (state_of self.new world.new active.new) }
+        ensures ticks { self.new.ticks_left ≤ self.old.ticks_left }
+    {
+        self.take_tick(active, stack)?;
+        match self.property(world, active, stack, indexed, base, name) {
+            Ok(value) => Ok(Attempt::Value(value)),
+            Err(failure) => self.settle_attempt(active, stack, codes, values, failure),
+        }
+    }
+
+    // Evaluates an element in a catch.
+    #[cycle(evaluation)]
+    #[inline(never)]
+    fn attempt_index(
+        &mut self,
+        world: &mut World,
+        active: &mut Activation,
+        stack: &CallStack<'_>,
+        indexed: Option<&Value>,
+        base: &Node,
+        place: &Node,
+        codes: &NodeCodes,
+        values: &[Value],
+    ) -> Result<Attempt, Failure>
+        ensures meaning { IsKnownFailure result → Attempts Faults (context_of stack.now indexed.entry) (source_codes codes.now) (trees values.now) (index (source base.now) (source place.now)) (state_of self.old world.old active.old) result (state_of self.new world.new active.new) }
+        ensures ticks { self.new.ticks_left ≤ self.old.ticks_left }
+    {
+        self.take_tick(active, stack)?;
+        match self.index(world, active, stack, indexed, base, place) {
+            Ok(value) => Ok(Attempt::Value(value)),
+            Err(failure) => self.settle_attempt(active, stack, codes, values, failure),
+        }
+    }
+
+    // Evaluates a call of a verb in a catch.
+    #[cycle(evaluation)]
+    #[inline(never)]
+    fn attempt_call(
+        &mut self,
+        world: &mut World,
+        active: &mut Activation,
+        stack: &CallStack<'_>,
+        indexed: Option<&Value>,
+        base: &Node,
+        name: &Node,
+        items: &[NodeItem],
+        codes: &NodeCodes,
+        values: &[Value],
+    ) -> Result<Attempt, Failure>
+        ensures meaning { IsKnownFailure result → Attempts Faults (context_of stack.now indexed.entry) (source_codes codes.now) (trees values.now) (verb_call (source base.now) (source name.now) (source_items items.now)) (state_of self.old world.old active.old) result (state_of self.new world.new active.new) }
+        ensures ticks { self.new.ticks_left ≤ self.old.ticks_left }
+    {
+        self.take_tick(active, stack)?;
+        match self.verb_call(world, active, stack, indexed, base, name, items) {
+            Ok(value) => Ok(Attempt::Value(value)),
+            Err(failure) => self.settle_attempt(active, stack, codes, values, failure),
+        }
+    }
+
+    // Returns what a failure of the body comes to. With the d bit an error that the codes name is caught at once: it needs
+    // no traceback.
+    #[inline(never)]
+    fn settle_attempt(
+        &self,
+        active: &Activation,
+        stack: &CallStack<'_>,
+        codes: &NodeCodes,
+        values: &[Value],
+        failure: Failure,
+    ) -> Result<Attempt, Failure>
+        ensures known { IsKnownFailure result → HadMemoryIn failure }
+        ensures seen { IsKnownFailure result → IsSeen (source_codes codes.now) (trees values.now) (settled stack.now.running.d (trace_of stack.now active.now) (Err (failure_of failure))) result }
+    {
+        match failure {
+            Failure::Fails(code) if stack.running.d && is_caught(codes, values, code) => {
+                Ok(Attempt::Caught(code))
+            }
+            failure => attempted(codes, values, self.settled(active, stack, failure)),
+        }
+    }
+}
+
+// Returns how the body of a catch ended.
+fn attempted(
+    codes: &NodeCodes,
+    values: &[Value],
+    outcome: Result<Value, Stop>,
+) -> Result<Attempt, Failure>
+    ensures known { IsKnownFailure result → IsKnown outcome }
+    ensures seen { IsSeen (source_codes codes.now) (trees values.now) (seen_value outcome) result }
+{
+    match caught(codes, values, &outcome) {
+        Some(code) => Ok(Attempt::Caught(code)),
+        None => Ok(Attempt::Value(outcome?)),
+    }
+}

@@ -5,47 +5,77 @@ ghost use Rattle.moo_value.specs.Held.{IsAlike};
 ghost use Rattle.moo_value.specs.View.{trees};
 ghost use Rattle.moo_value.specs.declared.value.Value.TheVariants.{Int};
 
+use crate::measure::Measure;
 use crate::string::total_length;
 use crate::value::Value;
 use std::alloc::{AllocError, Global};
 use std::rc::Rc;
 
-// Appends a value to the elements. Copies them only if another list shares them.
+// Appends a value to the elements, which then have this measure. Copies them only if another list shares them.
 pub(crate) fn with_last(
     alloc: Global,
-    elements: Rc<Vec<Value>>,
+    block: Rc<(Vec<Value>, Measure)>,
     value: Value,
-) -> Result<Rc<Vec<Value>>, AllocError>
-    ensures { IfOk result (λ all. all.value.items ≡ elements.value.items ++ value ∷ []) }
+    measure: Measure,
+) -> Result<Rc<(Vec<Value>, Measure)>, AllocError>
+    ensures elements { IfOk result (λ all. all.value.0.items ≡ block.value.0.items ++ value ∷ []) }
+    ensures measure { IfOk result (λ all. all.value.1 ≡ measure) }
 {
-    let mut elements = elements;
-    if let Some(own) = Rc::get_mut(&mut elements) {
-        own.push(value)?;
-        return Ok(elements);
+    let mut block = block;
+    if let Some(own) = Rc::get_mut(&mut block) {
+        own.0.push(value)?;
+        own.1 = measure;
+        return Ok(block);
     }
-    let mut copies = copied(alloc, &elements)?;
+    let mut copies = copied(alloc, &block.0)?;
     copies.push(value)?;
-    Ok(Rc::new(alloc, copies)?)
+    Ok(Rc::new(alloc, (copies, measure))?)
 }
 
-// Replaces the element at `index` by a value. Copies the elements only if another list shares them.
+// Puts a value before the elements, which then have this measure. Copies them only if another list shares them.
+pub(crate) fn with_first(
+    alloc: Global,
+    block: Rc<(Vec<Value>, Measure)>,
+    value: Value,
+    measure: Measure,
+) -> Result<Rc<(Vec<Value>, Measure)>, AllocError>
+    ensures elements { IfOk result (λ all. all.value.0.items ≡ value ∷ block.value.0.items) }
+    ensures measure { IfOk result (λ all. all.value.1 ≡ measure) }
+{
+    let mut block = block;
+    if let Some(own) = Rc::get_mut(&mut block) {
+        own.0.insert(0, value)?;
+        own.1 = measure;
+        return Ok(block);
+    }
+    let mut copies = Vec::with_capacity(alloc, block.0.len().saturating_add(1))?;
+    copies.push(value)?;
+    push_copies(&mut copies, &block.0)?;
+    Ok(Rc::new(alloc, (copies, measure))?)
+}
+
+// Replaces the element at `index` by a value, so that the elements have this measure. Copies them only if another list
+// shares them.
 pub(crate) fn with_put(
     alloc: Global,
-    elements: Rc<Vec<Value>>,
+    block: Rc<(Vec<Value>, Measure)>,
     index: usize,
     value: Value,
-) -> Result<Rc<Vec<Value>>, AllocError>
-    requires { index < vec_len elements.value }
-    ensures { IfOk result (λ all. all.value.items ≡ slice_set elements.value.items index value) }
+    measure: Measure,
+) -> Result<Rc<(Vec<Value>, Measure)>, AllocError>
+    requires { index < vec_len block.value.0 }
+    ensures elements { IfOk result (λ all. all.value.0.items ≡ slice_set block.value.0.items index value) }
+    ensures measure { IfOk result (λ all. all.value.1 ≡ measure) }
 {
-    let mut elements = elements;
-    if let Some(own) = Rc::get_mut(&mut elements) {
-        put(own, index, value);
-        return Ok(elements);
+    let mut block = block;
+    if let Some(own) = Rc::get_mut(&mut block) {
+        put(&mut own.0, index, value);
+        own.1 = measure;
+        return Ok(block);
     }
-    let mut copies = copied(alloc, &elements)?;
+    let mut copies = copied(alloc, &block.0)?;
     put(&mut copies, index, value);
-    Ok(Rc::new(alloc, copies)?)
+    Ok(Rc::new(alloc, (copies, measure))?)
 }
 
 // Replaces the element at `index` by an integer if it is an integer. Returns whether it was.
@@ -111,8 +141,9 @@ pub(crate) fn copied_in_a_row(
 fn push_copies(copies: &mut Vec<Value>, elements: &[Value]) -> Result<(), AllocError>
     ensures { OnOk result (copies.new.items ≡ copies.old.items ++ elements.now) }
 {
+    copies.reserve(elements.len())?;
     for element in elements {
-        copies.push(element.try_clone()?)?;
+        copies.push_reserved(element.try_clone()?);
     }
     Ok(())
 }

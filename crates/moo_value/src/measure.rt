@@ -21,13 +21,15 @@ pub(crate) fn measured(elements: &[Value]) -> Option<Measure>
     ensures none { IfNone result (¬ IsWithinLimits (list_of (trees elements.now))) }
 {
     let mut weight: u32 = 1;
+    let mut depth: u32 = 1;
     for element in elements {
-        weight += element.weight();
+        let own = element.measure();
+        weight += own.weight;
         if weight > WEIGHT_LIMIT {
             return None;
         }
+        depth = depth.max(own.depth + 1);
     }
-    let depth = list_depth(elements);
     if depth > DEPTH_LIMIT {
         return None;
     }

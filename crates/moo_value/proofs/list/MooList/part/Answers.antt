@@ -1,4 +1,5 @@
-use Rattle.std.proofs.Common.{◌≡◌, slice_range, ap, ◌∙◌}
+use Rattle.std.proofs.Common.{◌≡◌, List, slice_range, ap, ◌∙◌, subst, IfOk}
+use Rattle.moo_value.specs.Tree.{Tree}
 use Rattle.moo_value.specs.View.{trees}
 use Rattle.moo_value.proofs.Parts.{part_within, trees_part}
 use Rattle.moo_value.proofs.list.MooList.part.Goals as goal
@@ -11,4 +12,5 @@ unreachable-requires c =
 
 pub returns : goal.returns
 returns c =
-    ap (λ v. trees v.items) c.in_ok-elements-2.ensures.ok ∙ ap trees c.in_ok-elements.ensures ∙ trees_part _ _ c.args.low c.args.high c.elements.ensures.value
+    let P : List Tree → Type 0 = λ ts. IfOk c.from_measured.result (λ list. list ≡ ts) in
+    subst P (ap trees c.in_ok-elements.ensures ∙ trees_part _ _ c.args.low c.args.high c.elements.ensures.value) c.from_measured.ensures

@@ -1,17 +1,22 @@
 -- The statements that lowered statements come from.
-use Rattle.std.specs.Prelude.{Box, List, [], ◌∷◌, Some, None}
+use Rattle.std.specs.Prelude.{ℕ, Box, List, [], ◌∷◌, Some, None}
 use Rattle.std.specs.Global.{Global}
 use Rattle.moo_syntax_ast.specs.declared.operator.BinaryOperator.TheVariants.{Add}
 use Rattle.moo_syntax_ast.specs.Tree
 use Rattle.moo_syntax_ast.specs.Tree.{Block}
 use Rattle.moo_syntax_lower.specs.declared.node.Node as node
-use Rattle.moo_syntax_lower.specs.declared.statement.NodeStmt.{NodeStmt, Return, Expression, Set, Lengthen, Extend, Put, If', ForList', ForRange', While', Break, Continue, TryExcept', TryFinally', Row_of-NodeStmt, end_of-NodeStmt, more_of-NodeStmt, Row_of-NodeArm, end_of-NodeArm, more_of-NodeArm, Row_of-NodeHandler, end_of-NodeHandler, more_of-NodeHandler}
+use Rattle.moo_syntax_lower.specs.declared.statement.NodeStmt.{NodeStmt, Return, Expression, Set, Lengthen, Prepend, Extend, Put, ScatterNames, Scatter, If', ForList', ForRange', While', Break, Continue, TryExcept', TryFinally', Row_of-NodeStmt, end_of-NodeStmt, more_of-NodeStmt, Row_of-NodeArm, end_of-NodeArm, more_of-NodeArm, Row_of-NodeHandler, end_of-NodeHandler, more_of-NodeHandler}
 use Rattle.moo_syntax_lower.specs.declared.statement.NodeArm.{NodeArm, ElseIf', Else'}
 use Rattle.moo_syntax_lower.specs.declared.statement.NodeHandler.{NodeHandler, Except', ExceptAs'}
-use Rattle.moo_syntax_lower.specs.Source.{source, source_codes}
+use Rattle.moo_syntax_lower.specs.Source.{source, source_codes, source_items}
 
 abbrev pub root : Box node.Node Global → Tree.Expr
 root b = source b.value
+
+-- the items that are these variables
+abbrev pub named_items : List (List ℕ) → Tree.Items
+named_items [] = Tree.no_items
+named_items (v ∷ vs) = Tree.element (Tree.variable v) (named_items vs)
 
 abbrev mutual
   -- the statement that a lowered statement comes from
@@ -21,8 +26,11 @@ abbrev mutual
   source_statement (Expression e) = Tree.performs (root e)
   source_statement (Set v e) = Tree.performs (Tree.assign (Tree.variable v) (root e))
   source_statement (Lengthen v e) = Tree.performs (Tree.assign (Tree.variable v) (Tree.list (Tree.splice (Tree.variable v) (Tree.element (root e) Tree.no_items))))
+  source_statement (Prepend v e) = Tree.performs (Tree.assign (Tree.variable v) (Tree.list (Tree.element (root e) (Tree.splice (Tree.variable v) Tree.no_items))))
   source_statement (Extend v e) = Tree.performs (Tree.assign (Tree.variable v) (Tree.binary Add (Tree.variable v) (root e)))
   source_statement (Put v a e) = Tree.performs (Tree.assign (Tree.index (Tree.variable v) (root a)) (root e))
+  source_statement (ScatterNames vs e) = Tree.performs (Tree.assign (Tree.list (named_items vs.items)) (root e))
+  source_statement (Scatter xs e) = Tree.performs (Tree.assign (Tree.list (source_items xs.items)) (root e))
   source_statement (If' e shape ss shapes arms) = Tree.branches (root e) (source_statements ss) (source_arms arms)
   source_statement (ForList' v e shape ss) = Tree.for_list v (root e) (source_statements ss)
   source_statement (ForRange' v a b shape ss) = Tree.for_range v (root a) (root b) (source_statements ss)

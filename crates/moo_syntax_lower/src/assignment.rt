@@ -3,10 +3,11 @@ ghost use Rattle.std.specs.Prelude.{◌≡◌, ◌∷◌, [], IfOk, IfSome};
 ghost use Rattle.moo_syntax_ast.specs.declared.operator.BinaryOperator.TheVariants.{Add};
 ghost use Rattle.moo_syntax_ast.specs.Tree as source_tree;
 ghost use Rattle.moo_syntax_ast.specs.Tree.{Items};
-ghost use Rattle.moo_syntax_ast.specs.View.{tree, with_item};
-ghost use Rattle.moo_syntax_lower.specs.Blocks.{source_statement};
+ghost use Rattle.moo_syntax_ast.specs.View.{tree, with_item, items_of};
+ghost use Rattle.moo_syntax_lower.specs.Blocks.{source_statement, named_items};
 
 use crate::expression::{copied_name, lower_boxed};
+use crate::item::lower_items;
 use crate::statement::NodeStmt;
 use moo_syntax_ast::operator::BinaryOperator;
 use moo_syntax_ast::{Expr, Item, Name};
@@ -25,6 +26,9 @@ pub(crate) fn lower_alone(alloc: Global, value: &Expr) -> Result<NodeStmt, Alloc
     if let Some((name, place)) = as_element_of_variable(target) {
         return lower_put(alloc, name, place, assigned);
     }
+    if let Some(items) = as_list(target) {
+        return lower_scatter(alloc, items, assigned);
+    }
     Ok(NodeStmt::Expression(lower_boxed(alloc, value)?))
 }
 
@@ -34,6 +38,9 @@ fn lower_set(alloc: Global, name: &Name, value: &Expr) -> Result<NodeStmt, Alloc
     let copy = copied_name(name)?;
     if let Some(last) = as_longer(name, value) {
         return Ok(NodeStmt::Lengthen(copy, lower_boxed(alloc, last)?));
+    }
+    if let Some(first) = as_prepended(name, value) {
+        return Ok(NodeStmt::Prepend(copy, lower_boxed(alloc, first)?));
     }
     match as_extended(name, value) {
         Some(last) => Ok(NodeStmt::Extend(copy, lower_boxed(alloc, last)?)),
@@ -48,6 +55,45 @@ fn lower_put(alloc: Global, name: &Name, place: &Expr, value: &Expr) -> Result<N
     let place = lower_boxed(alloc, place)?;
     let value = lower_boxed(alloc, value)?;
     Ok(NodeStmt::Put(name, place, value))
+}
+
+fn lower_scatter(alloc: Global, items: &[Item], value: &Expr) -> Result<NodeStmt, AllocError>
+    ensures { IfOk result (λ node. source_statement node ≡ source_tree.performs (source_tree.assign (source_tree.list (items_of items.now)) (tree value.now))) }
+{
+    let value = lower_boxed(alloc, value)?;
+    match names_of(alloc, items)? {
+        Some(names) => Ok(NodeStmt::ScatterNames(names, value)),
+        None => Ok(NodeStmt::Scatter(lower_items(alloc, items)?, value)),
+    }
+}
+
+// Returns the names of the variables, if each item is one.
+fn names_of(alloc: Global, items: &[Item]) -> Result<Option<Vec<Name>>, AllocError>
+    ensures { IfOk result (λ found. IfSome found (λ names. items_of items.now ≡ named_items names.items)) }
+{
+    let mut names = Vec::with_capacity(alloc, items.len())?;
+    for item in items {
+        let Some(name) = as_name(item) else {
+            return Ok(None);
+        };
+        names.push(copied_name(name)?)?;
+    }
+    Ok(Some(names))
+}
+
+fn as_name(item: &Item) -> Option<&Name>
+    ensures { IfSome result (λ name. (rest : Items) → with_item item.now rest ≡ source_tree.element (source_tree.variable name.now) rest) }
+{
+    as_variable(as_element(item)?)
+}
+
+fn as_list(expr: &Expr) -> Option<&[Item]>
+    ensures { IfSome result (λ items. tree expr.now ≡ source_tree.list (items_of items.now)) }
+{
+    match expr {
+        Expr::List(items) => Some(items),
+        _ => None,
+    }
 }
 
 fn as_variable(expr: &Expr) -> Option<&Name>
@@ -82,6 +128,23 @@ fn as_longer<'a>(name: &Name, value: &'a Expr) -> Option<&'a Expr>
     let last = as_element(last)?;
     if own.is_spelled_as(name) {
         Some(last)
+    } else {
+        None
+    }
+}
+
+// Returns the first element, if the expression is a list of one more and all elements of this variable, `{a, @x}`.
+fn as_prepended<'a>(name: &Name, value: &'a Expr) -> Option<&'a Expr>
+    ensures { IfSome result (λ first. tree value.now ≡ source_tree.list (source_tree.element (tree first.now) (source_tree.splice (source_tree.variable name.now) source_tree.no_items))) }
+{
+    let Expr::List(items) = value else {
+        return None;
+    };
+    let (item, rest) = two_items(items)?;
+    let first = as_element(item)?;
+    let own = as_variable(as_splice(rest)?)?;
+    if own.is_spelled_as(name) {
+        Some(first)
     } else {
         None
     }

@@ -1,5 +1,5 @@
 //! The statements of lowered programs.
-use crate::node::{Node, NodeCodes};
+use crate::node::{Node, NodeCodes, NodeItem};
 use moo_syntax_ast::Name;
 use moo_value::MooStr;
 
@@ -9,16 +9,22 @@ use moo_value::MooStr;
 pub enum NodeStmt {
     /// `return;` or `return a;`
     Return(Option<Box<Node>>),
-    /// `a;`, a statement of an expression that none of the next four is.
+    /// `a;`, a statement of an expression that none of the next seven is.
     Expression(Box<Node>),
     /// `x = a;`
     Set(Name, Box<Node>),
     /// `x = {@x, a};`
     Lengthen(Name, Box<Node>),
+    /// `x = {a, @x};`
+    Prepend(Name, Box<Node>),
     /// `x = x + a;`
     Extend(Name, Box<Node>),
     /// `x[a] = b;`
     Put(Name, Box<Node>, Box<Node>),
+    /// `{x, y} = a;`, if each item is a variable.
+    ScatterNames(Vec<Name>, Box<Node>),
+    /// `{..} = a;` for other items.
+    Scatter(Vec<NodeItem>, Box<Node>),
     /// `if (a) .. endif`: the condition, the statements, and the further arms.
     If(Box<Node>, Vec<NodeStmt>, Vec<NodeArm>),
     /// `for x in (a) .. endfor`

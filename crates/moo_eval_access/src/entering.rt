@@ -15,7 +15,9 @@ ghost use Rattle.moo_eval_frame.specs.Outcome.{answers};
 ghost use Rattle.moo_eval_frame.specs.Seen.{context_of, variables_of, failure_of, seen_by, IsKnownFailure, HadMemoryIn};
 
 use crate::verb_name::VerbName;
-use moo_eval_frame::{Activation, CallStack, Failure, Frame, GivenValues, Running, Stop};
+use moo_eval_frame::{
+    Activation, CallStack, Failure, Frame, FrameMemory, GivenValues, Running, Stop,
+};
 use moo_syntax_ast::{NameKey, Text};
 use moo_syntax_grammar::Program;
 use moo_value::{ErrorCode, ListLimit, MooList, MooStr, Value};
@@ -60,7 +62,7 @@ pub struct Call {
 /// Enters the verb that a call names, with its owner's rights. E_QUOTA for a list of arguments past the limits;
 /// E_TYPE for a base that is no object or a name that is no string. E_INVIND if the object isn't valid, E_VERBNF if
 /// it has no such executable verb, E_MAXREC if no frame is left. Inlined, so that the entered verb is built in the
-/// caller's frame.
+/// caller's frame. The list takes the memory of a frame that has ended.
 #[inline(always)]
 pub fn enter_verb<'a>(
     alloc: Global,
@@ -70,10 +72,11 @@ pub fn enter_verb<'a>(
     base: &Value,
     name: &Value,
     args: Vec<Value>,
+    memory: &mut FrameMemory,
 ) -> Result<Called<'a>, Failure>
     ensures { IsKnownFailure result → answers (entered_verb world.now (context_of stack.now None) (variables_of active.now.variables) active.now.programmer (tree base.now) (tree name.now) (trees args.items)) ≡ seen_by entered_of result }
 {
-    let args = arguments(alloc, args)?;
+    let args = arguments(alloc, args, memory)?;
     match (base, name) {
         (Value::Obj(this), Value::Str(name)) => {
             let name = VerbName::new(name);
@@ -93,10 +96,11 @@ pub fn enter_written<'a>(
     base: &Value,
     name: &Text,
     args: Vec<Value>,
+    memory: &mut FrameMemory,
 ) -> Result<Called<'a>, Failure>
     ensures { IsKnownFailure result → answers (entered_verb world.now (context_of stack.now None) (variables_of active.now.variables) active.now.programmer (tree base.now) (string name.now) (trees args.items)) ≡ seen_by entered_of result }
 {
-    let args = arguments(alloc, args)?;
+    let args = arguments(alloc, args, memory)?;
     let Value::Obj(this) = base else {
         return Err(Failure::Fails(ErrorCode::TypeMismatch));
     };
@@ -136,7 +140,7 @@ pub fn enter_verb_from<'a>(
 ) -> Result<Called<'a>, Failure>
     ensures { IsKnownFailure result → answers (entered_from world.now (context_of stack.now None) (variables_of active.now.variables) active.now.programmer this from name.now (trees args.items)) ≡ seen_by entered_of result }
 {
-    let args = arguments(alloc, args)?;
+    let args = arguments(alloc, args, &mut FrameMemory::new(alloc))?;
     let found = found_verb(world, from, &VerbName::new(name))?;
     enter_found(alloc, world, stack, active, this, found, name, args)
 }
@@ -172,14 +176,14 @@ pub fn enter_found<'a>(
     })
 }
 
-/// Returns the list of the arguments: E_QUOTA past the limits.
+// Returns the list of the arguments, in the memory of a frame that has ended: E_QUOTA past the limits.
 #[inline(always)]
-pub fn arguments(alloc: Global, args: Vec<Value>) -> Result<MooList, Failure>
+fn arguments(alloc: Global, args: Vec<Value>, memory: &mut FrameMemory) -> Result<MooList, Failure>
     ensures ok { OnOk result (made_list (trees args.items) ≡ Ok (list_of (trees args.items))) }
     ensures same { IfOk result (λ list. list ≡ trees args.items) }
     ensures err { IfErr result (λ failure. HadMemoryIn failure → answers (made_list (trees args.items)) ≡ Err (failure_of failure)) }
 {
-    match MooList::try_from_vec(alloc, args) {
+    match memory.list(alloc, args) {
         Ok(list) => Ok(list),
         Err(ListLimit::TooLarge) => Err(Failure::Fails(ErrorCode::Quota)),
         Err(ListLimit::Memory) => Err(Failure::Stops(Stop::Memory)),

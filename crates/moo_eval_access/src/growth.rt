@@ -1,4 +1,4 @@
-//! Lists and strings that grow in the variable that holds them, as by `l = {@l, x};` and `s = s + x;`.
+//! Lists and strings that grow in the variable that holds them, as by `l = {@l, x};`, `l = {x, @l};` and `s = s + x;`.
 ghost use Rattle.std.specs.Prelude.{◌≡◌, ◌↔◌, ◌++◌, ◌∷◌, [], Ok, Err, IsTrue, IfOk, IfErr, OnOk};
 ghost use Rattle.moo_value.specs.Tree.{Tree, list_of, string};
 ghost use Rattle.moo_value.specs.View.{tree};
@@ -40,9 +40,45 @@ pub fn set_longer(
     Ok(())
 }
 
-// Is true if the list with this value at its end is within the limits of weight and depth.
+/// Sets a variable to the list with the value before its elements. Past the limits that is E_QUOTA; the variable then
+/// keeps its value. The variable gives up what it holds first, so a list that nothing else shares takes the value in
+/// place.
+pub fn set_prepended(
+    alloc: Global,
+    variables: &mut Variables,
+    name: &Name,
+    value: Value,
+    list: MooList,
+) -> Result<(), Failure>
+    ensures ok { OnOk result ((w : Tree) × (made_list (tree value ∷ list) ≡ Ok w) × (variables_of variables.new ≡ with_variable (variables_of variables.old) (bind name.now w))) }
+    ensures err { IfErr result (λ failure. HadMemoryIn failure → answers (made_list (tree value ∷ list)) ≡ Err (failure_of failure)) }
+    ensures kept { IfErr result (λ failure. HadMemoryIn failure → variables_of variables.new ≡ variables_of variables.old) }
+{
+    if !has_room_for(&list, &value) {
+        return Err(Failure::Fails(ErrorCode::Quota));
+    }
+    variables.set(name, Value::Int(0))?;
+    let longer = prepended(alloc, list, value)?;
+    variables.set(name, Value::List(longer))?;
+    Ok(())
+}
+
+// Returns the list with this value before its elements, which has to be within the limits.
+fn prepended(alloc: Global, list: MooList, value: Value) -> Result<MooList, AllocError>
+    requires { IsWithinLimits (list_of (tree value ∷ list)) }
+    ensures { IfOk result (λ longer. longer ≡ tree value ∷ list) }
+{
+    match list.prepended(alloc, value) {
+        Ok(longer) => Ok(longer),
+        Err(ListLimit::Memory) => Err(AllocError),
+        Err(ListLimit::TooLarge) => unreachable!(),
+    }
+}
+
+// Is true if the list with one more value, this one, is within the limits of weight and depth.
 fn has_room_for(list: &MooList, value: &Value) -> bool
-    ensures { IsTrue result ↔ IsWithinLimits (list_of (list.now ++ tree value.now ∷ [])) }
+    ensures last { IsTrue result ↔ IsWithinLimits (list_of (list.now ++ tree value.now ∷ [])) }
+    ensures first { IsTrue result ↔ IsWithinLimits (list_of (tree value.now ∷ list.now)) }
 {
     let weight = list.weight() + value.weight();
     if weight > WEIGHT_LIMIT {

@@ -47,11 +47,18 @@ impl Model for Gathered {
 }
 
 impl Gathered {
-    /// Returns no values, with capacity for as many as there are items.
-    pub fn with_room(alloc: Global, count: usize) -> Result<Gathered, AllocError>
+    /// Returns no values, with capacity for so many. They take this memory, whose values are dropped.
+    #[inline(always)]
+    pub fn with_memory(
+        alloc: Global,
+        memory: Vec<Value>,
+        count: usize,
+    ) -> Result<Gathered, AllocError>
         ensures { IfOk result (λ gathered. gathered ≡ []) }
     {
-        let last = Vec::with_capacity(alloc, count)?;
+        let mut last = memory;
+        last.clear();
+        last.reserve(count)?;
         Ok(Gathered {
             stretches: Vec::new(alloc),
             last,

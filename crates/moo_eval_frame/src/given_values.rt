@@ -137,6 +137,12 @@ impl GivenValues {
         &self.player
     }
 
+    /// Returns the value of `args`.
+    #[inline(always)]
+    pub(crate) fn into_args(self) -> Value {
+        self.args
+    }
+
     /// Sets the value of a name.
     pub(crate) fn set(&mut self, given: Given, value: Value) -> Result<(), AllocError>
         ensures { OnOk result (given_values self.new ≡ set (given_values self.old) (given_slot given) (Some value)) }

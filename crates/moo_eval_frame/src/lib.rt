@@ -11,6 +11,7 @@ mod given_values;
 mod handling;
 pub mod laws;
 mod leading;
+mod memory;
 mod notice;
 mod outcome;
 mod scatter;
@@ -31,9 +32,10 @@ pub use handling::{
     Guarded, HandlerParts, chosen, frame_lists, handler_parts, push_guarded, set_caught,
 };
 pub use leading::{Span, after_finally, after_turn, copied_name, no_turn, runs_finally};
+pub use memory::FrameMemory;
 pub use notice::Notice;
 pub use outcome::{Account, Failure, Flow, Raise, Stop, raised, settle};
-pub use scatter::{LeftOut, dealt, missing, set_shares};
+pub use scatter::{LeftOut, dealt, missing, set_names, set_shares};
 pub use surroundings::{Connection, Login, Surroundings, TaskEnv, own_number};
 pub use traceback::traceback_lines;
 pub use variables::Variables;

@@ -1,14 +1,19 @@
 //! Scatters: how the values of a list are assigned to names.
-ghost use Rattle.std.specs.Prelude.{◌≡◌, ◌+◌, ◌||◌, ◌++◌, ◌∷◌, [], ◌≤◌, cond, Ok, Err, map, drop, length, IfOk, IfErr, OnOk, IfSome, IfNone};
-ghost use Rattle.moo_value.specs.View.{tree};
+ghost use Rattle.std.specs.Prelude.{◌≡◌, ◌+◌, ◌||◌, ◌++◌, ◌∷◌, [], ◌≤◌, cond, Ok, Err, map, drop, length, IfOk, IfErr, OnOk, IfSome, IfNone, List};
+ghost use Rattle.moo_value.specs.Tree.{Tree};
+ghost use Rattle.moo_value.specs.View.{tree, trees};
+ghost use Rattle.moo_value.specs.declared.error_code.ErrorCode.{ErrorCode as ErrorCodeModel};
 ghost use Rattle.moo_syntax_ast.specs.Tree.{Items, element, splice, optional};
 ghost use Rattle.moo_syntax_lower.specs.Source.{source, source_items, with_source};
+ghost use Rattle.moo_syntax_lower.specs.Blocks.{named_items};
+ghost use Rattle.moo_eval_frame.specs.Outcome.{fails};
 ghost use Rattle.moo_eval_frame.specs.Variables.{with_all};
 ghost use Rattle.moo_eval_frame.specs.Scatter.{required, optionals, takes_rest, fits, dealt, binds, shares, lacking, given, missing};
-ghost use Rattle.moo_eval_frame.specs.Seen.{variables_of};
+ghost use Rattle.moo_eval_frame.specs.Seen.{variables_of, failure_of, HadMemoryIn};
 ghost use Rattle.moo_eval_frame.specs.SeenScatter.{left_out_of, left_out_by, share_of};
 
 use crate::frame::Activation;
+use crate::outcome::Failure;
 use moo_syntax_ast::Name;
 use moo_syntax_lower::{Node, NodeItem};
 use moo_value::{ErrorCode, MooList, Value};
@@ -34,6 +39,39 @@ pub fn dealt<'a>(items: &[NodeItem], value: &'a Value) -> Result<&'a MooList, Er
     } else {
         Err(ErrorCode::Arguments)
     }
+}
+
+/// Sets these names to the elements of a list, in order. E_TYPE for a value that is no list, E_ARGS for a wrong count;
+/// then no name is set.
+#[inline(always)]
+pub fn set_names(active: &mut Activation, names: &[Name], value: &Value) -> Result<(), Failure>
+    ensures ok { OnOk result ((list : List Tree) × (dealt (named_items names.now) (tree value.now) ≡ Ok list) × (variables_of active.new.variables ≡ with_all (variables_of active.old.variables) (given (named_items names.now) list))) }
+    ensures err { IfErr result (λ failure. HadMemoryIn failure → (code : ErrorCodeModel) × (dealt (named_items names.now) (tree value.now) ≡ Err code) × (failure_of failure ≡ fails code) × (active.new ≡ active.old)) }
+    ensures programmer { OnOk result (active.new.programmer ≡ active.old.programmer) }
+{
+    let Value::List(list) = value else {
+        return Err(Failure::Fails(ErrorCode::TypeMismatch));
+    };
+    let elements = list.elements();
+    if elements.len() != names.len() {
+        return Err(Failure::Fails(ErrorCode::Arguments));
+    }
+    set_each(active, names, elements)?;
+    Ok(())
+}
+
+// Sets each of these names to the element at its place.
+#[inline(always)]
+fn set_each(active: &mut Activation, names: &[Name], elements: &[Value]) -> Result<(), AllocError>
+    requires { length names.now ≡ length elements.now }
+    ensures variables { OnOk result (variables_of active.new.variables ≡ with_all (variables_of active.old.variables) (given (named_items names.now) (trees elements.now))) }
+    ensures programmer { OnOk result (active.new.programmer ≡ active.old.programmer) }
+{
+    for i in 0..names.len() {
+        let value = elements[i].try_clone()?;
+        active.variables.set(&names[i], value)?;
+    }
+    Ok(())
 }
 
 fn fits(items: &[NodeItem], count: usize) -> bool

@@ -13,7 +13,7 @@ ghost use Rattle.moo_eval_frame.specs.Seen.{slot_value};
 use moo_syntax_ast::Name;
 use moo_syntax_grammar::Program;
 use moo_value::Value;
-use std::alloc::{AllocError, Global};
+use std::alloc::AllocError;
 use std::marker::Model;
 
 /// Holds a slot for each name of a program, with a value if one is set.
@@ -38,13 +38,19 @@ impl Model for Slots {
 }
 
 impl Slots {
-    /// Returns the slots of the names of a program, none set.
+    /// Returns the slots of the names of a program, none set. They take this memory, whose values are dropped.
     #[inline(always)]
-    pub(crate) fn unset(alloc: Global, program: Program) -> Result<Slots, AllocError>
+    pub(crate) fn unset(program: Program, memory: Vec<Option<Value>>) -> Result<Slots, AllocError>
         ensures { IfOk result (λ own. slot_value own.names own.values (value_of_name []) ≡ value_of_name []) }
     {
-        let values = unset_values(alloc, program.slot_names())?;
+        let values = unset_values(memory, program.slot_names())?;
         Ok(Slots { program, values })
+    }
+
+    /// Returns the values of the slots.
+    #[inline(always)]
+    pub(crate) fn into_values(self) -> Vec<Option<Value>> {
+        self.values
     }
 
     /// Returns the hint at the slot of a name, if the numbers of the name there are the name's.
@@ -136,12 +142,17 @@ fn replace_by_integer(place: &mut Option<Value>, number: i32)
     *place = Some(Value::Int(number));
 }
 
-// Returns a slot without a value for each of these names.
+// Returns a slot without a value for each of these names, in this memory, whose values are dropped.
 #[inline(always)]
-fn unset_values(alloc: Global, names: &[Name]) -> Result<Vec<Option<Value>>, AllocError>
+fn unset_values(
+    memory: Vec<Option<Value>>,
+    names: &[Name],
+) -> Result<Vec<Option<Value>>, AllocError>
     ensures { IfOk result (λ values. values.items ≡ map (λ name. None) names.now) }
 {
-    let mut values = Vec::with_capacity(alloc, names.len())?;
+    let mut values = memory;
+    values.clear();
+    values.reserve(names.len())?;
     push_unset(&mut values, names);
     Ok(values)
 }

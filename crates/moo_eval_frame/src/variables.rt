@@ -11,6 +11,7 @@ ghost use Rattle.moo_syntax_ast.specs.declared.given.Given.TheVariants.{Player};
 
 use crate::frame::Running;
 use crate::given_values::GivenValues;
+use crate::memory::FrameMemory;
 use crate::slots::Slots;
 use crate::spelling::is_named;
 use moo_syntax_ast::Name;
@@ -38,21 +39,28 @@ struct Variable {
 
 impl Variables {
     /// Returns the variables that a frame of this program begins with: these values of the names that every frame has,
-    /// and no others.
+    /// and no others. The slots take the memory of a frame that has ended.
     #[inline(always)]
     pub fn begun(
         alloc: Global,
         program: Program,
         given: GivenValues,
+        memory: FrameMemory,
     ) -> Result<Variables, AllocError>
         ensures { IfOk result (λ v. variables_of v ≡ slot_value given_names (given_values given) (value_of_name [])) }
     {
-        let own = Slots::unset(alloc, program)?;
+        let own = Slots::unset(program, memory.into_slots())?;
         Ok(Variables {
             given,
             own,
             others: Vec::new(alloc),
         })
+    }
+
+    /// Drops the values, and returns the memory of the slots and of the arguments.
+    #[inline(always)]
+    pub fn into_memory(self) -> FrameMemory {
+        FrameMemory::of(self.own.into_values(), self.given.into_args())
     }
 
     /// Returns the values of the names that the frame of a called verb has, which begin as those of its caller. The

@@ -1,32 +1,26 @@
 //! Runs assignments.
-ghost use Rattle.std.specs.Prelude.{◌≤◌, None, Result, Err, IfOk, IfErr, OnOk, map};
-ghost use Rattle.moo_syntax_ast.specs.Tree.{variable, assign, performs, list, splice, element, no_items};
-ghost use Rattle.moo_syntax_lower.specs.Source.{source, source_items};
+ghost use Rattle.std.specs.Prelude.{◌≤◌, None};
+ghost use Rattle.moo_syntax_ast.specs.Tree.{variable, assign, performs};
+ghost use Rattle.moo_syntax_lower.specs.Source.{source};
 ghost use Rattle.moo_value.specs.View.{tree as value_tree};
-ghost use Rattle.moo_eval_access.specs.Target.{Path, named, scattered};
-ghost use Rattle.moo_eval_semantics.specs.Meaning.{Computes, Does, Locates, Finds, Steps, Stores, Puts, SetsDefaults};
-ghost use Rattle.moo_eval_frame.specs.Seen.{context_of, failure_of, seen_answer, seen_by, seen_done, seen_flow, HadMemoryIn, IsKnown, IsKnownFailure};
-ghost use Rattle.moo_eval.specs.Growth.{IsLengthened};
-ghost use Rattle.moo_eval_frame.specs.Outcome.{Failure as Failed};
+ghost use Rattle.moo_eval_access.specs.Target.{Path, named};
+ghost use Rattle.moo_eval_semantics.specs.Meaning.{Computes, Does, Locates, Finds, Steps, Stores};
+ghost use Rattle.moo_eval_frame.specs.Seen.{context_of, seen_answer, seen_by, seen_done, seen_flow, IsKnown, IsKnownFailure};
 ghost use Rattle.moo_eval_frame.specs.State.{Context};
 ghost use Rattle.moo_world_table.specs.World.{World as WorldModel};
-ghost use Rattle.moo_eval_access.specs.State.{State};
 ghost use Rattle.moo_builtin.specs.Telling.{Faults};
 ghost use Rattle.moo_eval.specs.Seen.{state_of};
 ghost use Rattle.moo_eval_access.specs.SeenTarget.{root_seen, step_of, steps_of, path_of, spot_of};
-ghost use Rattle.moo_eval_frame.specs.SeenScatter.{left_out_of};
 
 use crate::interpreter::Task;
 use moo_eval_access::{
-    Path, Places, Root, Spot, Step, as_property, push_step, rebuilt, root_alone, set_longer,
-    set_variable, taken_apart, write_property,
+    Path, Places, Root, Spot, Step, as_property, push_step, rebuilt, root_alone, set_variable,
+    taken_apart, write_property,
 };
-use moo_eval_frame::{
-    Activation, CallStack, Failure, Flow, LeftOut, Stop, dealt, missing, set_shares,
-};
+use moo_eval_frame::{Activation, CallStack, Failure, Flow, Stop};
 use moo_syntax_ast::Name;
-use moo_syntax_lower::{Node, NodeItem};
-use moo_value::{ErrorCode, Value};
+use moo_syntax_lower::Node;
+use moo_value::Value;
 use moo_world::World;
 
 impl Task {
@@ -117,56 +111,6 @@ impl Task {
         let value = self.evaluate_tried(world, active, stack, None, value)?;
         active.variables.set(name, value)?;
         Ok(Flow::Next)
-    }
-
-    /// Runs `name = {@name, last}`, if the assignment's own value is not used. Not inlined, so that nested statements
-    /// need no stack space for it.
-    #[cycle(evaluation)]
-    #[inline(never)]
-    pub(crate) fn lengthen(
-        &mut self,
-        world: &mut World,
-        active: &mut Activation,
-        stack: &CallStack<'_>,
-        name: &Name,
-        last: &Node,
-    ) -> Result<Flow, Stop>
-        ensures meaning { IsKnown result → Does Faults (context_of stack.now None) (performs (assign (variable name.now) (list (splice (variable name.now) (element (source last.now) no_items))))) (state_of self.old world.old active.old) (seen_flow result) (state_of self.new world.new active.new) }
-        ensures ticks { self.new.ticks_left ≤ self.old.ticks_left }
-    {
-        self.take_tick(active, stack)?;
-        self.take_tick(active, stack)?;
-        match self.put_longer(world, active, stack, name, last) {
-            Ok(()) => Ok(Flow::Next),
-            Err(failure) => {
-                let value = self.settled(active, stack, failure)?;
-                active.variables.set(name, value)?;
-                Ok(Flow::Next)
-            }
-        }
-    }
-
-    // Sets the variable to the list `{@name, last}`, if that is one.
-    #[cycle(evaluation)]
-    fn put_longer(
-        &mut self,
-        world: &mut World,
-        active: &mut Activation,
-        stack: &CallStack<'_>,
-        name: &Name,
-        last: &Node,
-    ) -> Result<(), Failure>
-        ensures ok { OnOk result (IsLengthened Faults (context_of stack.now None) name.now (list (splice (variable name.now) (element (source last.now) no_items))) (state_of self.old world.old active.old) (state_of self.new world.new active.new)) }
-        ensures err { IfErr result (λ failure. HadMemoryIn failure → Computes Faults (context_of stack.now None) (list (splice (variable name.now) (element (source last.now) no_items))) (state_of self.old world.old active.old) (Err (failure_of failure)) (state_of self.new world.new active.new)) }
-        ensures ticks { self.new.ticks_left ≤ self.old.ticks_left }
-    {
-        let found = self.variable(active, stack, name)?;
-        let Value::List(list) = found else {
-            return Err(Failure::Fails(ErrorCode::TypeMismatch));
-        };
-        let last = self.evaluate(world, active, stack, None, last)?;
-        set_longer(self.alloc(), &mut active.variables, name, list, last)?;
-        Ok(())
     }
 
     // Returns the path to what a target sets; its containers are read from the root on.
@@ -293,86 +237,6 @@ impl Task {
         ensures { (c : Context) (w : WorldModel) → IsKnownFailure result → Stores Faults c (named name.now) (steps_of steps.items) (value_tree value) (state_of self.now w active.old) (seen_done result) (state_of self.now w active.new) }
     {
         set_variable(self.alloc(), &mut active.variables, name, steps, value)?;
-        Ok(())
-    }
-
-    /// Runs `{items} = value`, if the assignment's own value is not used. Not inlined, so that nested statements need no
-    /// stack space for it.
-    #[cycle(evaluation)]
-    #[inline(never)]
-    pub(crate) fn scatter_alone(
-        &mut self,
-        world: &mut World,
-        active: &mut Activation,
-        stack: &CallStack<'_>,
-        items: &[NodeItem],
-        value: &Node,
-    ) -> Result<Flow, Stop>
-        ensures meaning { IsKnown result → Does Faults (context_of stack.now None) (performs (assign (list (source_items items.now)) (source value.now))) (state_of self.old world.old active.old) (seen_flow result) (state_of self.new world.new active.new) }
-        ensures ticks { self.new.ticks_left ≤ self.old.ticks_left }
-    {
-        self.take_tick(active, stack)?;
-        let value = self.evaluate(world, active, stack, None, value)?;
-        match self.scatter(world, active, stack, None, items, &value) {
-            Ok(()) => Ok(Flow::Next),
-            Err(failure) => {
-                let _error = self.settled(active, stack, failure)?;
-                Ok(Flow::Next)
-            }
-        }
-    }
-
-    // Sets the names that get an element first, then those with a default, from the left.
-    #[cycle(evaluation)]
-    fn scatter(
-        &mut self,
-        world: &mut World,
-        active: &mut Activation,
-        stack: &CallStack<'_>,
-        indexed: Option<&Value>,
-        items: &[NodeItem],
-        value: &Value,
-    ) -> Result<(), Failure>
-        ensures meaning { IsKnownFailure result → Puts Faults (context_of stack.now indexed.entry) (scattered (source_items items.now)) (value_tree value.now) (state_of self.old world.old active.old) (seen_done result) (state_of self.new world.new active.new) }
-        ensures ticks { self.new.ticks_left ≤ self.old.ticks_left }
-    {
-        let defaults = self.deal(active, items, value)?;
-        self.set_defaults(world, active, stack, indexed, &defaults)
-    }
-
-    // Sets the names that get an element, and returns those with a default that get none. Not inlined, so that nested
-    // scatters need no stack space for it.
-    #[inline(never)]
-    fn deal<'a>(
-        &self,
-        active: &mut Activation,
-        items: &'a [NodeItem],
-        value: &Value,
-    ) -> Result<Vec<LeftOut<'a>>, Failure>
-        ensures ok { IfOk result (λ defaults. (c : Context) (w : WorldModel) (o : Result (Unit {0}) Failed) (s : State) → SetsDefaults Faults c (map left_out_of defaults.items) (state_of self.now w active.new) o s → Puts Faults c (scattered (source_items items.now)) (value_tree value.now) (state_of self.now w active.old) o s) }
-        ensures err { IfErr result (λ failure. HadMemoryIn failure → (c : Context) (w : WorldModel) → Puts Faults c (scattered (source_items items.now)) (value_tree value.now) (state_of self.now w active.old) (Err (failure_of failure)) (state_of self.now w active.new)) }
-    {
-        let list = dealt(items, value)?;
-        set_shares(self.alloc(), active, items, list)?;
-        Ok(missing(self.alloc(), items, list)?)
-    }
-
-    #[cycle(evaluation)]
-    fn set_defaults(
-        &mut self,
-        world: &mut World,
-        active: &mut Activation,
-        stack: &CallStack<'_>,
-        indexed: Option<&Value>,
-        defaults: &[LeftOut<'_>],
-    ) -> Result<(), Failure>
-        ensures meaning { IsKnownFailure result → SetsDefaults Faults (context_of stack.now indexed.entry) (map left_out_of defaults.now) (state_of self.old world.old active.old) (seen_done result) (state_of self.new world.new active.new) }
-        ensures ticks { self.new.ticks_left ≤ self.old.ticks_left }
-    {
-        for default in defaults {
-            let value = self.evaluate(world, active, stack, indexed, default.value)?;
-            active.variables.set(default.name, value)?;
-        }
         Ok(())
     }
 }

@@ -22,7 +22,9 @@ use crate::interpreter::Task;
 use crate::property::as_text;
 use moo_eval_access::{Called, enter_verb, enter_written};
 use moo_eval_call::{Progress, start_call, verb_caller};
-use moo_eval_frame::{Activation, CallStack, Failure, Flow, Gathered, Stop, Variables};
+use moo_eval_frame::{
+    Activation, CallStack, Failure, Flow, FrameMemory, Gathered, Stop, Variables,
+};
 use moo_syntax_ast::Text;
 use moo_syntax_function::Function;
 use moo_syntax_lower::{FunctionName, Node, NodeItem};
@@ -47,14 +49,16 @@ impl Task {
         ensures ticks { self.new.ticks_left ≤ self.old.ticks_left }
     {
         let base = self.evaluate(world, active, stack, indexed, base)?;
+        let mut memory = self.spare.take();
+        let room = memory.take_values(self.alloc());
         if let Some(name) = as_text(name) {
             self.take_tick(active, stack)?;
-            let values = self.evaluate_all(world, active, stack, indexed, items)?;
-            return self.call_written(world, active, stack, &base, name, values);
+            let values = self.evaluate_all(world, active, stack, indexed, items, room)?;
+            return self.call_written(world, active, stack, &base, name, values, memory);
         }
         let name = self.evaluate(world, active, stack, indexed, name)?;
-        let values = self.evaluate_all(world, active, stack, indexed, items)?;
-        self.call_verb(world, active, stack, &base, &name, values)
+        let values = self.evaluate_all(world, active, stack, indexed, items, room)?;
+        self.call_verb(world, active, stack, &base, &name, values, memory)
     }
 
     // Calls a verb whose name is a literal, its operands evaluated. Not inlined, so that calls in the arguments of calls
@@ -69,13 +73,24 @@ impl Task {
         base: &Value,
         name: &Text,
         values: Gathered,
+        memory: FrameMemory,
     ) -> Result<Value, Failure>
         ensures meaning { (indexed : Option (Bor ValueModel)) (a b : Expr) (items : Items) → IsKnownFailure result → Applies Faults (context_of stack.now indexed) (verb_call a b items) (tree_of base.now ∷ string name.now ∷ values) [] (state_of self.old world.old active.now) (seen_answer result) (state_of self.new world.new active.now) }
         ensures ticks { self.new.ticks_left ≤ self.old.ticks_left }
     {
+        let mut memory = memory;
         let args = values.into_arguments(self.alloc())?;
-        let called = enter_written(self.alloc(), world, stack, active, base, name, args)?;
-        self.run_called(world, called)
+        let called = enter_written(
+            self.alloc(),
+            world,
+            stack,
+            active,
+            base,
+            name,
+            args,
+            &mut memory,
+        )?;
+        self.run_called(world, called, memory)
     }
 
     // Calls a verb, its operands evaluated. Not inlined, so that calls in the arguments of calls need no stack space
@@ -90,20 +105,36 @@ impl Task {
         base: &Value,
         name: &Value,
         values: Gathered,
+        memory: FrameMemory,
     ) -> Result<Value, Failure>
         ensures meaning { (indexed : Option (Bor ValueModel)) (a b : Expr) (items : Items) → IsKnownFailure result → Applies Faults (context_of stack.now indexed) (verb_call a b items) (tree_of base.now ∷ tree_of name.now ∷ values) [] (state_of self.old world.old active.now) (seen_answer result) (state_of self.new world.new active.now) }
         ensures ticks { self.new.ticks_left ≤ self.old.ticks_left }
     {
+        let mut memory = memory;
         let args = values.into_arguments(self.alloc())?;
-        let called = enter_verb(self.alloc(), world, stack, active, base, name, args)?;
-        self.run_called(world, called)
+        let called = enter_verb(
+            self.alloc(),
+            world,
+            stack,
+            active,
+            base,
+            name,
+            args,
+            &mut memory,
+        )?;
+        self.run_called(world, called, memory)
     }
 
-    // Runs an entered verb to its end. It takes a tick if it has a statement. Inlined, so that the entered verb is
+    // Runs an entered verb to its end, in the memory of a frame that has ended. It takes a tick if it has a statement. Inlined, so that the entered verb is
     // not moved.
     #[cycle(evaluation)]
     #[inline(always)]
-    fn run_called(&mut self, world: &mut World, called: Called<'_>) -> Result<Value, Failure>
+    fn run_called(
+        &mut self,
+        world: &mut World,
+        called: Called<'_>,
+        memory: FrameMemory,
+    ) -> Result<Value, Failure>
         ensures meaning { (caller : Activation) → IsKnownFailure result → RunsCalled Faults (entered_of called.entry) (state_of self.old world.old caller) (seen_answer result) (state_of self.new world.new caller) }
         ensures ticks { self.new.ticks_left ≤ self.old.ticks_left }
         ensures fewer { called.entry.stack.running.program ≢ no_statement → OnOk result (self.new.ticks_left < self.old.ticks_left) }
@@ -114,11 +145,13 @@ impl Task {
         } = called;
         let program = callee.running.program.try_clone()?;
         let mut running = Activation {
-            variables: Variables::begun(self.alloc(), program, given)?,
+            variables: Variables::begun(self.alloc(), program, given, memory)?,
             programmer: callee.running.programmer,
         };
         let statements = callee.running.program.code();
-        answered(self.run_all(world, &mut running, &callee, statements))
+        let outcome = self.run_all(world, &mut running, &callee, statements);
+        self.spare.keep(running.variables.into_memory());
+        answered(outcome)
     }
 
     #[cycle(evaluation)]
@@ -135,7 +168,8 @@ impl Task {
         ensures meaning { IsKnownFailure result → Computes Faults (context_of stack.now indexed.entry) (call name.now (source_items items.now)) (state_of self.old world.old active.old) (seen_answer result) (state_of self.new world.new active.new) }
         ensures ticks { self.new.ticks_left ≤ self.old.ticks_left }
     {
-        let values = self.evaluate_all(world, active, stack, indexed, items)?;
+        let room = Vec::new(self.alloc());
+        let values = self.evaluate_all(world, active, stack, indexed, items, room)?;
         let function = name.function();
         let Some(caller) = verb_caller(function) else {
             return self.call_function(world, active, stack, function, values);
@@ -182,7 +216,8 @@ impl Task {
                 Pending::Answer(value) => return Ok(value),
                 Pending::Verb(called, stage) => (called, stage),
             };
-            let answer = self.run_called(world, Box::into_inner(called))?;
+            let memory = self.spare.take();
+            let answer = self.run_called(world, Box::into_inner(called), memory)?;
             pending = self.resume(world, active, stack, stage, answer)?;
         }
     }

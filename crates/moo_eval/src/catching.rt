@@ -43,7 +43,9 @@ impl Task {
         ensures ticks { self.new.ticks_left ≤ self.old.ticks_left }
     {
         let values = self.guards(world, active, stack, indexed, codes)?;
-        match self.attempt(world, active, stack, indexed, body, codes, &values)? {
+        let attempt = self.attempt(world, active, stack, indexed, body, codes, &values);
+        self.spare.keep_codes(values);
+        match attempt? {
             Attempt::Value(value) => Ok(value),
             Attempt::Caught(code) => match other {
                 None => Ok(Value::Err(code)),
@@ -68,7 +70,8 @@ impl Task {
         match codes {
             NodeCodes::Any => Ok(Vec::new(self.alloc())),
             NodeCodes::Listed(items) => {
-                let values = self.evaluate_all(world, active, stack, indexed, items)?;
+                let room = self.spare.take_codes();
+                let values = self.evaluate_all(world, active, stack, indexed, items, room)?;
                 Ok(values.into_values(self.alloc())?)
             }
         }

@@ -2,7 +2,7 @@
 ghost use Rattle.std.specs.Prelude.{◌≡◌, ◌≤◌, Ok, Err, IfOk, IfErr, IfSome, IfNone};
 ghost use Rattle.moo_value.specs.Tree.{Tree};
 ghost use Rattle.moo_syntax_ast.specs.declared.operator.UnaryOperator.TheVariants.{Not};
-ghost use Rattle.moo_syntax_ast.specs.Tree.{variable, unary, logic};
+ghost use Rattle.moo_syntax_ast.specs.Tree.{variable, unary, binary, logic};
 ghost use Rattle.moo_syntax_lower.specs.Source.{source};
 ghost use Rattle.moo_builtin_operator.specs.Truth.{is_true, is_decided};
 ghost use Rattle.moo_world_table.specs.World.{World as WorldModel};
@@ -13,11 +13,13 @@ ghost use Rattle.moo_eval_semantics.specs.Meaning.{Evaluates};
 ghost use Rattle.moo_eval.specs.Seen.{state_of};
 
 use crate::interpreter::Task;
+use crate::leaves::leaf_value;
 use moo_builtin_operator::is_true;
+use moo_eval_access::binary;
 use moo_eval_frame::{Activation, CallStack, Stop};
 use moo_eval_integer::counts_as_true;
 use moo_syntax_ast::Name;
-use moo_syntax_ast::operator::{LogicOperator, UnaryOperator};
+use moo_syntax_ast::operator::{BinaryOperator, LogicOperator, UnaryOperator};
 use moo_syntax_lower::Node;
 use moo_value::Value;
 use moo_world::World;
@@ -67,8 +69,39 @@ impl Task {
             Node::Unary(UnaryOperator::Not, operand) => {
                 self.not_passes(world, active, stack, indexed, operand)
             }
+            Node::Binary(operator, left, right) | Node::Arithmetic(operator, left, right) => {
+                if let Some(passes) = self.try_comparison(active, *operator, left, right) {
+                    return Ok(passes);
+                }
+                self.value_passes(world, active, stack, indexed, test)
+            }
             _ => self.value_passes(world, active, stack, indexed, test),
         }
+    }
+
+    // Returns whether the value of an operator between two variables or literals is true, and takes its ticks. `None` if
+    // another part, an error or too few ticks are in the way; then nothing has changed.
+    #[inline(never)]
+    fn try_comparison(
+        &mut self,
+        active: &Activation,
+        operator: BinaryOperator,
+        left: &Node,
+        right: &Node,
+    ) -> Option<bool>
+        ensures some { IfSome result (λ b. (w : WorldModel) (c : Context) → (v : Tree) × Evaluates Faults c (binary operator (source left.now) (source right.now)) (state_of self.old w active.now) (Ok v) (state_of self.new w active.now) × (is_true v ≡ b)) }
+        ensures none { IfNone result (self.new ≡ self.old) }
+        ensures ticks { self.new.ticks_left ≤ self.old.ticks_left }
+    {
+        let left_value = leaf_value(active, left)?;
+        let right_value = leaf_value(active, right)?;
+        let value = binary(self.alloc(), operator, &left_value, &right_value).ok()?;
+        let ticks = self.ticks_left.left() as u32;
+        if ticks < 3 {
+            return None;
+        }
+        self.ticks_left.leave(ticks - 3);
+        Some(is_true(&value))
     }
 
     // Returns whether the value of a variable, or of an operator between integers, is true, and takes its ticks. `None` if

@@ -14,6 +14,7 @@ ghost use Rattle.moo_eval_call.specs.SeenByHooks.{progress_of, seen_progress};
 ghost use Rattle.moo_eval_call.specs.Turns.{stage_turns, progress_turns};
 ghost use Rattle.moo_eval.specs.Seen.{state_of};
 
+use crate::spare::SpareMemory;
 use moo_eval_call::{Progress, Stage, Ticks, call_function, resume_call};
 use moo_eval_frame::{Activation, CallStack, Failure, Gathered, Notice, Stop, settle};
 use moo_syntax_function::Function;
@@ -27,6 +28,7 @@ use std::alloc::{AllocError, Global};
 pub struct Task {
     pub(crate) ticks_left: Ticks,
     notices: Vec<Notice>,
+    pub(crate) spare: SpareMemory,
     alloc: Global,
 }
 
@@ -39,6 +41,7 @@ impl Task {
         Task {
             ticks_left: Ticks::full(),
             notices: Vec::new(alloc),
+            spare: SpareMemory::new(alloc),
             alloc,
         }
     }
@@ -234,7 +237,7 @@ impl Task {
         )
     }
 
-    /// Evaluates items from left to right. Inlined, so that nested lists and calls need its stack space once.
+    /// Evaluates items from left to right, in this memory, whose values are dropped. Inlined, so that nested lists and calls need its stack space once.
     #[cycle(evaluation)]
     #[inline(always)]
     pub(crate) fn evaluate_all(
@@ -244,11 +247,12 @@ impl Task {
         stack: &CallStack<'_>,
         indexed: Option<&Value>,
         items: &[NodeItem],
+        memory: Vec<Value>,
     ) -> Result<Gathered, Failure>
         ensures meaning { IsKnownFailure result → EvaluatesAll Faults (context_of stack.now indexed.entry) (source_items items.now) (state_of self.old world.old active.old) (seen_by (λ values. values) result) (state_of self.new world.new active.new) }
         ensures ticks { self.new.ticks_left ≤ self.old.ticks_left }
     {
-        let mut values = Gathered::with_room(self.alloc, items.len())?;
+        let mut values = Gathered::with_memory(self.alloc, memory, items.len())?;
         for item in items {
             match item {
                 NodeItem::Element(node) => {

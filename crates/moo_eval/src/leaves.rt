@@ -1,6 +1,7 @@
 //! Evaluates variables and literals.
 ghost use Rattle.std.specs.Prelude.{◌≡◌, ◌≤◌, Option, Ok, Err, IfSome, IfNone};
 ghost use Rattle.std.specs.Borrow.{Bor};
+ghost use Rattle.moo_value.specs.Tree.{string as string_tree};
 ghost use Rattle.moo_value.specs.View.{tree};
 ghost use Rattle.moo_value.specs.declared.value.Value.{Value as ValueModel};
 ghost use Rattle.moo_value.specs.declared.error_code.ErrorCode.TheVariants.{VariableNotFound};
@@ -21,7 +22,7 @@ use crate::interpreter::Task;
 use moo_eval_frame::{Activation, CallStack, Failure, Stop, measure, settle};
 use moo_syntax_ast::{Name, Text};
 use moo_syntax_lower::Node;
-use moo_value::{ErrorCode, Value};
+use moo_value::{ErrorCode, MooStr, Value};
 
 impl Task {
     /// Returns the value of a variable, which takes a tick, whatever `$` measures.
@@ -116,16 +117,28 @@ impl Task {
     }
 }
 
-// Returns the value of a variable, of an integer or of an object's number, if it has one.
+/// Returns the value of a variable or of a literal, if it has one.
 #[inline(always)]
-fn leaf_value(active: &Activation, node: &Node) -> Option<Value>
+pub(crate) fn leaf_value(active: &Activation, node: &Node) -> Option<Value>
     ensures { IfSome result (λ v. GivesLeaf (variables_of active.now.variables) (source node.now) (tree v)) }
 {
     match node {
         Node::Variable(name) => copied(active.variables.get(name)?),
         Node::Integer(number) => Some(Value::Int(*number)),
         Node::Object(number) => Some(Value::Obj(*number)),
+        Node::Error(code) => Some(Value::Err(*code)),
+        Node::Str(text) => copied_string(text.string()),
         _ => None,
+    }
+}
+
+#[inline(always)]
+fn copied_string(string: &MooStr) -> Option<Value>
+    ensures { IfSome result (λ copy. tree copy ≡ string_tree string.now) }
+{
+    match string.try_clone() {
+        Ok(copy) => Some(Value::Str(copy)),
+        Err(_) => None,
     }
 }
 

@@ -138,7 +138,8 @@ impl Task {
         ensures meaning { IsKnownFailure result → Computes Faults (context_of stack.now indexed.entry) (list (source_items items.now)) (state_of self.old world.old active.old) (seen_answer result) (state_of self.new world.new active.new) }
         ensures ticks { self.new.ticks_left ≤ self.old.ticks_left }
     {
-        let values = self.evaluate_all(world, active, stack, indexed, items)?;
+        let room = Vec::new(self.alloc());
+        let values = self.evaluate_all(world, active, stack, indexed, items, room)?;
         listed(self.alloc(), values)
     }
 }

@@ -51,9 +51,16 @@ impl Task {
             NodeStmt::Expression(node) => self.evaluate_alone(world, active, stack, node),
             NodeStmt::Set(name, value) => self.assign_alone(world, active, stack, name, value),
             NodeStmt::Lengthen(name, last) => self.lengthen(world, active, stack, name, last),
+            NodeStmt::Prepend(name, first) => self.prepend(world, active, stack, name, first),
             NodeStmt::Extend(name, last) => self.extend(world, active, stack, name, last),
             NodeStmt::Put(name, place, value) => {
                 self.set_place(world, active, stack, name, place, value)
+            }
+            NodeStmt::ScatterNames(names, value) => {
+                self.scatter_names(world, active, stack, names, value)
+            }
+            NodeStmt::Scatter(items, value) => {
+                self.scatter_alone(world, active, stack, items, value)
             }
             NodeStmt::If(test, body, arms) => self.branch(world, active, stack, test, body, arms),
             NodeStmt::ForList(name, list, body) => self.for_list(
@@ -133,7 +140,6 @@ impl Task {
             Node::Property(base, name) => {
                 self.set_property(world, active, stack, base, name, value)
             }
-            Node::List(items) => self.scatter_alone(world, active, stack, items, value),
             _ => self.drop_assigned(world, active, stack, target, value),
         }
     }

@@ -12,8 +12,8 @@ ghost use Rattle.moo_eval_frame.specs.GivenValues.{given_values};
 
 use crate::interpreter::Task;
 use moo_eval_frame::{
-    Activation, CallStack, Callers, Flow, Frame, GivenValues, Stop, TaskEnv, Variables,
-    traceback_lines,
+    Activation, CallStack, Callers, Flow, Frame, FrameMemory, GivenValues, Stop, TaskEnv,
+    Variables, traceback_lines,
 };
 use moo_value::Value;
 use moo_world::World;
@@ -91,7 +91,7 @@ fn first_variables(
     ensures { IfOk result (λ v. variables_of v ≡ slot_value given_names (given_values given) (value_of_name [])) }
 {
     let program = stack.running.program.try_clone()?;
-    Variables::begun(alloc, program, given)
+    Variables::begun(alloc, program, given, FrameMemory::new(alloc))
 }
 
 fn end_of_task(alloc: Global, outcome: Result<Flow, Stop>) -> Ended

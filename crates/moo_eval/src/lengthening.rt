@@ -1,0 +1,119 @@
+//! Runs `x = {@x, a};` and `x = {a, @x};`.
+ghost use Rattle.std.specs.Prelude.{◌≤◌, None, Err, IfErr, OnOk};
+ghost use Rattle.moo_syntax_ast.specs.Tree.{variable, assign, performs, list, splice, element, no_items};
+ghost use Rattle.moo_syntax_lower.specs.Source.{source};
+ghost use Rattle.moo_eval_semantics.specs.Meaning.{Computes, Does};
+ghost use Rattle.moo_eval_frame.specs.Seen.{context_of, failure_of, seen_flow, HadMemoryIn, IsKnown};
+ghost use Rattle.moo_eval.specs.Growth.{IsLengthened};
+ghost use Rattle.moo_builtin.specs.Telling.{Faults};
+ghost use Rattle.moo_eval.specs.Seen.{state_of};
+
+use crate::interpreter::Task;
+use moo_eval_access::{set_longer, set_prepended};
+use moo_eval_frame::{Activation, CallStack, Failure, Flow, Stop};
+use moo_syntax_ast::Name;
+use moo_syntax_lower::Node;
+use moo_value::{ErrorCode, Value};
+use moo_world::World;
+
+impl Task {
+    /// Runs `name = {@name, last}`, if the assignment's own value is not used. Not inlined, so that nested statements
+    /// need no stack space for it.
+    #[cycle(evaluation)]
+    #[inline(never)]
+    pub(crate) fn lengthen(
+        &mut self,
+        world: &mut World,
+        active: &mut Activation,
+        stack: &CallStack<'_>,
+        name: &Name,
+        last: &Node,
+    ) -> Result<Flow, Stop>
+        ensures meaning { IsKnown result → Does Faults (context_of stack.now None) (performs (assign (variable name.now) (list (splice (variable name.now) (element (source last.now) no_items))))) (state_of self.old world.old active.old) (seen_flow result) (state_of self.new world.new active.new) }
+        ensures ticks { self.new.ticks_left ≤ self.old.ticks_left }
+    {
+        self.take_tick(active, stack)?;
+        self.take_tick(active, stack)?;
+        match self.put_longer(world, active, stack, name, last) {
+            Ok(()) => Ok(Flow::Next),
+            Err(failure) => {
+                let value = self.settled(active, stack, failure)?;
+                active.variables.set(name, value)?;
+                Ok(Flow::Next)
+            }
+        }
+    }
+
+    // Sets the variable to the list `{@name, last}`, if that is one.
+    #[cycle(evaluation)]
+    fn put_longer(
+        &mut self,
+        world: &mut World,
+        active: &mut Activation,
+        stack: &CallStack<'_>,
+        name: &Name,
+        last: &Node,
+    ) -> Result<(), Failure>
+        ensures ok { OnOk result (IsLengthened Faults (context_of stack.now None) name.now (list (splice (variable name.now) (element (source last.now) no_items))) (state_of self.old world.old active.old) (state_of self.new world.new active.new)) }
+        ensures err { IfErr result (λ failure. HadMemoryIn failure → Computes Faults (context_of stack.now None) (list (splice (variable name.now) (element (source last.now) no_items))) (state_of self.old world.old active.old) (Err (failure_of failure)) (state_of self.new world.new active.new)) }
+        ensures ticks { self.new.ticks_left ≤ self.old.ticks_left }
+    {
+        let found = self.variable(active, stack, name)?;
+        let Value::List(list) = found else {
+            return Err(Failure::Fails(ErrorCode::TypeMismatch));
+        };
+        let last = self.evaluate(world, active, stack, None, last)?;
+        set_longer(self.alloc(), &mut active.variables, name, list, last)?;
+        Ok(())
+    }
+
+    /// Runs `name = {first, @name}`, if the assignment's own value is not used. Not inlined, so that nested statements
+    /// need no stack space for it.
+    #[cycle(evaluation)]
+    #[inline(never)]
+    pub(crate) fn prepend(
+        &mut self,
+        world: &mut World,
+        active: &mut Activation,
+        stack: &CallStack<'_>,
+        name: &Name,
+        first: &Node,
+    ) -> Result<Flow, Stop>
+        ensures meaning { IsKnown result → Does Faults (context_of stack.now None) (performs (assign (variable name.now) (list (element (source first.now) (splice (variable name.now) no_items))))) (state_of self.old world.old active.old) (seen_flow result) (state_of self.new world.new active.new) }
+        ensures ticks { self.new.ticks_left ≤ self.old.ticks_left }
+    {
+        self.take_tick(active, stack)?;
+        self.take_tick(active, stack)?;
+        match self.put_prepended(world, active, stack, name, first) {
+            Ok(()) => Ok(Flow::Next),
+            Err(failure) => {
+                let value = self.settled(active, stack, failure)?;
+                active.variables.set(name, value)?;
+                Ok(Flow::Next)
+            }
+        }
+    }
+
+    // Sets the variable to the list `{first, @name}`, if that is one.
+    #[cycle(evaluation)]
+    fn put_prepended(
+        &mut self,
+        world: &mut World,
+        active: &mut Activation,
+        stack: &CallStack<'_>,
+        name: &Name,
+        first: &Node,
+    ) -> Result<(), Failure>
+        ensures ok { OnOk result (IsLengthened Faults (context_of stack.now None) name.now (list (element (source first.now) (splice (variable name.now) no_items))) (state_of self.old world.old active.old) (state_of self.new world.new active.new)) }
+        ensures err { IfErr result (λ failure. HadMemoryIn failure → Computes Faults (context_of stack.now None) (list (element (source first.now) (splice (variable name.now) no_items))) (state_of self.old world.old active.old) (Err (failure_of failure)) (state_of self.new world.new active.new)) }
+        ensures ticks { self.new.ticks_left ≤ self.old.ticks_left }
+    {
+        let first = self.evaluate(world, active, stack, None, first)?;
+        let found = self.variable(active, stack, name)?;
+        let Value::List(list) = found else {
+            return Err(Failure::Fails(ErrorCode::TypeMismatch));
+        };
+        set_prepended(self.alloc(), &mut active.variables, name, first, list)?;
+        Ok(())
+    }
+}

@@ -1,0 +1,61 @@
+//! The memory of calls that have ended, which the next ones use.
+use moo_eval_access::MOST_FRAMES;
+use moo_eval_frame::FrameMemory;
+use moo_value::Value;
+use std::alloc::Global;
+
+/// Holds the memory of frames that have ended, and that of the codes of catches. No more of each is kept than a task has
+/// frames.
+#[derive(Drop)]
+pub(crate) struct SpareMemory {
+    alloc: Global,
+    frames: Vec<FrameMemory>,
+    codes: Vec<Vec<Value>>,
+}
+
+impl SpareMemory {
+    /// Returns no memory.
+    pub(crate) fn new(alloc: Global) -> SpareMemory {
+        SpareMemory {
+            alloc,
+            frames: Vec::new(alloc),
+            codes: Vec::new(alloc),
+        }
+    }
+
+    /// Takes out the memory of the frame that ended last.
+    #[inline(always)]
+    pub(crate) fn take(&mut self) -> FrameMemory {
+        match self.frames.pop() {
+            Some(memory) => memory,
+            None => FrameMemory::new(self.alloc),
+        }
+    }
+
+    /// Keeps the memory of a frame.
+    #[inline(always)]
+    pub(crate) fn keep(&mut self, memory: FrameMemory) {
+        if self.frames.len() < MOST_FRAMES {
+            let _kept = self.frames.push(memory);
+        }
+    }
+
+    /// Takes out the memory of the codes of the catch that ended last.
+    #[inline(always)]
+    pub(crate) fn take_codes(&mut self) -> Vec<Value> {
+        match self.codes.pop() {
+            Some(memory) => memory,
+            None => Vec::new(self.alloc),
+        }
+    }
+
+    /// Keeps the memory of the codes of a catch, whose values are dropped.
+    #[inline(always)]
+    pub(crate) fn keep_codes(&mut self, codes: Vec<Value>) {
+        let mut memory = codes;
+        memory.clear();
+        if memory.capacity() > 0 && self.codes.len() < MOST_FRAMES {
+            let _kept = self.codes.push(memory);
+        }
+    }
+}

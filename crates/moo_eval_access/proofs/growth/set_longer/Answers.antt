@@ -11,9 +11,9 @@ use Rattle.moo_eval_access.proofs.growth.set_longer.Goals as goal
 pub returns-clause-ok : goal.returns-clause-ok
 returns-clause-ok c =
     let all = list_of (c.args.list ++ tree c.args.value ∷ []) in
-    let made = limited_within all (c.has_room_for.ensures.0 c.if-not-has_room_for.false) in
+    let made = limited_within all (c.has_room_for.ensures.last.0 c.if-not-has_room_for.false) in
     (all, made, set_after c.args.name.now all (let_go all _ made c.in_ok-set.ensures) (rw c.in_ok-longer.ensures at c.in_ok-set-2.ensures))
 
 pub returns-then-not-has_room_for-clause-err : goal.returns-then-not-has_room_for-clause-err
 returns-then-not-has_room_for-clause-err c =
-    λ k. is_quota _ (λ limits. false≢true (sym c.if-not-has_room_for.true ∙ c.has_room_for.ensures.1 limits))
+    λ k. is_quota _ (λ limits. false≢true (sym c.if-not-has_room_for.true ∙ c.has_room_for.ensures.last.1 limits))

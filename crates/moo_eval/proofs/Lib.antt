@@ -1,4 +1,5 @@
 pub mod Caught
+pub mod Compared
 pub mod Counting
 pub mod Ending
 pub mod Exits

@@ -13,7 +13,7 @@ ghost use Rattle.moo_eval_semantics.specs.Meaning.{Evaluates};
 ghost use Rattle.moo_eval.specs.Seen.{state_of};
 
 use crate::interpreter::Task;
-use crate::leaves::leaf_value;
+use crate::leaves::{is_leaf, leaf_value};
 use moo_builtin_operator::is_true;
 use moo_eval_access::binary;
 use moo_eval_frame::{Activation, CallStack, Stop};
@@ -69,20 +69,39 @@ impl Task {
             Node::Unary(UnaryOperator::Not, operand) => {
                 self.not_passes(world, active, stack, indexed, operand)
             }
-            Node::Binary(operator, left, right) | Node::Arithmetic(operator, left, right) => {
-                if let Some(passes) = self.try_comparison(active, *operator, left, right) {
+            _ => {
+                if let Some(passes) = self.try_comparison(active, test) {
                     return Ok(passes);
                 }
                 self.value_passes(world, active, stack, indexed, test)
             }
-            _ => self.value_passes(world, active, stack, indexed, test),
         }
     }
 
     // Returns whether the value of an operator between two variables or literals is true, and takes its ticks. `None` if
     // another part, an error or too few ticks are in the way; then nothing has changed.
+    #[inline(always)]
+    fn try_comparison(&mut self, active: &Activation, test: &Node) -> Option<bool>
+        ensures some { IfSome result (λ b. (w : WorldModel) (c : Context) → (v : Tree) × Evaluates Faults c (source test.now) (state_of self.old w active.now) (Ok v) (state_of self.new w active.now) × (is_true v ≡ b)) }
+        ensures none { IfNone result (self.new ≡ self.old) }
+        ensures ticks { self.new.ticks_left ≤ self.old.ticks_left }
+    {
+        match test {
+            Node::Binary(operator, left, right) | Node::Arithmetic(operator, left, right) => {
+                if is_leaf(left) && is_leaf(right) {
+                    self.try_operands(active, *operator, left, right)
+                } else {
+                    None
+                }
+            }
+            _ => None,
+        }
+    }
+
+    // Returns whether the value of an operator between two variables or literals is true, as `try_comparison` does. Not
+    // inlined, so that nested conditions need no stack space for it.
     #[inline(never)]
-    fn try_comparison(
+    fn try_operands(
         &mut self,
         active: &Activation,
         operator: BinaryOperator,

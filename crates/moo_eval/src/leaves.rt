@@ -117,6 +117,15 @@ impl Task {
     }
 }
 
+/// Is true for a variable and for a literal.
+#[inline(always)]
+pub(crate) fn is_leaf(node: &Node) -> bool {
+    matches!(
+        node,
+        Node::Variable(_) | Node::Integer(_) | Node::Object(_) | Node::Error(_) | Node::Str(_)
+    )
+}
+
 /// Returns the value of a variable or of a literal, if it has one.
 #[inline(always)]
 pub(crate) fn leaf_value(active: &Activation, node: &Node) -> Option<Value>

@@ -1164,7 +1164,7 @@ verb_call-returns-clause-meaning t c =
 pub run_called-returns-clause-meaning : goal.run_called-returns-clause-meaning
 run_called-returns-clause-meaning t c =
     let f : SFits w32 c.args.called.stack.running.programmer = search rules in
-    λ caller k. record { outcome = _; last = _; runs = runs_from (same_state c.in_ok-begun.ensures (to_z-of_z w32 c.args.called.stack.running.programmer f)) c.code-statements.ensures (c.run_all.ensures.meaning (c.answered.ensures.known k)); leaves = refl; gives = c.answered.ensures.answer }
+    λ caller k. record { outcome = _; last = _; runs = runs_from (same_state c.in_ok-begun.ensures (to_z-of_z w32 c.args.called.stack.running.programmer f)) c.code-statements.ensures (c.run_all-outcome.ensures.meaning (c.answered.ensures.known k)); leaves = refl; gives = c.answered.ensures.answer }
 
 pub evaluate_node-returns-in-Variable-clause-meaning : goal.evaluate_node-returns-in-Variable-clause-meaning
 evaluate_node-returns-in-Variable-clause-meaning t c =
@@ -1180,7 +1180,7 @@ run-returns-in_err-take_tick-clause-meaning t c =
 
 pub run_called-returns-clause-fewer : goal.run_called-returns-clause-fewer
 run_called-returns-clause-fewer t c =
-    λ begins. comes_on _ c.answered.result c.run_all.result c.answered.ensures.comes (on_ok_weaker c.run_all.result (λ h. h (λ e. begins (sym c.code-statements.ensures ∙ e))) c.run_all.ensures.fewer)
+    λ begins. comes_on _ c.answered.result c.run_all-outcome.result c.answered.ensures.comes (on_ok_weaker c.run_all-outcome.result (λ h. h (λ e. begins (sym c.code-statements.ensures ∙ e))) c.run_all-outcome.ensures.fewer)
 
 pub perform-returns-in-Set-clause-meaning : goal.perform-returns-in-Set-clause-meaning
 perform-returns-in-Set-clause-meaning t c =

@@ -1,9 +1,11 @@
 //! The slots of the variables of a program.
-ghost use Rattle.std.specs.Prelude.{◌≡◌, [], ◌+◌, ◌<◌, ◌≤◌, ◌++◌, Some, None, map, set, position, length, get_or, option_map, vec_len, vec_capacity, IsTrue, IfOk, IfSome};
+ghost use Rattle.std.specs.Prelude.{◌≡◌, List, [], ◌+◌, ◌<◌, ◌≤◌, ◌++◌, Some, None, map, set, position, length, get_or, option_map, vec_len, vec_capacity, IsTrue, IsFalse, IfOk, IfSome};
 ghost use Rattle.std.specs.Str.{bytes_eq};
+ghost use Rattle.moo_value.specs.Tree.{Tree, integer, list_of};
+ghost use Rattle.moo_value.specs.Size.{IsWithinLimits};
 ghost use Rattle.moo_value.specs.View.{tree};
 ghost use Rattle.moo_value.specs.Compare.{folded};
-ghost use Rattle.moo_value.specs.declared.value.Value.TheVariants.{Int};
+ghost use Rattle.moo_value.specs.declared.value.Value.TheVariants.{Int, List as ListOf};
 ghost use Rattle.moo_syntax_ast.specs.Given.{given_of};
 ghost use Rattle.moo_syntax_ast.specs.Slots.{slots};
 ghost use Rattle.moo_eval_frame.specs.Variables.{value_of_name};
@@ -110,6 +112,16 @@ impl Slots {
     {
         put_integer(&mut self.values, slot, number);
     }
+
+    /// Replaces an integer in the list in a slot by another if nothing else shares the list, and returns whether it did.
+    #[inline(always)]
+    pub(crate) fn put_element(&mut self, slot: usize, index: usize, number: i32) -> bool
+        requires { IsSlot self.old slot }
+        ensures put { IsTrue result → (ts : List Tree) × (get_or self.old.values slot None ≡ Some (ListOf ts)) × (index < length ts) × IsWithinLimits (list_of (set ts index (integer number))) × (self.new ≡ with_held self.old slot (ListOf (set ts index (integer number)))) }
+        ensures kept { IsFalse result → self.new ≡ self.old }
+    {
+        put_element(&mut self.values, slot, index, number)
+    }
 }
 
 // Sets a slot to an integer.
@@ -119,6 +131,28 @@ fn put_integer(values: &mut Vec<Option<Value>>, slot: usize, number: i32)
     ensures { values.new.items ≡ set values.old.items slot (Some (Int number)) }
 {
     set_integer(&mut values[slot], number);
+}
+
+// Replaces an integer in the list in a slot by another if nothing else shares the list, and returns whether it did.
+#[inline(always)]
+fn put_element(values: &mut Vec<Option<Value>>, slot: usize, index: usize, number: i32) -> bool
+    requires { slot < length values.old.items }
+    ensures put { IsTrue result → (ts : List Tree) × (get_or values.old.items slot None ≡ Some (ListOf ts)) × (index < length ts) × IsWithinLimits (list_of (set ts index (integer number))) × (values.new.items ≡ set values.old.items slot (Some (ListOf (set ts index (integer number))))) }
+    ensures kept { IsFalse result → values.new.items ≡ values.old.items }
+{
+    put_in_place(&mut values[slot], index, number)
+}
+
+// Replaces an integer in the list at a place by another, likewise.
+#[inline(always)]
+fn put_in_place(place: &mut Option<Value>, index: usize, number: i32) -> bool
+    ensures put { IsTrue result → (ts : List Tree) × (place.old ≡ Some (ListOf ts)) × (index < length ts) × IsWithinLimits (list_of (set ts index (integer number))) × (place.new ≡ Some (ListOf (set ts index (integer number)))) }
+    ensures kept { IsFalse result → place.new ≡ place.old }
+{
+    match place {
+        Some(Value::List(list)) => list.put_integer(index, number),
+        _ => false,
+    }
 }
 
 // Sets a place to an integer.

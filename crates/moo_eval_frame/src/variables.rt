@@ -1,6 +1,7 @@
 //! The variables of a frame.
-ghost use Rattle.std.specs.Prelude.{◌≡◌, [], Some, option_map, IfOk, OnOk};
-ghost use Rattle.moo_value.specs.Tree.{integer};
+ghost use Rattle.std.specs.Prelude.{◌≡◌, ◌<◌, List, [], Some, length, set, option_map, IsTrue, IsFalse, IfOk, OnOk};
+ghost use Rattle.moo_value.specs.Tree.{Tree, integer, list_of};
+ghost use Rattle.moo_value.specs.Size.{IsWithinLimits};
 ghost use Rattle.moo_value.specs.View.{tree};
 ghost use Rattle.moo_value.specs.Compare.{folded};
 ghost use Rattle.moo_syntax_ast.specs.Given.{given_name, given_names};
@@ -102,6 +103,19 @@ impl Variables {
                 Ok(())
             }
             None => self.set_unknown_integer(name, number),
+        }
+    }
+
+    /// Replaces an integer in the list in a variable by another if nothing else shares the list, and returns whether it
+    /// did. It doesn't if the variable's slot isn't known.
+    #[inline(always)]
+    pub fn put_element(&mut self, name: &Name, index: usize, number: i32) -> bool
+        ensures put { IsTrue result → (ts : List Tree) × (variables_of self.old (folded name.now) ≡ Some (list_of ts)) × (index < length ts) × IsWithinLimits (list_of (set ts index (integer number))) × (variables_of self.new ≡ with_variable (variables_of self.old) (bind name.now (list_of (set ts index (integer number))))) }
+        ensures kept { IsFalse result → variables_of self.new ≡ variables_of self.old }
+    {
+        match self.own.known_slot(name) {
+            Some(slot) => self.own.put_element(slot, index, number),
+            None => false,
         }
     }
 

@@ -143,7 +143,7 @@ fn put_element(values: &mut Vec<Option<Value>>, slot: usize, index: usize, numbe
     put_in_place(&mut values[slot], index, number)
 }
 
-// Replaces an integer in the list at a place by another, likewise.
+// Replaces an integer in the list at a place by another if nothing else shares the list, and returns whether it did.
 #[inline(always)]
 fn put_in_place(place: &mut Option<Value>, index: usize, number: i32) -> bool
     ensures put { IsTrue result → (ts : List Tree) × (place.old ≡ Some (ListOf ts)) × (index < length ts) × IsWithinLimits (list_of (set ts index (integer number))) × (place.new ≡ Some (ListOf (set ts index (integer number)))) }

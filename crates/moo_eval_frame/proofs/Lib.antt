@@ -10,4 +10,5 @@ pub mod Scattered
 pub mod Stored
 pub mod Told
 pub mod Measured
+pub mod Named
 pub mod Rows

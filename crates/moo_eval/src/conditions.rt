@@ -114,7 +114,9 @@ impl Task {
     {
         let left_value = leaf_value(active, left)?;
         let right_value = leaf_value(active, right)?;
-        let value = binary(self.alloc(), operator, &left_value, &right_value).ok()?;
+        let Ok(value) = binary(self.alloc(), operator, &left_value, &right_value) else {
+            return None;
+        };
         let ticks = self.ticks_left.left() as u32;
         if ticks < 3 {
             return None;

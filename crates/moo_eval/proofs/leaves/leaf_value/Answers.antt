@@ -20,3 +20,10 @@ pub returns-in-Object : goal.returns-in-Object
 returns-in-Object c =
     let fits : SFits w32 c.in-Object.number = search rules in
     λ k s e z. rw (c.in-Object.is, to_z-of_z w32 c.in-Object.number fits) (literal_read z)
+
+pub returns-in-Error : goal.returns-in-Error
+returns-in-Error c = λ k s e z. rw c.in-Error.is (literal_read z)
+
+pub returns-in-Str : goal.returns-in-Str
+returns-in-Str c =
+    map_some c.copied_string.result (λ v h. λ k s e z. rw (c.in-Str.is, h, c.string.ensures) (literal_read z)) c.copied_string.ensures

@@ -16,4 +16,4 @@ returns-clause-ok c =
 
 pub returns-then-not-has_room_for-clause-err : goal.returns-then-not-has_room_for-clause-err
 returns-then-not-has_room_for-clause-err c =
-    λ k. is_quota _ (λ limits. false≢true (sym c.if-not-has_room_for.true ∙ c.has_room_for.ensures.first.1 limits))
+    λ k. is_quota (tree c.args.value ∷ c.args.list) (λ limits. false≢true (sym c.if-not-has_room_for.true ∙ c.has_room_for.ensures.first.1 limits))

@@ -1,7 +1,9 @@
 //! Runs assignments to an element of a list, or a byte of a string, in a variable.
-ghost use Rattle.std.specs.Prelude.{◌≤◌, None, Err, IfErr, OnOk};
+ghost use Rattle.std.specs.Prelude.{◌≡◌, ◌≤◌, None, Err, IsTrue, IsFalse, IfErr, OnOk};
 ghost use Rattle.moo_syntax_ast.specs.Tree.{performs};
 ghost use Rattle.moo_syntax_lower.specs.Source.{source};
+ghost use Rattle.moo_world_table.specs.World.{World as WorldModel};
+ghost use Rattle.moo_eval_frame.specs.State.{Context};
 ghost use Rattle.moo_eval_frame.specs.Seen.{context_of, failure_of, seen_flow, HadMemoryIn, IsKnown};
 ghost use Rattle.moo_builtin.specs.Telling.{Faults};
 ghost use Rattle.moo_eval.specs.Element.{sets_place, IsPut};
@@ -11,12 +13,14 @@ ghost use Rattle.moo_eval.specs.Seen.{state_of};
 use crate::interpreter::Task;
 use moo_eval_access::set_at;
 use moo_eval_frame::{Activation, CallStack, Failure, Flow, Stop, read_variable};
+use moo_eval_integer::put_integer;
 use moo_syntax_ast::Name;
 use moo_syntax_lower::Node;
 use moo_world::World;
 
 impl Task {
-    /// Runs `name[place] = value`, if the assignment's own value is not used. Not inlined, so that nested statements
+    /// Runs `name[place] = value`, if the assignment's own value is not used. An integer is put into a list in place if
+    /// nothing but the variable holds the list and place and value are computed from integers alone. Not inlined, so that nested statements
     /// need no stack space for it.
     #[cycle(evaluation)]
     #[inline(never)]
@@ -33,6 +37,9 @@ impl Task {
         ensures ticks { self.new.ticks_left ≤ self.old.ticks_left }
     {
         self.take_tick(active, stack)?;
+        if self.try_put(active, name, place, value) {
+            return Ok(Flow::Next);
+        }
         match self.put_at(world, active, stack, name, place, value) {
             Ok(()) => Ok(Flow::Next),
             Err(failure) => {
@@ -40,6 +47,28 @@ impl Task {
                 Ok(Flow::Next)
             }
         }
+    }
+
+    // Sets the place of the list in the variable in place from integers alone, takes the ticks of place and value, and
+    // returns true. False if that can't be; then nothing has changed.
+    #[inline(always)]
+    fn try_put(
+        &mut self,
+        active: &mut Activation,
+        name: &Name,
+        place: &Node,
+        value: &Node,
+    ) -> bool
+        ensures put { IsTrue result → (w : WorldModel) (c : Context) → IsPut Faults c name.now (source place.now) (source value.now) (state_of self.old w active.old) (state_of self.new w active.new) }
+        ensures kept { IsFalse result → (w : WorldModel) → state_of self.new w active.new ≡ state_of self.old w active.old }
+        ensures ticks { self.new.ticks_left ≤ self.old.ticks_left }
+    {
+        let mut left = self.ticks_left.left() as u32;
+        if !put_integer(active, &mut left, name, place, value) {
+            return false;
+        }
+        self.ticks_left.leave(left);
+        true
     }
 
     // Reads the variable, then evaluates the place, in which `$` measures the variable's value, and the value, then

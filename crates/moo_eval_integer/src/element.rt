@@ -1,10 +1,11 @@
 //! Elements of lists, and letters of strings, in variables.
-ghost use Rattle.std.specs.Prelude.{◌≤◌, IfSome};
+ghost use Rattle.std.specs.Prelude.{◌≡◌, ◌≤◌, suc, pos, IsTrue, IsFalse, IfSome};
 ghost use Rattle.moo_value.specs.View.{tree};
 ghost use Rattle.moo_syntax_ast.specs.Tree.{variable, index};
 ghost use Rattle.moo_syntax_lower.specs.Source.{source};
 ghost use Rattle.moo_eval_frame.specs.Seen.{variables_of};
 ghost use Rattle.moo_eval_integer.specs.Integers.{GivesValue};
+ghost use Rattle.moo_eval_integer.specs.Puts.{PutsInteger};
 
 use crate::integer::integer_of;
 use crate::ticks::take;
@@ -36,4 +37,42 @@ pub fn element_of(
         Ok(value) => Some(value),
         Err(_) => None,
     }
+}
+
+/// Sets `name[place]` to a value and returns true, and takes the ticks of place and value from `left`. The variable has
+/// to hold a list that nothing else shares, with an integer at the place; place and value have to be computed from
+/// integers and variables alone. Else the variables stay, but `left` may have fallen.
+pub fn put_integer(
+    active: &mut Activation,
+    left: &mut u32,
+    name: &Name,
+    place: &Node,
+    value: &Node,
+) -> bool
+    ensures put { IsTrue result → PutsInteger (variables_of active.old.variables) left.old name.now (source place.now) (source value.now) left.new (variables_of active.new.variables) }
+    ensures kept { IsFalse result → variables_of active.new.variables ≡ variables_of active.old.variables }
+    ensures programmer { active.new.programmer ≡ active.old.programmer }
+    ensures ticks { left.new ≤ left.old }
+{
+    let Some(place) = integer_of(active, left, place) else {
+        return false;
+    };
+    let Some(number) = integer_of(active, left, value) else {
+        return false;
+    };
+    let Some(index) = elements_before(place) else {
+        return false;
+    };
+    active.variables.put_element(name, index, number)
+}
+
+// Returns how many elements come before a place. `None` if the place is below 1.
+#[inline(always)]
+fn elements_before(place: i32) -> Option<usize>
+    ensures { IfSome result (λ k. place ≡ pos (suc k)) }
+{
+    if place < 1 {
+        return None;
+    }
+    Some(place as usize - 1)
 }

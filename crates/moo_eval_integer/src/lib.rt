@@ -5,5 +5,5 @@ mod element;
 mod integer;
 mod ticks;
 
-pub use element::element_of;
+pub use element::{element_of, put_integer};
 pub use integer::{arithmetic_integer, counts_as_true, sum_integer};

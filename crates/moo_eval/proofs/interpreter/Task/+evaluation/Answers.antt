@@ -25,7 +25,7 @@ use Rattle.moo_syntax_ast.specs.declared.operator.BinaryOperator.TheVariants.{Ad
 use Rattle.moo_syntax_ast.specs.Tree.{variable, binary, splice, element, no_items}
 use Rattle.moo_eval.proofs.Lengthened.{lengthened, too_long, first_stops, first_fails, unspliced, second_stops, set_longer, set_error, not_set}
 use Rattle.moo_eval.specs.Element.{sets_place}
-use Rattle.moo_eval.proofs.Placed.{put, not_put, unheld, place_ends, value_ends, put_alone, passed_over, stopped}
+use Rattle.moo_eval.proofs.Placed.{put, put_from, computes_from, not_put, unheld, place_ends, value_ends, put_alone, passed_over, stopped}
 use Rattle.moo_eval.proofs.Direct.{assigned, unassigned, performed, unperformed, literal_read}
 use Rattle.moo_eval.proofs.Extended.{extended, unextended}
 use Rattle.moo_eval.proofs.Properties as property
@@ -990,17 +990,24 @@ put_longer-returns-in_err-set_longer-clause-err t c =
     let p = err_from_is_err_and c.from_residual-in_err-set_longer.result c.from_residual-in_err-set_longer.ensures.1 in
     rw (p.1, p.2) (λ k. subst (λ s. Computes Faults (context_of c.args.stack.now None) (program.list (splice (variable c.args.name.now) (element (source c.args.last.now) no_items))) (state_of c.args.self.now c.args.world.now c.args.active.now) (Err (failure_of c.in_err-set_longer.field-0.0)) s) (same_state (sym (c.in_err-set_longer.ensures.kept k)) refl) (too_long c.in-List.list (rw c.in-List.is at (c.in_ok-found.ensures.meaning None c.args.world.now tt)) (c.in_ok-last.ensures.meaning tt) (c.in_err-set_longer.ensures.err k)))
 
+pub set_place-returns-then-try_put-clause-meaning : goal.set_place-returns-then-try_put-clause-meaning
+set_place-returns-then-try_put-clause-meaning t c =
+    λ k. put_alone c.in_ok-take_tick.ensures.taken (rw c.in_ok-take_tick.ensures.left at (c.try_put.ensures.put c.if-try_put.true c.args.world.now (context_of c.args.stack.now None)))
+
 pub set_place-returns-in-Ok-clause-meaning : goal.set_place-returns-in-Ok-clause-meaning
 set_place-returns-in-Ok-clause-meaning t c =
-    λ k. put_alone c.in_ok-take_tick.ensures.taken (rw c.in_ok-take_tick.ensures.left at c.in-Ok.ensures.ok)
+    let same = c.try_put.ensures.kept c.if-try_put.false c.args.world.now in
+    λ k. put_alone c.in_ok-take_tick.ensures.taken (rw c.in_ok-take_tick.ensures.left at (put_from same c.in-Ok.ensures.ok))
 
 pub set_place-returns-in_ok-_error-in-Err-clause-meaning : goal.set_place-returns-in_ok-_error-in-Err-clause-meaning
 set_place-returns-in_ok-_error-in-Err-clause-meaning t c =
-    λ k. passed_over c.in_ok-take_tick.ensures.taken (rw c.in_ok-take_tick.ensures.left at (c.in-Err.ensures.err (c.in_ok-_error-in-Err.ensures.known tt))) (c.in_ok-_error-in-Err.ensures.outcome tt)
+    let same = c.try_put.ensures.kept c.if-try_put.false c.args.world.now in
+    λ k. passed_over c.in_ok-take_tick.ensures.taken (rw c.in_ok-take_tick.ensures.left at (computes_from same (c.in-Err.ensures.err (c.in_ok-_error-in-Err.ensures.known tt)))) (c.in_ok-_error-in-Err.ensures.outcome tt)
 
 pub set_place-returns-in_err-_error-in-Err-clause-meaning : goal.set_place-returns-in_err-_error-in-Err-clause-meaning
 set_place-returns-in_err-_error-in-Err-clause-meaning t c =
-    let p = err_from_is_err_and c.from_residual-in_err-_error-in-Err.result c.from_residual-in_err-_error-in-Err.ensures.1 in rw (p.1, p.2) (λ k. stopped c.in_ok-take_tick.ensures.taken (rw c.in_ok-take_tick.ensures.left at (c.in-Err.ensures.err (c.in_err-_error-in-Err.ensures.known k))) (c.in_err-_error-in-Err.ensures.outcome k))
+    let same = c.try_put.ensures.kept c.if-try_put.false c.args.world.now in
+    let p = err_from_is_err_and c.from_residual-in_err-_error-in-Err.result c.from_residual-in_err-_error-in-Err.ensures.1 in rw (p.1, p.2) (λ k. stopped c.in_ok-take_tick.ensures.taken (rw c.in_ok-take_tick.ensures.left at (computes_from same (c.in-Err.ensures.err (c.in_err-_error-in-Err.ensures.known k)))) (c.in_err-_error-in-Err.ensures.outcome k))
 
 pub set_place-returns-in_err-take_tick-clause-meaning : goal.set_place-returns-in_err-take_tick-clause-meaning
 set_place-returns-in_err-take_tick-clause-meaning t c =

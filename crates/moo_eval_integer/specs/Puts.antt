@@ -1,0 +1,23 @@
+-- Assignments of integers to places of lists in variables.
+use Rattle.std.specs.Prelude.{◌≡◌, ℕ, ℤ, List, Option, Some, Ok}
+use Rattle.moo_value.specs.Tree.{Tree, integer}
+use Rattle.moo_value.specs.Compare.{folded}
+use Rattle.moo_syntax_ast.specs.Tree.{Expr}
+use Rattle.moo_builtin_operator.specs.Assignment.{with_index_of}
+use Rattle.moo_eval_frame.specs.Variables.{bind, with_variable}
+use Rattle.moo_eval_integer.specs.Integers.{GivesInteger}
+
+-- `name[place] = e` with integers: with these variables the place and then the value give integers, and the container in
+-- the variable takes the one at the other. So many ticks are left before and after them.
+pub record PutsInteger (variables : List ℕ → Option Tree) (n : ℕ) (name : List ℕ) (place e : Expr) (m : ℕ) (after : List ℕ → Option Tree) : Type 0 where
+  pub index : ℤ
+  pub number : ℤ
+  -- the ticks that are left between them
+  pub between : ℕ
+  pub container : Tree
+  pub new : Tree
+  pub placed : GivesInteger variables n place index between
+  pub valued : GivesInteger variables between e number m
+  pub held : variables (folded name) ≡ Some container
+  pub made : with_index_of container (integer index) (integer number) ≡ Ok new
+  pub sets : after ≡ with_variable variables (bind name new)

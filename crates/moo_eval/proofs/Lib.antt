@@ -11,5 +11,6 @@ mod Direct
 mod Extended
 mod Lengthened
 mod Placed
+mod Prepended
 mod Properties
 mod Ticks

@@ -1,16 +1,20 @@
 -- Assignments to properties, and scatters.
-use Rattle.std.proofs.Common.{◌≡◌, Result, Ok, Err, OnOk, IfErr, refl}
+use Rattle.std.proofs.Common.{◌≡◌, ℕ, List, [], ◌∷◌, Result, Ok, Err, OnOk, IfErr, refl, sym, ap, ◌∙◌}
+use Rattle.moo_value.specs.declared.error_code.ErrorCode.{ErrorCode}
 use Rattle.moo_value.specs.Tree.{Tree}
 use Rattle.moo_syntax_ast.specs.Tree.{Expr, Items, list, property, assign}
-use Rattle.moo_eval_frame.specs.Outcome.{Stop, Failure, stops}
+use Rattle.moo_syntax_lower.specs.Blocks.{named_items}
+use Rattle.moo_eval_frame.specs.Outcome.{Stop, Failure, stops, fails, answers}
+use Rattle.moo_eval_frame.specs.Scatter.{lacking, given}
+use Rattle.moo_eval_frame.specs.Scatter as scatter
 use Rattle.moo_eval_frame.specs.State.{Context}
-use Rattle.moo_eval_access.specs.State.{State}
+use Rattle.moo_eval_access.specs.State.{State, bound}
 use Rattle.moo_eval_access.specs.Target.{owned, scattered}
 use Rattle.moo_eval_frame.specs.declared.outcome.Failure as code_failure
 use Rattle.moo_eval_frame.specs.Seen.{seen_done, failure_of, HadMemoryIn}
 use Rattle.moo_eval_semantics.specs.Operands.{with_value}
 use Rattle.moo_builtin.specs.Telling.{Telling}
-use Rattle.moo_eval_semantics.specs.Meaning.{Evaluates, Computes, Puts, applies, no_more, element_stops, element_then, assign_is, target_ends, value_stops, assigns, root_ends, locates, parts_end, finds, inside, stores}
+use Rattle.moo_eval_semantics.specs.Meaning.{Evaluates, Computes, Puts, applies, no_more, element_stops, element_then, assign_is, target_ends, value_stops, assigns, root_ends, locates, parts_end, finds, inside, stores, scatter_fails, scatters, none_missing}
 
 -- the object, the name and the value are evaluated, then the property is set or not
 pub put : {T : Telling} {c : Context} {b n e : Expr} {s s1 s2 s3 t : State} {x y v : Tree} {o : Result (Unit {0}) Failure} {r : Result Tree Failure} → Evaluates T c b s (Ok x) s1 → Evaluates T c n s1 (Ok y) s2 → Evaluates T c e s2 (Ok v) s3 → Puts T c (owned x y) v s3 o t → with_value v o ≡ r → Computes T c (assign (property b n) e) s r t
@@ -44,3 +48,16 @@ dealt d p q = applies no_more no_more (assign_is (assigns (locates (finds no_mor
 -- the value stops
 pub undealt : {T : Telling} {c : Context} {items : Items} {e : Expr} {s s1 : State} {stop : Stop} → Evaluates T c e s (Err stop) s1 → Computes T c (assign (list items) e) s (Err (stops stop)) s1
 undealt d = applies no_more no_more (assign_is (value_stops (locates (finds no_more refl) inside) d))
+
+-- Names alone have no defaults.
+none_lacking : (names : List (List ℕ)) (spare : ℕ) → lacking (named_items names) spare ≡ []
+none_lacking [] spare = refl
+none_lacking (x ∷ names) spare = none_lacking names spare
+
+-- the elements of a list are dealt to names alone
+pub names_set : {T : Telling} {c : Context} {s t : State} {v : Tree} {vs : List Tree} (names : List (List ℕ)) → scatter.dealt (named_items names) v ≡ Ok vs → bound (given (named_items names) vs) s ≡ t → Puts T c (scattered (named_items names)) v s (Ok tt) t
+names_set names d sets = scatters (ap answers d) sets (rw (none_lacking names) none_missing)
+
+-- what can't be dealt sets no name
+pub names_kept : {T : Telling} {c : Context} {s t : State} {items : Items} {v : Tree} {code : ErrorCode} {failure : Failure} → scatter.dealt items v ≡ Err code → failure ≡ fails code → t ≡ s → Puts T c (scattered items) v s (Err failure) t
+names_kept d f e = rw e (scatter_fails (ap answers d ∙ sym f))

@@ -10,6 +10,7 @@ use Rattle.moo_value.specs.View.{tree, trees}
 use Rattle.moo_syntax_lower.specs.Source.{source, source_items, source_codes}
 use Rattle.moo_syntax_lower.specs.Blocks.{source_block, source_handler_list}
 use Rattle.moo_eval.specs.declared.interpreter.Task.{Task}
+use Rattle.moo_eval_frame.specs.declared.frame.Activation.{Activation}
 use Rattle.moo_eval_frame.specs.Seen.{context_of, stop_of, failure_of, seen_value, flow_of}
 use Rattle.moo_builtin.specs.Telling.{Faults}
 use Rattle.moo_eval_call.specs.VerbCalls.{verb_caller}
@@ -24,6 +25,7 @@ use Rattle.moo_syntax_ast.specs.Tree as program
 use Rattle.moo_syntax_ast.specs.declared.operator.BinaryOperator.TheVariants.{Add}
 use Rattle.moo_syntax_ast.specs.Tree.{variable, binary, splice, element, no_items}
 use Rattle.moo_eval.proofs.Lengthened.{lengthened, too_long, first_stops, first_fails, unspliced, second_stops, set_longer, set_error, not_set}
+use Rattle.moo_eval.proofs.Prepended as front
 use Rattle.moo_eval.specs.Element.{sets_place}
 use Rattle.moo_eval.proofs.Placed.{put, put_from, computes_from, not_put, unheld, place_ends, value_ends, put_alone, passed_over, stopped}
 use Rattle.moo_eval.proofs.Direct.{assigned, unassigned, performed, unperformed, literal_read}
@@ -1310,6 +1312,79 @@ pub scatter_alone-returns-clause-meaning : goal.scatter_alone-returns-clause-mea
 scatter_alone-returns-clause-meaning t c =
     λ k. passed_over c.in_ok-take_tick.ensures.taken (property.dealt (rw c.in_ok-take_tick.ensures.left at (c.in_ok-value.ensures.meaning tt)) (rw c.in-Err.is at (c.scatter.ensures.meaning (rw c.in-Err.is (c.in_ok-_error-in-Err.ensures.known tt)))) refl) (c.in_ok-_error-in-Err.ensures.outcome tt)
 
-pub assign_target-returns-in-List-clause-meaning : goal.assign_target-returns-in-List-clause-meaning
-assign_target-returns-in-List-clause-meaning t c =
-    λ k. rw (c.in-List.is, row_items, ← c.deref-in-List.ensures.value) (c.scatter_alone.ensures.meaning k)
+pub prepend-returns-in-Ok-clause-meaning : goal.prepend-returns-in-Ok-clause-meaning
+prepend-returns-in-Ok-clause-meaning t c =
+    λ k. set_longer c.in_ok-take_tick.ensures.taken (rw c.in_ok-take_tick.ensures.left at c.in_ok-take_tick-2.ensures.taken) (rw (c.in_ok-take_tick-2.ensures.left, c.in_ok-take_tick.ensures.left) at c.in-Ok.ensures.ok)
+
+pub prepend-returns-in_ok-set-in-Err-clause-meaning : goal.prepend-returns-in_ok-set-in-Err-clause-meaning
+prepend-returns-in_ok-set-in-Err-clause-meaning t c =
+    λ k. set_error c.in_ok-take_tick.ensures.taken (rw c.in_ok-take_tick.ensures.left at c.in_ok-take_tick-2.ensures.taken) (rw (c.in_ok-take_tick-2.ensures.left, c.in_ok-take_tick.ensures.left) at (c.in-Err.ensures.err (c.in_ok-value-in-Err.ensures.known tt))) (c.in_ok-value-in-Err.ensures.outcome tt) (same_state (sym c.in_ok-set-in-Err.ensures) refl)
+
+pub prepend-returns-in_err-value-in-Err-clause-meaning : goal.prepend-returns-in_err-value-in-Err-clause-meaning
+prepend-returns-in_err-value-in-Err-clause-meaning t c =
+    let p = err_from_is_err_and c.from_residual-in_err-value-in-Err.result c.from_residual-in_err-value-in-Err.ensures.1 in rw (p.1, p.2) (λ k. not_set c.in_ok-take_tick.ensures.taken (rw c.in_ok-take_tick.ensures.left at c.in_ok-take_tick-2.ensures.taken) (rw (c.in_ok-take_tick-2.ensures.left, c.in_ok-take_tick.ensures.left) at (c.in-Err.ensures.err (c.in_err-value-in-Err.ensures.known k))) (c.in_err-value-in-Err.ensures.outcome k))
+
+pub prepend-returns-in_err-take_tick-clause-meaning : goal.prepend-returns-in_err-take_tick-clause-meaning
+prepend-returns-in_err-take_tick-clause-meaning t c =
+    let p = err_from_is_err_and c.from_residual.result c.from_residual.ensures.1 in rw (p.1, p.2) (λ k. let h = c.in_err-take_tick.ensures.spent k in rw (c.in_err-take_tick.ensures.kept, h.1) (evaluates (spent h.0) refl))
+
+pub prepend-returns-in_err-take_tick-2-clause-meaning : goal.prepend-returns-in_err-take_tick-2-clause-meaning
+prepend-returns-in_err-take_tick-2-clause-meaning t c =
+    let p = err_from_is_err_and c.from_residual-in_err-take_tick-2.result c.from_residual-in_err-take_tick-2.ensures.1 in rw (p.1, p.2) (λ k. let h = c.in_err-take_tick-2.ensures.spent k in rw (c.in_err-take_tick-2.ensures.kept, c.in_ok-take_tick.ensures.left, h.1) (unperformed c.in_ok-take_tick.ensures.taken (unassigned (spent (rw c.in_ok-take_tick.ensures.left at h.0)))))
+
+pub put_prepended-returns-clause-ok : goal.put_prepended-returns-clause-ok
+put_prepended-returns-clause-ok t c =
+    let h = c.in_ok-set_prepended.ensures.ok in
+    front.prepended c.in-List.list (c.in_ok-first.ensures.meaning tt) (rw c.in-List.is at (c.in_ok-found.ensures.meaning None c.evaluate.new.world tt)) h.1 (same_state (sym h.2) refl)
+
+pub put_prepended-returns-in_err-first-clause-err : goal.put_prepended-returns-in_err-first-clause-err
+put_prepended-returns-in_err-first-clause-err t c =
+    let p = err_from_is_err_and c.from_residual.result c.from_residual.ensures.1 in rw (p.1, p.2) (λ k. front.first_stops (c.in_err-first.ensures.meaning k))
+
+pub put_prepended-returns-in_err-found-clause-err : goal.put_prepended-returns-in_err-found-clause-err
+put_prepended-returns-in_err-found-clause-err t c =
+    let p = err_from_is_err_and c.from_residual-in_err-found.result c.from_residual-in_err-found.ensures.1 in rw (p.1, p.2) (λ k. front.second_stops (c.in_ok-first.ensures.meaning tt) (c.in_err-found.ensures.meaning None c.evaluate.new.world k))
+
+pub put_prepended-returns-in_default-clause-err : goal.put_prepended-returns-in_default-clause-err
+put_prepended-returns-in_default-clause-err t c =
+    λ k. front.second_fails (c.in_ok-first.ensures.meaning tt) (c.in_ok-found.ensures.meaning None c.evaluate.new.world tt) (unspliced _ c.in_default.not-List)
+
+pub put_prepended-returns-in_err-set_prepended-clause-err : goal.put_prepended-returns-in_err-set_prepended-clause-err
+put_prepended-returns-in_err-set_prepended-clause-err t c =
+    let p = err_from_is_err_and c.from_residual-in_err-set_prepended.result c.from_residual-in_err-set_prepended.ensures.1 in
+    rw (p.1, p.2) (λ k. subst (λ s. Computes Faults (context_of c.args.stack.now None) (program.list (element (source c.args.first.now) (splice (variable c.args.name.now) no_items))) (state_of c.args.self.now c.args.world.now c.args.active.now) (Err (failure_of c.in_err-set_prepended.field-0.0)) s) (same_state (sym (c.in_err-set_prepended.ensures.kept k)) refl) (front.too_long c.in-List.list (c.in_ok-first.ensures.meaning tt) (rw c.in-List.is at (c.in_ok-found.ensures.meaning None c.evaluate.new.world tt)) (c.in_err-set_prepended.ensures.err k)))
+
+pub scatter_names-returns-in_err-take_tick-clause-meaning : goal.scatter_names-returns-in_err-take_tick-clause-meaning
+scatter_names-returns-in_err-take_tick-clause-meaning t c =
+    let p = err_from_is_err_and c.from_residual.result c.from_residual.ensures.1 in rw (p.1, p.2) (λ k. let h = c.in_err-take_tick.ensures.spent k in rw (c.in_err-take_tick.ensures.kept, h.1) (evaluates (spent h.0) refl))
+
+pub scatter_names-returns-in_err-value-clause-meaning : goal.scatter_names-returns-in_err-value-clause-meaning
+scatter_names-returns-in_err-value-clause-meaning t c =
+    let p = err_from_is_err_and c.from_residual-in_err-value.result c.from_residual-in_err-value.ensures.1 in rw (p.1, p.2) (λ k. unperformed c.in_ok-take_tick.ensures.taken (property.undealt (rw c.in_ok-take_tick.ensures.left at (c.in_err-value.ensures.meaning k))))
+
+pub scatter_names-returns-in-Ok-clause-meaning : goal.scatter_names-returns-in-Ok-clause-meaning
+scatter_names-returns-in-Ok-clause-meaning t c =
+    let h = c.in-Ok.ensures.ok in
+    λ k. performed c.in_ok-take_tick.ensures.taken (property.dealt (rw c.in_ok-take_tick.ensures.left at (c.in_ok-value.ensures.meaning tt)) (property.names_set c.args.names.now h.1 (same_state (sym h.2) (sym c.in-Ok.ensures.programmer))) refl)
+
+pub scatter_names-returns-in_err-_error-in-Err-clause-meaning : goal.scatter_names-returns-in_err-_error-in-Err-clause-meaning
+scatter_names-returns-in_err-_error-in-Err-clause-meaning t c =
+    let p = err_from_is_err_and c.from_residual-in_err-_error-in-Err.result c.from_residual-in_err-_error-in-Err.ensures.1 in
+    rw (p.1, p.2) (λ k. let h = c.in-Err.ensures.err (c.in_err-_error-in-Err.ensures.known k) in stopped c.in_ok-take_tick.ensures.taken (property.dealt (rw c.in_ok-take_tick.ensures.left at (c.in_ok-value.ensures.meaning tt)) (property.names_kept h.1 h.2 (ap (λ (a : Activation). state_of c.evaluate.new.self c.evaluate.new.world a) h.3)) refl) (c.in_err-_error-in-Err.ensures.outcome k))
+
+pub scatter_names-returns-clause-meaning : goal.scatter_names-returns-clause-meaning
+scatter_names-returns-clause-meaning t c =
+    let h = c.in-Err.ensures.err (c.in_ok-_error-in-Err.ensures.known tt) in
+    λ k. passed_over c.in_ok-take_tick.ensures.taken (property.dealt (rw c.in_ok-take_tick.ensures.left at (c.in_ok-value.ensures.meaning tt)) (property.names_kept h.1 h.2 (ap (λ (a : Activation). state_of c.evaluate.new.self c.evaluate.new.world a) h.3)) refl) (c.in_ok-_error-in-Err.ensures.outcome tt)
+
+pub perform-returns-in-Prepend-clause-meaning : goal.perform-returns-in-Prepend-clause-meaning
+perform-returns-in-Prepend-clause-meaning t c =
+    λ k. rw (c.in-Prepend.is, ← c.deref-in-Prepend.ensures) (c.prepend.ensures.meaning k)
+
+pub perform-returns-in-ScatterNames-clause-meaning : goal.perform-returns-in-ScatterNames-clause-meaning
+perform-returns-in-ScatterNames-clause-meaning t c =
+    λ k. rw (c.in-ScatterNames.is, ← c.deref-in-ScatterNames.ensures.value, ← c.deref-in-ScatterNames-2.ensures) (c.scatter_names.ensures.meaning k)
+
+pub perform-returns-in-Scatter-clause-meaning : goal.perform-returns-in-Scatter-clause-meaning
+perform-returns-in-Scatter-clause-meaning t c =
+    λ k. rw (c.in-Scatter.is, ← c.deref-in-Scatter.ensures.value, ← c.deref-in-Scatter-2.ensures) (c.scatter_alone.ensures.meaning k)

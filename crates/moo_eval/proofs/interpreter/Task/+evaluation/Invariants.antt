@@ -364,3 +364,12 @@ invariant-proceed-verbs l = record {
 
 abbrev pub decreases-proceed-verbs : goal.decreases-proceed-verbs
 decreases-proceed-verbs l = l.self.ticks_left
+
+abbrev pub decreases-prepend : goal.decreases-prepend
+decreases-prepend l = 16 * l.self.now.ticks_left
+
+abbrev pub decreases-put_prepended : goal.decreases-put_prepended
+decreases-put_prepended l = 16 * l.self.now.ticks_left + 6
+
+abbrev pub decreases-scatter_names : goal.decreases-scatter_names
+decreases-scatter_names l = 16 * l.self.now.ticks_left

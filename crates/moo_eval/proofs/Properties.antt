@@ -60,4 +60,4 @@ names_set names d sets = scatters (ap answers d) sets (rw (none_lacking names) n
 
 -- what can't be dealt sets no name
 pub names_kept : {T : Telling} {c : Context} {s t : State} {items : Items} {v : Tree} {code : ErrorCode} {failure : Failure} → scatter.dealt items v ≡ Err code → failure ≡ fails code → t ≡ s → Puts T c (scattered items) v s (Err failure) t
-names_kept d f e = rw e (scatter_fails (ap answers d ∙ sym f))
+names_kept d f e = rw e (scatter_fails (ap answers d ∙ ap Err (sym f)))

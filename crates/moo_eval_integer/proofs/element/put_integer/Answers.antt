@@ -1,4 +1,4 @@
-use Rattle.std.proofs.Common.{set, w32, rules}
+use Rattle.std.proofs.Common.{◌≡◌, suc, pos, set, w32, rules}
 use Rattle.std.proofs.lemmas.Int.{to_z-of_z}
 use mir.Val.{SFits}
 use Rattle.moo_value.specs.Tree.{integer, list_of}
@@ -6,7 +6,22 @@ use Rattle.moo_eval_integer.proofs.Given.{list_takes}
 use Rattle.moo_eval_integer.proofs.element.put_integer.Goals as goal
 
 pub returns-clause-put : goal.returns-clause-put
-returns-clause-put c = λ t. ?
-
-pub returns-clause-ticks : goal.returns-clause-ticks
-returns-clause-ticks c = ?
+returns-clause-put c = λ t.
+    let place : SFits w32 c.in-Some.place = search rules in
+    let number : SFits w32 c.in-Some-integer_of.number = search rules in
+    let index : c.in-Some.place ≡ pos (suc c.in-Some-elements_before.index) = rw (to_z-of_z w32 c.in-Some.place place) at c.in-Some-elements_before.ensures in
+    let p = simp (to_z-of_z w32 c.in-Some-integer_of.number number) at (c.put_element.ensures.put t) in
+    let new = list_of (set p.0 c.in-Some-elements_before.index (integer c.in-Some-integer_of.number)) in
+    let made = list_takes p.0 c.in-Some.place c.in-Some-integer_of.number c.in-Some-elements_before.index index p.2 p.3 in
+    record {
+      index = c.in-Some.place;
+      number = c.in-Some-integer_of.number;
+      between = c.integer_of.new.left;
+      container = list_of p.0;
+      new = new;
+      placed = c.in-Some.ensures.value;
+      valued = c.in-Some-integer_of.ensures.value;
+      held = p.1;
+      made = made;
+      sets = p.4;
+    }

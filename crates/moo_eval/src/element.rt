@@ -20,8 +20,8 @@ use moo_world::World;
 
 impl Task {
     /// Runs `name[place] = value`, if the assignment's own value is not used. An integer is put into a list in place if
-    /// nothing but the variable holds the list and place and value are computed from integers alone. Not inlined, so that nested statements
-    /// need no stack space for it.
+    /// nothing but the variable holds the list, and place and value are computed from integers alone. Not inlined, so
+    /// that nested statements need no stack space for it.
     #[cycle(evaluation)]
     #[inline(never)]
     pub(crate) fn set_place(
@@ -52,17 +52,14 @@ impl Task {
     // Sets the place of the list in the variable in place from integers alone, takes the ticks of place and value, and
     // returns true. False if that can't be; then nothing has changed.
     #[inline(always)]
-    fn try_put(
-        &mut self,
-        active: &mut Activation,
-        name: &Name,
-        place: &Node,
-        value: &Node,
-    ) -> bool
+    fn try_put(&mut self, active: &mut Activation, name: &Name, place: &Node, value: &Node) -> bool
         ensures put { IsTrue result → (w : WorldModel) (c : Context) → IsPut Faults c name.now (source place.now) (source value.now) (state_of self.old w active.old) (state_of self.new w active.new) }
         ensures kept { IsFalse result → (w : WorldModel) → state_of self.new w active.new ≡ state_of self.old w active.old }
         ensures ticks { self.new.ticks_left ≤ self.old.ticks_left }
     {
+        if !may_be_integer(value) {
+            return false;
+        }
         let mut left = self.ticks_left.left() as u32;
         if !put_integer(active, &mut left, name, place, value) {
             return false;
@@ -100,4 +97,13 @@ impl Task {
         )?;
         Ok(())
     }
+}
+
+// Is true for a node that may be computed from integers and variables alone.
+#[inline(always)]
+fn may_be_integer(node: &Node) -> bool {
+    matches!(
+        node,
+        Node::Integer(_) | Node::Variable(_) | Node::Arithmetic(..)
+    )
 }

@@ -1,5 +1,5 @@
 -- Operators between expressions without parts.
-use Rattle.std.proofs.Common.{◌≡◌, ◌≤◌, ℕ, List, Option, Ok, refl, ap, arith}
+use Rattle.std.proofs.Common.{◌≡◌, ◌≤◌, ◌-◌, ℕ, List, Option, Ok, refl, ap, arith}
 use Rattle.moo_value.specs.Tree.{Tree}
 use Rattle.moo_syntax_ast.specs.declared.operator.BinaryOperator.{BinaryOperator}
 use Rattle.moo_syntax_ast.specs.Tree.{Expr, binary}
@@ -12,5 +12,7 @@ use Rattle.moo_eval.specs.Leaves.{GivesLeaf}
 use Rattle.moo_eval_semantics.specs.Meaning.{Evaluates, begins, applies, no_more, element_then, binary_is}
 
 -- an operator takes a tick, and each operand one more
-pub compared : (variables : List ℕ → Option Tree) {c : Context} {s : State} {op : BinaryOperator} {a b : Expr} {u v w : Tree} → GivesLeaf variables a u → GivesLeaf variables b v → binary_of op u v ≡ Ok w → s.variables ≡ variables → 3 ≤ s.ticks → Evaluates Faults c (binary op a b) s (Ok w) (ticked (ticked (ticked s)))
-compared variables {c = c} {s = s} f g h e z = begins (omega (arith, z)) (applies (element_then (f c (ticked s) e (omega (arith, z))) (element_then (g c (ticked (ticked s)) e (omega (arith, z))) no_more refl) refl) no_more (binary_is (ap answers h))) refl
+pub compared : (variables : List ℕ → Option Tree) {c : Context} {s : State} {op : BinaryOperator} {a b : Expr} {u v w : Tree} (left : ℕ) → GivesLeaf variables a u → GivesLeaf variables b v → binary_of op u v ≡ Ok w → s.variables ≡ variables → 3 ≤ s.ticks → left ≡ s.ticks - 3 → Evaluates Faults c (binary op a b) s (Ok w) (record s { ticks = left })
+compared variables {c = c} {s = s} left f g h e z l =
+    let t : left ≡ s.ticks - 1 - 1 - 1 = omega (arith, l) in
+    rw t (begins (omega (arith, z)) (applies (element_then (f c (ticked s) e (omega (arith, z))) (element_then (g c (ticked (ticked s)) e (omega (arith, z))) no_more refl) refl) no_more (binary_is (ap answers h))) refl)

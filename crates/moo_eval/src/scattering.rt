@@ -1,5 +1,5 @@
 //! Runs assignments of the elements of a list to names.
-ghost use Rattle.std.specs.Prelude.{◌≤◌, Unit, None, Result, Err, IfOk, IfErr, map};
+ghost use Rattle.std.specs.Prelude.{◌≤◌, None, Result, Err, IfOk, IfErr, map};
 ghost use Rattle.moo_syntax_ast.specs.Tree.{assign, performs, list};
 ghost use Rattle.moo_syntax_lower.specs.Source.{source, source_items};
 ghost use Rattle.moo_syntax_lower.specs.Blocks.{named_items};

@@ -15,4 +15,4 @@ use Rattle.moo_eval_semantics.specs.Meaning.{Evaluates, begins, applies, no_more
 pub compared : (variables : List ℕ → Option Tree) {c : Context} {s : State} {op : BinaryOperator} {a b : Expr} {u v w : Tree} (left : ℕ) → GivesLeaf variables a u → GivesLeaf variables b v → binary_of op u v ≡ Ok w → s.variables ≡ variables → 3 ≤ s.ticks → left ≡ s.ticks - 3 → Evaluates Faults c (binary op a b) s (Ok w) (record s { ticks = left })
 compared variables {c = c} {s = s} left f g h e z l =
     let t : left ≡ s.ticks - 1 - 1 - 1 = omega (arith, l) in
-    rw t (begins (omega (arith, z)) (applies (element_then (f c (ticked s) e (omega (arith, z))) (element_then (g c (ticked (ticked s)) e (omega (arith, z))) no_more refl) refl) no_more (binary_is (ap answers h))) refl)
+    rw t (begins {s = s} (omega (arith, z)) (applies (element_then (f c (ticked s) e (omega (arith, z))) (element_then (g c (ticked (ticked s)) e (omega (arith, z))) no_more refl) refl) no_more (binary_is (ap answers h))) refl)

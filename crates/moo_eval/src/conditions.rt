@@ -87,14 +87,33 @@ impl Task {
         ensures ticks { self.new.ticks_left ≤ self.old.ticks_left }
     {
         match test {
-            Node::Binary(operator, left, right) | Node::Arithmetic(operator, left, right) => {
-                if is_leaf(left) && is_leaf(right) {
-                    self.try_operands(active, *operator, left, right)
-                } else {
-                    None
-                }
+            Node::Binary(operator, left, right) => {
+                self.try_leaves(active, *operator, left, right)
+            }
+            Node::Arithmetic(operator, left, right) => {
+                self.try_leaves(active, *operator, left, right)
             }
             _ => None,
+        }
+    }
+
+    // Returns whether the value of an operator is true, as `try_comparison` does.
+    #[inline(always)]
+    fn try_leaves(
+        &mut self,
+        active: &Activation,
+        operator: BinaryOperator,
+        left: &Node,
+        right: &Node,
+    ) -> Option<bool>
+        ensures some { IfSome result (λ b. (w : WorldModel) (c : Context) → (v : Tree) × Evaluates Faults c (binary operator (source left.now) (source right.now)) (state_of self.old w active.now) (Ok v) (state_of self.new w active.now) × (is_true v ≡ b)) }
+        ensures none { IfNone result (self.new ≡ self.old) }
+        ensures ticks { self.new.ticks_left ≤ self.old.ticks_left }
+    {
+        if is_leaf(left) && is_leaf(right) {
+            self.try_operands(active, operator, left, right)
+        } else {
+            None
         }
     }
 

@@ -1,7 +1,8 @@
-use Rattle.std.proofs.Common.{ap, ◌∙◌, sym, refl, Ok, w32, rules}
+use Rattle.std.proofs.Common.{◌≡◌, ap, ◌∙◌, sym, refl, Ok, w32, rules}
 use Rattle.std.proofs.lemmas.Int.{to_z-of_z}
 use mir.Val.{SFits}
 use Rattle.moo_value.specs.Tree.{string}
+use Rattle.moo_value.specs.View.{tree}
 use Rattle.moo_value.specs.Compare.{folded}
 use Rattle.moo_value.specs.declared.error_code.ErrorCode.TheVariants.{VariableNotFound}
 use Rattle.moo_eval_frame.specs.Outcome.{answers, or_error}
@@ -27,4 +28,4 @@ returns-in-Error c = λ k s e z. rw c.in-Error.is (literal_read z)
 
 pub returns-in-Str : goal.returns-in-Str
 returns-in-Str c =
-    map_some c.copied_string.result (λ v h. λ k s e z. rw (c.in-Str.is, h ∙ ap string c.string.ensures) (literal_read z)) c.copied_string.ensures
+    map_some c.copied_string.result (λ v h. let t : tree v ≡ string c.in-Str.text = h ∙ ap string c.string.ensures in λ k s e z. rw (c.in-Str.is, t) (literal_read z)) c.copied_string.ensures

@@ -3,7 +3,6 @@ use mir.Syntax.{w32}
 use mir.Val.{SFits}
 use Rattle.moo_value.specs.View.{tree}
 use Rattle.moo_eval_frame.specs.Seen.{variables_of}
-use Rattle.moo_eval.specs.Seen.{state_of}
 use Rattle.moo_eval.proofs.Compared.{compared}
 use Rattle.moo_eval.proofs.Ticks.{ticks_seen}
 use Rattle.moo_eval.proofs.interpreter.Task.try_operands.Goals as goal

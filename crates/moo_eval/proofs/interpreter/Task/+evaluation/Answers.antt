@@ -505,8 +505,8 @@ pub catch-returns-in_err-evaluate-in-Some-clause-meaning : goal.catch-returns-in
 catch-returns-in_err-evaluate-in-Some-clause-meaning t c =
     let p = err_from_is_err_and c.from_residual-in_err-evaluate-in-Some.result c.from_residual-in_err-evaluate-in-Some.ensures.1 in rw (p.1, p.2, c.in-Some.is, ← c.deref-in-Some.ensures) (λ k. attempt_goes_on (c.in_ok-values.ensures.meaning tt) (rw (c.deref.ensures.value, c.in-Caught.is) at (c.in_ok-value.ensures.meaning tt)) (c.in_err-evaluate-in-Some.ensures.meaning k) refl)
 
-pub catch-returns-clause-meaning : goal.catch-returns-clause-meaning
-catch-returns-clause-meaning t c =
+pub catch-returns-in_ok-evaluate-in-Some-clause-meaning : goal.catch-returns-in_ok-evaluate-in-Some-clause-meaning
+catch-returns-in_ok-evaluate-in-Some-clause-meaning t c =
     λ k. rw (c.in-Some.is, ← c.deref-in-Some.ensures) (attempt_goes_on (c.in_ok-values.ensures.meaning tt) (rw (c.deref.ensures.value, c.in-Caught.is) at (c.in_ok-value.ensures.meaning tt)) (c.in_ok-evaluate-in-Some.ensures.meaning tt) refl)
 
 pub attempt-returns-in-Property-clause-meaning : goal.attempt-returns-in-Property-clause-meaning

@@ -47,7 +47,8 @@ GRAMMAR = {
         (3, "<caller>"),
     ],
     "simple": [
-        (8, "<variable> = <expression>;"), (5, "<counter> = <number>;"), (6, "l = {@l, <expression>};"), (4, "l = {<expression>, @l};"), (3, "m = {@m, <item>};"),
+        (8, "<variable> = <expression>;"), (5, "<counter> = <number>;"), (6, "l = {@l, <expression>};"), (4, "l = {<expression>, @l};"),
+        (3, "m = {@m, <item>};"),
         (3, "s = s + <expression>;"), (3, "a = a + <number>;"), (6, "<target> = <expression>;"), (2, "l = listappend(l, <expression>);"), (4, "<expression>;"),
     ],
     "arm": [(6, ""), (3, "else <block>"), (3, "elseif (<expression>) <block>"), (2, "elseif (<number>) <block> else <block>")],

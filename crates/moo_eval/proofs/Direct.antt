@@ -1,5 +1,5 @@
 -- Expressions without parts, and assignments to variables.
-use Rattle.std.proofs.Common.{◌≡◌, ◌<◌, List, [], ◌∷◌, ℕ, Result, Ok, Err, Option, Some, None, IfSome, refl}
+use Rattle.std.proofs.Common.{◌≡◌, ◌<◌, List, [], ◌∷◌, ℕ, Result, Ok, Err, Option, Some, None, refl}
 use Rattle.moo_value.specs.declared.error_code.ErrorCode.TheVariants.{VariableNotFound}
 use Rattle.moo_value.specs.Tree.{Tree}
 use Rattle.moo_value.specs.Compare.{folded}
@@ -34,8 +34,3 @@ performed z d = evaluates (begins z d refl) refl
 
 pub unperformed : {T : Telling} {c : Context} {e : Expr} {s s' : State} {stop : Stop} → 0 < s.ticks → Computes T c e (ticked s) (Err (stops stop)) s' → Does T c (performs e) s (Err stop) s'
 unperformed z d = evaluates (begins z d refl) refl
-
--- of an answer, if there is one
-pub map_some : {A : Type 0} {P Q : A → Type 0} (r : Option A) → ((x : A) → P x → Q x) → IfSome r P → IfSome r Q
-map_some None f h = tt
-map_some (Some x) f h = f x h

@@ -1,5 +1,5 @@
 -- Integers that expressions give.
-use Rattle.std.proofs.Common.{◌≡◌, ℕ, suc, ◌<◌, ◌-◌, nat_lt, ℤ, pos, true, List, length, set, Option, Some, None, Ok, IfSome, refl, ap, ◌∙◌, arith}
+use Rattle.std.proofs.Common.{◌≡◌, ℕ, suc, ◌<◌, ◌-◌, nat_lt, ℤ, pos, true, List, length, set, Option, Some, None, Ok, refl, ap, ◌∙◌, arith}
 use Rattle.moo_value.specs.declared.error_code.ErrorCode.TheVariants.{VariableNotFound}
 use Rattle.moo_value.specs.Tree.{Tree, integer, list_of}
 use Rattle.moo_value.specs.Size.{IsWithinLimits}
@@ -39,8 +39,3 @@ before i k n e h = rw e (let w : nat_lt k n ≡ true = grind arith in rw w refl)
 -- a list within the limits takes an integer at a place
 pub list_takes : (ts : List Tree) (i n : ℤ) (k : ℕ) → i ≡ pos (suc k) → k < length ts → IsWithinLimits (list_of (set ts k (integer n))) → with_index_of (list_of ts) (integer i) (integer n) ≡ Ok (list_of (set ts k (integer n)))
 list_takes ts i n k e h limits = set_in_list ts i k (length ts) (integer n) refl (before i k (length ts) e h) ∙ limited_within (list_of (set ts k (integer n))) limits
-
--- of an answer, if there is one
-pub map_some : {A : Type 0} {P Q : A → Type 0} (r : Option A) → ((x : A) → P x → Q x) → IfSome r P → IfSome r Q
-map_some None f h = tt
-map_some (Some x) f h = f x h

@@ -1,5 +1,5 @@
 -- Integers that expressions give.
-use Rattle.std.proofs.Common.{◌≡◌, ℕ, suc, ◌<◌, ◌-◌, nat_lt, ℤ, pos, true, List, length, set, Option, Some, None, Ok, refl, ap, ◌∙◌, arith}
+use Rattle.std.proofs.Common.{◌≡◌, ℕ, suc, ◌<◌, ◌-◌, nat_lt, ℤ, pos, true, List, length, set, Option, Some, Ok, refl, ap, ◌∙◌, arith}
 use Rattle.moo_value.specs.declared.error_code.ErrorCode.TheVariants.{VariableNotFound}
 use Rattle.moo_value.specs.Tree.{Tree, integer, list_of}
 use Rattle.moo_value.specs.Size.{IsWithinLimits}

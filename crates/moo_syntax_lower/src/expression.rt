@@ -6,9 +6,10 @@ ghost use Rattle.moo_syntax_lower.specs.Source.{source};
 
 use crate::function_name::FunctionName;
 use crate::item::{lower_codes, lower_items};
-use crate::node::Node;
+use crate::node::{Node, NodeItem};
 use moo_syntax_ast::operator::{BinaryOperator, LogicOperator};
 use moo_syntax_ast::{Codes, Expr, Item, Literal, Name, Text};
+use moo_syntax_function::Function;
 use moo_value::MooStr;
 use std::alloc::{AllocError, Global};
 
@@ -76,7 +77,10 @@ fn lower_binary(
 {
     let a = lower_boxed(alloc, a)?;
     let b = lower_boxed(alloc, b)?;
-    if is_arithmetic(operator) && is_arithmetic_part(&a) && is_arithmetic_part(&b) {
+    if is_arithmetic(operator)
+        && is_arithmetic_part(operator, &a)
+        && is_arithmetic_part(operator, &b)
+    {
         return Ok(Node::Arithmetic(operator, a, b));
     }
     Ok(Node::Binary(operator, a, b))
@@ -87,12 +91,48 @@ fn is_arithmetic(operator: BinaryOperator) -> bool {
     !matches!(operator, BinaryOperator::Power | BinaryOperator::In)
 }
 
-// Is true if the value of a node is computed from integers and variables alone.
-fn is_arithmetic_part(node: &Node) -> bool {
-    matches!(
-        node,
-        Node::Integer(_) | Node::Variable(_) | Node::Arithmetic(..)
-    )
+// Is true if the value of an operand is computed from integers, variables, their elements and their lengths alone. What
+// is compared by `==` or `!=` is most often no integer if it is an element.
+fn is_arithmetic_part(operator: BinaryOperator, node: &Node) -> bool {
+    match node {
+        Node::Integer(_) | Node::Variable(_) | Node::Arithmetic(..) => true,
+        Node::Index(base, place) => {
+            !is_equality(operator) && is_variable(base) && is_flat_place(place)
+        }
+        Node::Call(name, items) => is_length(name) && is_one_variable(items),
+        _ => false,
+    }
+}
+
+fn is_equality(operator: BinaryOperator) -> bool {
+    matches!(operator, BinaryOperator::Equal | BinaryOperator::NotEqual)
+}
+
+// Is true for an integer, a variable, and an operator of arithmetic between two of these.
+fn is_flat_place(place: &Node) -> bool {
+    match place {
+        Node::Arithmetic(_, a, b) => is_integer_or_variable(a) && is_integer_or_variable(b),
+        _ => is_integer_or_variable(place),
+    }
+}
+
+fn is_integer_or_variable(node: &Node) -> bool {
+    matches!(node, Node::Integer(_) | Node::Variable(_))
+}
+
+fn is_variable(node: &Node) -> bool {
+    matches!(node, Node::Variable(_))
+}
+
+fn is_length(name: &FunctionName) -> bool {
+    matches!(name.function(), Some(Function::Length))
+}
+
+fn is_one_variable(items: &[NodeItem]) -> bool {
+    match items {
+        [NodeItem::Element(node)] => is_variable(node),
+        _ => false,
+    }
 }
 
 #[cycle(lowering)]

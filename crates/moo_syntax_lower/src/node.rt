@@ -17,8 +17,8 @@ pub enum Node {
     Length,
     Unary(UnaryOperator, Box<Node>),
     Binary(BinaryOperator, Box<Node>, Box<Node>),
-    /// `a + b` and its like, if both operands are integers, variables or such operators themselves. So its value is most
-    /// often computed from integers alone.
+    /// `a + b` and its like, if the operands are integers, variables, their elements, their lengths or such operators
+    /// themselves. So its value is most often computed from integers alone.
     Arithmetic(BinaryOperator, Box<Node>, Box<Node>),
     Logic(LogicOperator, Box<Node>, Box<Node>),
     /// `a ? b | c`

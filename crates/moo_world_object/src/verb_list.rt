@@ -1,5 +1,5 @@
 //! The verbs of an object, in order, with a filter by the first letter of names.
-ghost use Rattle.std.specs.Prelude.{◌≡◌, ◌≢◌, ◌<◌, OnOk, OnErr, IfOk, [], ◌⊎◌, ◌∷◌, ◌++◌, length, position, slice_index_or};
+ghost use Rattle.std.specs.Prelude.{◌≡◌, ◌≢◌, ◌<◌, ℕ, false, get_or, OnOk, OnErr, IfOk, [], ◌⊎◌, ◌∷◌, ◌++◌, length, position, slice_index_or};
 ghost use Rattle.std.specs.List.{list_any, remove, slice_split};
 ghost use Rattle.moo_world_object.specs.Patterns.{is_blank, fits_names};
 ghost use Rattle.moo_world_object.specs.Verbs.{fits_verb, changed_at, with_verb_info, with_args, with_program};
@@ -89,13 +89,33 @@ impl VerbList {
         self.position_named(need, &NameKey::new(name))
     }
 
-    /// Returns the place of the first verb that a name matches. For a call only executable verbs count.
-    #[inline]
+    /// Returns the place of the first verb that a name matches. For a call only executable verbs count. Inlined, so that
+    /// a list without such a verb most often needs no call.
+    #[inline(always)]
     pub fn position_named(&self, need: Need, name: &NameKey<'_>) -> Option<usize>
         ensures { result ≡ position (fits_verb need name.now) self.now }
     {
-        let (start, last) = self.index.range(name.hash(), self.verbs.len());
-        for i in start..self.verbs.len() {
+        let (first, last) = self.index.range(name.hash(), self.verbs.len());
+        if first > last {
+            return None;
+        }
+        self.position_between(first, last, need, name)
+    }
+
+    // Returns the place of the first verb that a name matches, which matches none outside these places.
+    #[inline(never)]
+    fn position_between(
+        &self,
+        first: usize,
+        last: usize,
+        need: Need,
+        name: &NameKey<'_>,
+    ) -> Option<usize>
+        requires before { (k : ℕ) (v : Verb) → k < length self.now → k < first → fits_verb need name.now (get_or self.now k v) ≡ false }
+        requires after { (k : ℕ) (v : Verb) → k < length self.now → last < k → fits_verb need name.now (get_or self.now k v) ≡ false }
+        ensures { result ≡ position (fits_verb need name.now) self.now }
+    {
+        for i in first..self.verbs.len() {
             if i > last {
                 return None;
             }

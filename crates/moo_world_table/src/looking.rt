@@ -67,7 +67,7 @@ pub fn nearest_called<'a>(
 
 // Returns the place of the first verb that a name matches, of the object at a number. For a call only executable verbs
 // count.
-#[inline]
+#[inline(always)]
 fn verb_in(slot: &Option<Object>, name: &NameKey<'_>, need: Need) -> Option<usize>
     ensures { result ≡ position (fits_verb need name.now) (unwrap_or slot.now nothing).verbs }
 {

@@ -35,7 +35,7 @@ impl Object {
     }
 
     /// Returns the place of the first verb that a name matches. For a call only executable verbs count.
-    #[inline]
+    #[inline(always)]
     pub fn verb_position_named(&self, need: Need, name: &NameKey<'_>) -> Option<usize>
         ensures { result ≡ position (fits_verb need name.now) self.now.verbs }
     {

@@ -1,19 +1,19 @@
 -- A verb is in the bucket of each name that matches it.
-use Rattle.std.proofs.Common.{◌≡◌, ◌≢◌, ◌⊎◌, inl, inr, ℕ, zero, suc, ◌+◌, ◌*◌, ◌-◌, ◌/◌, ◌%◌, ◌≤◌, ◌<◌, Bool, true, false, not, ◌&&◌, ◌||◌, cond, List, [], ◌∷◌, ◌++◌, length, take, drop, get_or, set, filter, refl, sym, ap, ◌∙◌, subst, bit_and, arith, nat_lt, eqb, ltb, min, max, IsTrue, ◌↔◌}
-use Rattle.std.proofs.lemmas.Bool.{cases_Bool, or_parts, eqb-true, eqb-false, eq-eqb, false≢true, ltb-true, ltb-false}
-use Rattle.std.proofs.lemmas.Bool.Decides.{nat_tests, same_from_decides}
-use Rattle.std.proofs.lemmas.List.{get_or-map, length-map, length-append, map-append, get_or_default, get_or_append_left}
+use Rattle.std.proofs.Common.{◌≡◌, inl, inr, ℕ, zero, suc, ◌+◌, ◌*◌, ◌-◌, ◌/◌, ◌%◌, ◌≤◌, ◌<◌, Bool, true, false, ◌&&◌, ◌||◌, List, [], ◌∷◌, ◌++◌, length, take, drop, get_or, filter, refl, sym, ap, ◌∙◌, subst, arith, eqb, ltb, IsTrue, ◌↔◌}
+use Rattle.std.proofs.lemmas.Bool.{cases_Bool, eqb-true, eqb-false, false≢true, ltb-true, ltb-false}
+use Rattle.std.proofs.lemmas.Bool.Decides.{same_from_decides}
+use Rattle.std.proofs.lemmas.List.{length-map, length-append, get_or_default, get_or_append_left}
 use Rattle.std.proofs.Math.Seq.{take-append_seam}
 use Rattle.std.specs.List.{list_any, slice_split}
 use Rattle.std.specs.Char.{to_ascii_lowercase}
 use Rattle.moo_value.specs.Compare.{folded}
-use Rattle.moo_world_object.specs.Patterns.{is_star, is_blank, is_word, base, least, ends_in_star, fits, fits_names, Fits, Begins, EndsInStar}
+use Rattle.moo_world_object.specs.Patterns.{is_star, is_blank, is_word, base, least, ends_in_star, fits, Fits, EndsInStar}
 use Rattle.moo_world_object.specs.Verbs.{fits_verb, is_needed, changed_at}
-use Rattle.moo_world_object.specs.Index.{bucket_of, no_verbs, Holds, IsListed, Grows, CoversPattern, Covers, AreIndexed}
+use Rattle.moo_world_object.specs.Index.{bucket_of, Holds, IsListed, Grows, CoversPattern, Covers, AreIndexed}
 use Rattle.moo_world_object.specs.declared.verb.Verb.{Verb}
 use Rattle.moo_world_object.specs.declared.verb.Need.{Need}
 use Rattle.moo_world_object.specs.declared.verb_index.Bucket.{Bucket}
-use Rattle.moo_syntax_ast.specs.NameHash.{first_letter, letter_at, letters_hash, class_of, hash_of}
+use Rattle.moo_syntax_ast.specs.NameHash.{first_letter, letters_hash, class_of, hash_of}
 use Rattle.moo_world_object.proofs.Letters.{begins_so}
 use Rattle.moo_world_object.proofs.Patterns.{fits_is, ends_in_star_is}
 

@@ -1,5 +1,5 @@
 -- Numbers of the verbs that have one name alone.
-use Rattle.std.proofs.Common.{◌≡◌, ◌⊎◌, ℕ, zero, suc, ◌<◌, ◌+◌, subst, List, [], ◌∷◌, ◌++◌, sym, ◌∙◌, inl, inr, arith, length, get_or}
+use Rattle.std.proofs.Common.{◌≡◌, ◌⊎◌, ℕ, zero, suc, ◌<◌, subst, List, [], ◌∷◌, ◌++◌, sym, ◌∙◌, inl, inr, arith, length, get_or}
 use Rattle.std.specs.List.{remove}
 use Rattle.moo_world_object.specs.Letters.{IsNumberOf, AreNumbers}
 use Rattle.moo_world_object.specs.Verbs.{changed_at}

@@ -1,5 +1,5 @@
-use Rattle.std.proofs.Common.{ℕ, ◌<◌, ◌≤◌, inl, inr, subst, sym, arith}
-use Rattle.moo_world_object.specs.Index.{Holds, IsListed}
+use Rattle.std.proofs.Common.{inl, inr, subst, sym, arith}
+use Rattle.moo_world_object.specs.Index.{Holds}
 use Rattle.moo_world_object.proofs.verb_index.VerbIndex.range.Goals as goal
 
 pub returns : goal.returns

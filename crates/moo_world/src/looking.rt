@@ -46,6 +46,7 @@ impl World {
     /// Returns the first executable verb that a name matches, on the nearest of the object and its ancestors that has
     /// one, and the number of the object that has it.
     #[tactic(auto, using(crate::proofs::Called::called_there))]
+    #[inline(always)]
     pub fn called_verb(&self, o: i32, name: &NameKey<'_>) -> Option<(i32, &Verb)>
         ensures { option_map (λ found. (found.0, found.1.now)) result ≡ option_and_then (verb_there self.now) (option_map verb_place (option_and_then (verb_found self.now need.Call name.now) (number_of self.now.objects o))) }
     {
@@ -54,6 +55,7 @@ impl World {
         Some((definer as i32, verb))
     }
 
+    #[inline(always)]
     fn called_from(&self, x: usize, name: &NameKey<'_>) -> Option<(usize, &Verb)>
         requires { IsSome (object_of self.now.objects x) }
         ensures value { option_map (λ found. (found.0, found.1.now)) result ≡ option_and_then (verb_at_place self.now.objects) (verb_found self.now need.Call name.now x) }

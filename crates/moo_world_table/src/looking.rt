@@ -19,6 +19,7 @@ use moo_world_object::{Need, Object, Verb, cell_at};
 use moo_world_tree::Forest;
 
 /// Returns the nearest verb that matches.
+#[inline(always)]
 pub fn nearest_verb(
     objects: &[Option<Object>],
     tree: &Forest,
@@ -49,6 +50,7 @@ pub fn nearest_verb(
 
 /// Returns the nearest verb that can be called by a name, and the object that has it.
 #[tactic(auto, using(crate::proofs::Called::verb_placed))]
+#[inline(always)]
 pub fn nearest_called<'a>(
     objects: &'a [Option<Object>],
     tree: &Forest,

@@ -35,9 +35,9 @@ impl Task {
         }
     }
 
-    // Computes the integer of an operator between two nodes, likewise.
+    /// Computes the integer of an operator between two nodes, likewise.
     #[inline(always)]
-    fn try_integers(
+    pub(crate) fn try_integers(
         &mut self,
         active: &Activation,
         operator: BinaryOperator,
@@ -54,31 +54,9 @@ impl Task {
         Some(number)
     }
 
-    /// Evaluates an operator from integers alone, if that can be, and else node by node.
-    #[cycle(evaluation)]
-    #[inline(never)]
-    pub(crate) fn evaluate_integers(
-        &mut self,
-        world: &mut World,
-        active: &mut Activation,
-        stack: &CallStack<'_>,
-        indexed: Option<&Value>,
-        operator: BinaryOperator,
-        left: &Node,
-        right: &Node,
-    ) -> Result<Value, Stop>
-        ensures meaning { IsKnown result → Evaluates Faults (context_of stack.now indexed.entry) (binary operator (source left.now) (source right.now)) (state_of self.old world.old active.old) (seen_value result) (state_of self.new world.new active.new) }
-        ensures ticks { self.new.ticks_left ≤ self.old.ticks_left }
-    {
-        if let Some(number) = self.try_integers(active, operator, left, right) {
-            return Ok(Value::Int(number));
-        }
-        self.evaluate_arithmetic(world, active, stack, indexed, operator, left, right)
-    }
-
     /// Computes an operator node by node.
     #[cycle(evaluation)]
-    #[inline(always)]
+    #[inline(never)]
     pub(crate) fn arithmetic(
         &mut self,
         world: &mut World,
@@ -100,7 +78,7 @@ impl Task {
     /// Evaluates a node that `try_arithmetic` has declined, or a part of one. An operator isn't tried again, so the time
     /// of a statement is linear in its size.
     #[cycle(evaluation)]
-    #[inline]
+    #[inline(never)]
     pub(crate) fn evaluate_tried(
         &mut self,
         world: &mut World,
@@ -113,12 +91,7 @@ impl Task {
         ensures ticks { self.new.ticks_left ≤ self.old.ticks_left }
     {
         match node {
-            Node::Arithmetic(operator, left, right) => {
-                self.evaluate_arithmetic(world, active, stack, indexed, *operator, left, right)
-            }
-            Node::Index(base, place) => {
-                self.evaluate_index(world, active, stack, indexed, base, place)
-            }
+            Node::Arithmetic(..) => self.evaluate_parts(world, active, stack, indexed, node),
             _ => self.evaluate(world, active, stack, indexed, node),
         }
     }

@@ -25,7 +25,7 @@ use moo_world::World;
 
 impl Task {
     #[cycle(evaluation)]
-    #[inline(always)]
+    #[inline(never)]
     pub(crate) fn assign(
         &mut self,
         world: &mut World,

@@ -4,7 +4,8 @@ ghost use Rattle.std.specs.Borrow.{Bor};
 ghost use Rattle.moo_value.specs.declared.value.Value.{Value as ValueModel};
 ghost use Rattle.moo_value.specs.Tree.{string};
 ghost use Rattle.moo_value.specs.View.{tree as tree_of};
-ghost use Rattle.moo_syntax_ast.specs.Tree.{Expr, Items, no_statement, verb_call, call};
+ghost use Rattle.moo_syntax_ast.specs.declared.tree.Literal.TheVariants.{Str};
+ghost use Rattle.moo_syntax_ast.specs.Tree.{Expr, Items, no_statement, literal, verb_call, call};
 ghost use Rattle.moo_syntax_lower.specs.Source.{source, source_items};
 ghost use Rattle.moo_eval_frame.specs.declared.frame.Activation.{Activation};
 ghost use Rattle.moo_eval_access.specs.SeenCalled.{entered_of};
@@ -32,7 +33,7 @@ use moo_value::Value;
 use moo_world::World;
 
 impl Task {
-    // Calls a verb, which runs in a frame of its own, over the same world and with the ticks that are left.
+    /// Calls a verb, which runs in a frame of its own, over the same world and with the ticks that are left.
     #[cycle(evaluation)]
     #[inline(always)]
     pub(crate) fn verb_call(
@@ -48,15 +49,56 @@ impl Task {
         ensures meaning { IsKnownFailure result → Computes Faults (context_of stack.now indexed.entry) (verb_call (source base.now) (source name.now) (source_items items.now)) (state_of self.old world.old active.old) (seen_answer result) (state_of self.new world.new active.new) }
         ensures ticks { self.new.ticks_left ≤ self.old.ticks_left }
     {
+        match as_text(name) {
+            Some(name) => self.call_literal(world, active, stack, indexed, base, name, items),
+            None => self.call_computed(world, active, stack, indexed, base, name, items),
+        }
+    }
+
+    // Calls a verb whose name is a literal.
+    #[cycle(evaluation)]
+    #[inline(never)]
+    fn call_literal(
+        &mut self,
+        world: &mut World,
+        active: &mut Activation,
+        stack: &CallStack<'_>,
+        indexed: Option<&Value>,
+        base: &Node,
+        name: &Text,
+        items: &[NodeItem],
+    ) -> Result<Value, Failure>
+        ensures meaning { IsKnownFailure result → Computes Faults (context_of stack.now indexed.entry) (verb_call (source base.now) (literal (Str name.now)) (source_items items.now)) (state_of self.old world.old active.old) (seen_answer result) (state_of self.new world.new active.new) }
+        ensures ticks { self.new.ticks_left ≤ self.old.ticks_left }
+    {
         let base = self.evaluate(world, active, stack, indexed, base)?;
+        self.take_tick(active, stack)?;
         let mut memory = self.spare.take();
         let room = memory.take_values(self.alloc());
-        if let Some(name) = as_text(name) {
-            self.take_tick(active, stack)?;
-            let values = self.evaluate_all(world, active, stack, indexed, items, room)?;
-            return self.call_written(world, active, stack, &base, name, values, memory);
-        }
+        let values = self.evaluate_all(world, active, stack, indexed, items, room)?;
+        self.call_written(world, active, stack, &base, name, values, memory)
+    }
+
+    // Calls a verb whose name is computed.
+    #[cycle(evaluation)]
+    #[inline(never)]
+    fn call_computed(
+        &mut self,
+        world: &mut World,
+        active: &mut Activation,
+        stack: &CallStack<'_>,
+        indexed: Option<&Value>,
+        base: &Node,
+        name: &Node,
+        items: &[NodeItem],
+    ) -> Result<Value, Failure>
+        ensures meaning { IsKnownFailure result → Computes Faults (context_of stack.now indexed.entry) (verb_call (source base.now) (source name.now) (source_items items.now)) (state_of self.old world.old active.old) (seen_answer result) (state_of self.new world.new active.new) }
+        ensures ticks { self.new.ticks_left ≤ self.old.ticks_left }
+    {
+        let base = self.evaluate(world, active, stack, indexed, base)?;
         let name = self.evaluate(world, active, stack, indexed, name)?;
+        let mut memory = self.spare.take();
+        let room = memory.take_values(self.alloc());
         let values = self.evaluate_all(world, active, stack, indexed, items, room)?;
         self.call_verb(world, active, stack, &base, &name, values, memory)
     }
@@ -125,8 +167,8 @@ impl Task {
         self.run_called(world, called, memory)
     }
 
-    // Runs an entered verb to its end, in the memory of a frame that has ended. It takes a tick if it has a statement. Inlined, so that the entered verb is
-    // not moved.
+    // Runs an entered verb to its end, in the memory of a frame that has ended. It takes a tick if it has a statement.
+    // Inlined, so that the entered verb is not moved.
     #[cycle(evaluation)]
     #[inline(always)]
     fn run_called(
@@ -154,8 +196,9 @@ impl Task {
         answered(outcome)
     }
 
+    /// Calls a built-in function.
     #[cycle(evaluation)]
-    #[inline(always)]
+    #[inline(never)]
     pub(crate) fn call(
         &mut self,
         world: &mut World,
@@ -168,7 +211,7 @@ impl Task {
         ensures meaning { IsKnownFailure result → Computes Faults (context_of stack.now indexed.entry) (call name.now (source_items items.now)) (state_of self.old world.old active.old) (seen_answer result) (state_of self.new world.new active.new) }
         ensures ticks { self.new.ticks_left ≤ self.old.ticks_left }
     {
-        let room = Vec::new(self.alloc());
+        let room = self.spare.take_values();
         let values = self.evaluate_all(world, active, stack, indexed, items, room)?;
         let function = name.function();
         let Some(caller) = verb_caller(function) else {

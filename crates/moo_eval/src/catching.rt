@@ -1,8 +1,7 @@
 //! Evaluates catches.
 ghost use Rattle.std.specs.Prelude.{◌≤◌, Err};
 ghost use Rattle.moo_value.specs.View.{trees};
-ghost use Rattle.moo_syntax_ast.specs.Tree.{property, verb_call, index};
-ghost use Rattle.moo_syntax_lower.specs.Source.{source, source_items, source_codes};
+ghost use Rattle.moo_syntax_lower.specs.Source.{source, source_codes};
 ghost use Rattle.moo_eval_frame.specs.Catching.{guards};
 ghost use Rattle.moo_eval_frame.specs.Outcome.{settled};
 ghost use Rattle.moo_eval_frame.specs.Seen.{context_of, trace_of, failure_of, seen_answer, seen_answers, seen_value, catch_of, HadMemoryIn, IsKnown, IsKnownFailure};
@@ -13,7 +12,7 @@ ghost use Rattle.moo_eval.specs.Seen.{state_of};
 
 use crate::interpreter::Task;
 use moo_eval_frame::{Activation, CallStack, Failure, Stop, caught, is_caught};
-use moo_syntax_lower::{Node, NodeCodes, NodeItem};
+use moo_syntax_lower::{Node, NodeCodes};
 use moo_value::{ErrorCode, Value};
 use moo_world::World;
 
@@ -28,7 +27,7 @@ pub(crate) enum Attempt {
 impl Task {
     // Evaluates the codes first. If they name the error, it is the value, or `other` gives the value in its place.
     #[cycle(evaluation)]
-    #[inline(always)]
+    #[inline(never)]
     pub(crate) fn catch(
         &mut self,
         world: &mut World,
@@ -44,7 +43,7 @@ impl Task {
     {
         let values = self.guards(world, active, stack, indexed, codes)?;
         let attempt = self.attempt(world, active, stack, indexed, body, codes, &values);
-        self.spare.keep_codes(values);
+        self.spare.keep_values(values);
         match attempt? {
             Attempt::Value(value) => Ok(value),
             Attempt::Caught(code) => match other {
@@ -70,16 +69,16 @@ impl Task {
         match codes {
             NodeCodes::Any => Ok(Vec::new(self.alloc())),
             NodeCodes::Listed(items) => {
-                let room = self.spare.take_codes();
+                let room = self.spare.take_values();
                 let values = self.evaluate_all(world, active, stack, indexed, items, room)?;
                 Ok(values.into_values(self.alloc())?)
             }
         }
     }
 
-    // Evaluates the body of a catch.
+    // Evaluates the body of a catch. An error of its own that the codes name isn't raised first.
     #[cycle(evaluation)]
-    #[inline(always)]
+    #[inline(never)]
     fn attempt(
         &mut self,
         world: &mut World,
@@ -93,93 +92,11 @@ impl Task {
         ensures meaning { IsKnownFailure result → Attempts Faults (context_of stack.now indexed.entry) (source_codes codes.now) (trees values.now) (source body.now) (state_of self.old world.old active.old) result (state_of self.new world.new active.new) }
         ensures ticks { self.new.ticks_left ≤ self.old.ticks_left }
     {
-        match body {
-            Node::Property(base, name) => {
-                self.attempt_property(world, active, stack, indexed, base, name, codes, values)
-            }
-            Node::Index(base, place) => {
-                self.attempt_index(world, active, stack, indexed, base, place, codes, values)
-            }
-            Node::VerbCall(base, name, items) => {
-                self.attempt_call(
-                    world, active, stack, indexed, base, name, items, codes, values,
-                )
-            }
-            _ => {
-                let outcome = self.evaluate(world, active, stack, indexed, body);
-                attempted(codes, values, outcome)
-            }
+        if let Some(value) = self.try_node(active, body) {
+            return Ok(Attempt::Value(value));
         }
-    }
-
-    // Evaluates a property in a catch. An error of its own that the codes name isn't raised first.
-    #[cycle(evaluation)]
-    #[inline(never)]
-    fn attempt_property(
-        &mut self,
-        world: &mut World,
-        active: &mut Activation,
-        stack: &CallStack<'_>,
-        indexed: Option<&Value>,
-        base: &Node,
-        name: &Node,
-        codes: &NodeCodes,
-        values: &[Value],
-    ) -> Result<Attempt, Failure>
-        ensures meaning { IsKnownFailure result → Attempts Faults (context_of stack.now indexed.entry) (source_codes codes.now) (trees values.now) (property (source base.now) (source name.now)) (state_of self.old world.old active.old) result (state_of self.new world.new active.new) }
-        ensures ticks { self.new.ticks_left ≤ self.old.ticks_left }
-    {
         self.take_tick(active, stack)?;
-        match self.property(world, active, stack, indexed, base, name) {
-            Ok(value) => Ok(Attempt::Value(value)),
-            Err(failure) => self.settle_attempt(active, stack, codes, values, failure),
-        }
-    }
-
-    // Evaluates an element in a catch.
-    #[cycle(evaluation)]
-    #[inline(never)]
-    fn attempt_index(
-        &mut self,
-        world: &mut World,
-        active: &mut Activation,
-        stack: &CallStack<'_>,
-        indexed: Option<&Value>,
-        base: &Node,
-        place: &Node,
-        codes: &NodeCodes,
-        values: &[Value],
-    ) -> Result<Attempt, Failure>
-        ensures meaning { IsKnownFailure result → Attempts Faults (context_of stack.now indexed.entry) (source_codes codes.now) (trees values.now) (index (source base.now) (source place.now)) (state_of self.old world.old active.old) result (state_of self.new world.new active.new) }
-        ensures ticks { self.new.ticks_left ≤ self.old.ticks_left }
-    {
-        self.take_tick(active, stack)?;
-        match self.index(world, active, stack, indexed, base, place) {
-            Ok(value) => Ok(Attempt::Value(value)),
-            Err(failure) => self.settle_attempt(active, stack, codes, values, failure),
-        }
-    }
-
-    // Evaluates a call of a verb in a catch.
-    #[cycle(evaluation)]
-    #[inline(never)]
-    fn attempt_call(
-        &mut self,
-        world: &mut World,
-        active: &mut Activation,
-        stack: &CallStack<'_>,
-        indexed: Option<&Value>,
-        base: &Node,
-        name: &Node,
-        items: &[NodeItem],
-        codes: &NodeCodes,
-        values: &[Value],
-    ) -> Result<Attempt, Failure>
-        ensures meaning { IsKnownFailure result → Attempts Faults (context_of stack.now indexed.entry) (source_codes codes.now) (trees values.now) (verb_call (source base.now) (source name.now) (source_items items.now)) (state_of self.old world.old active.old) result (state_of self.new world.new active.new) }
-        ensures ticks { self.new.ticks_left ≤ self.old.ticks_left }
-    {
-        self.take_tick(active, stack)?;
-        match self.verb_call(world, active, stack, indexed, base, name, items) {
+        match self.compute(world, active, stack, indexed, body) {
             Ok(value) => Ok(Attempt::Value(value)),
             Err(failure) => self.settle_attempt(active, stack, codes, values, failure),
         }

@@ -18,7 +18,7 @@ use moo_world::World;
 impl Task {
     // Evaluates the second operand only if the first doesn't decide.
     #[cycle(evaluation)]
-    #[inline(always)]
+    #[inline(never)]
     pub(crate) fn logic(
         &mut self,
         world: &mut World,
@@ -41,7 +41,7 @@ impl Task {
 
     // Evaluates the test, and then one of the two expressions.
     #[cycle(evaluation)]
-    #[inline(always)]
+    #[inline(never)]
     pub(crate) fn conditional(
         &mut self,
         world: &mut World,

@@ -106,68 +106,6 @@ impl Task {
         self.evaluate_node(world, active, stack, indexed, node)
     }
 
-    // Evaluates an expression of any kind. Neither this function nor those for each kind are inlined, so that nested
-    // expressions need no stack space for all kinds.
-    #[cycle(evaluation)]
-    #[inline(never)]
-    fn evaluate_node(
-        &mut self,
-        world: &mut World,
-        active: &mut Activation,
-        stack: &CallStack<'_>,
-        indexed: Option<&Value>,
-        node: &Node,
-    ) -> Result<Value, Stop>
-        ensures meaning { IsKnown result → Evaluates Faults (context_of stack.now indexed.entry) (source node.now) (state_of self.old world.old active.old) (seen_value result) (state_of self.new world.new active.new) }
-        ensures ticks { self.new.ticks_left ≤ self.old.ticks_left }
-    {
-        match node {
-            Node::Integer(number) => self.literal(active, stack, Value::Int(*number)),
-            Node::Object(number) => self.literal(active, stack, Value::Obj(*number)),
-            Node::Error(code) => self.literal(active, stack, Value::Err(*code)),
-            Node::Str(text) => self.text(active, stack, text),
-            Node::Variable(name) => self.variable(active, stack, name),
-            Node::Length => self.length(active, stack, indexed),
-            Node::Unary(operator, operand) => {
-                self.evaluate_unary(world, active, stack, indexed, *operator, operand)
-            }
-            Node::Binary(operator, left, right) => {
-                self.evaluate_binary(world, active, stack, indexed, *operator, left, right)
-            }
-            Node::Arithmetic(operator, left, right) => {
-                self.evaluate_integers(world, active, stack, indexed, *operator, left, right)
-            }
-            Node::Logic(operator, left, right) => {
-                self.evaluate_logic(world, active, stack, indexed, *operator, left, right)
-            }
-            Node::Conditional(test, first, second) => {
-                self.evaluate_conditional(world, active, stack, indexed, test, first, second)
-            }
-            Node::Index(base, place) => {
-                self.evaluate_index(world, active, stack, indexed, base, place)
-            }
-            Node::Range(base, low, high) => {
-                self.evaluate_range(world, active, stack, indexed, base, low, high)
-            }
-            Node::List(items) => self.evaluate_list(world, active, stack, indexed, items),
-            Node::Property(base, name) => {
-                self.evaluate_property(world, active, stack, indexed, base, name)
-            }
-            Node::VerbCall(base, name, items) => {
-                self.evaluate_verb_call(world, active, stack, indexed, base, name, items)
-            }
-            Node::Call(name, items) => {
-                self.evaluate_call(world, active, stack, indexed, name, items)
-            }
-            Node::Assign(target, value) => {
-                self.evaluate_assign(world, active, stack, indexed, target, value)
-            }
-            Node::Catch(body, codes, other) => {
-                self.evaluate_catch(world, active, stack, indexed, body, codes, other)
-            }
-        }
-    }
-
     /// Returns the outcome of a failure. Not inlined, so that nested expressions need no stack space for it.
     #[inline(never)]
     pub(crate) fn settled(
@@ -200,7 +138,8 @@ impl Task {
         ensures call { (name : List ℕ) → function_of name ≡ function → IsKnownFailure result → CallsFunction Faults (context_of stack.now None) name values (state_of self.old world.old active.old) (seen_answer result) (state_of self.new world.new active.new) }
         ensures ticks { self.new.ticks_left ≡ self.old.ticks_left }
     {
-        call_function(
+        let mut room = Vec::new(self.alloc);
+        let answer = call_function(
             self.alloc,
             world,
             active,
@@ -209,7 +148,10 @@ impl Task {
             &mut self.notices,
             function,
             values,
-        )
+            &mut room,
+        );
+        self.spare.keep_values(room);
+        answer
     }
 
     /// Continues a function that calls verbs at a stage; it may leave notices. Each call brings the function nearer
@@ -237,7 +179,8 @@ impl Task {
         )
     }
 
-    /// Evaluates items from left to right, in this memory, whose values are dropped. Inlined, so that nested lists and calls need its stack space once.
+    /// Evaluates items from left to right, in this memory, whose values are dropped. Inlined, so that nested lists and
+    /// calls need its stack space once.
     #[cycle(evaluation)]
     #[inline(always)]
     pub(crate) fn evaluate_all(

@@ -5,9 +5,7 @@ ghost use Rattle.moo_value.specs.Tree.{string as string_tree};
 ghost use Rattle.moo_value.specs.View.{tree};
 ghost use Rattle.moo_value.specs.declared.value.Value.{Value as ValueModel};
 ghost use Rattle.moo_value.specs.declared.error_code.ErrorCode.TheVariants.{VariableNotFound};
-ghost use Rattle.moo_syntax_ast.specs.declared.tree.Literal.{Literal};
-ghost use Rattle.moo_syntax_ast.specs.declared.tree.Literal.TheVariants.{Str};
-ghost use Rattle.moo_syntax_ast.specs.Tree.{literal, literal_value, variable, length_mark};
+ghost use Rattle.moo_syntax_ast.specs.Tree.{variable};
 ghost use Rattle.moo_syntax_lower.specs.Source.{source};
 ghost use Rattle.moo_eval_frame.specs.State.{Context};
 ghost use Rattle.moo_eval_frame.specs.Outcome.{fails, settled};
@@ -19,8 +17,8 @@ ghost use Rattle.moo_eval_semantics.specs.Meaning.{Evaluates};
 ghost use Rattle.moo_eval.specs.Seen.{state_of};
 
 use crate::interpreter::Task;
-use moo_eval_frame::{Activation, CallStack, Failure, Stop, measure, settle};
-use moo_syntax_ast::{Name, Text};
+use moo_eval_frame::{Activation, CallStack, Failure, Stop, settle};
+use moo_syntax_ast::Name;
 use moo_syntax_lower::Node;
 use moo_value::{ErrorCode, MooStr, Value};
 
@@ -66,54 +64,6 @@ impl Task {
             return None;
         }
         Some(value)
-    }
-
-    /// Returns the value of a literal, which takes a tick, whatever `$` measures.
-    #[inline(never)]
-    pub(crate) fn literal(
-        &mut self,
-        active: &Activation,
-        stack: &CallStack<'_>,
-        value: Value,
-    ) -> Result<Value, Stop>
-        ensures meaning { (l : Literal) (indexed : Option (Bor ValueModel)) (w : World) → tree value ≡ literal_value l → IsKnown result → Evaluates Faults (context_of stack.now indexed) (literal l) (state_of self.old w active.now) (seen_value result) (state_of self.new w active.now) }
-        ensures ticks { self.new.ticks_left ≤ self.old.ticks_left }
-    {
-        self.take_tick(active, stack)?;
-        Ok(value)
-    }
-
-    /// Returns the value of a literal string, which takes a tick, whatever `$` measures.
-    #[inline(never)]
-    pub(crate) fn text(
-        &mut self,
-        active: &Activation,
-        stack: &CallStack<'_>,
-        text: &Text,
-    ) -> Result<Value, Stop>
-        ensures meaning { (indexed : Option (Bor ValueModel)) (w : World) → IsKnown result → Evaluates Faults (context_of stack.now indexed) (literal (Str text.now)) (state_of self.old w active.now) (seen_value result) (state_of self.new w active.now) }
-        ensures ticks { self.new.ticks_left ≤ self.old.ticks_left }
-    {
-        self.take_tick(active, stack)?;
-        Ok(Value::Str(text.string().try_clone()?))
-    }
-
-    /// Returns the length of the indexed value, which takes a tick.
-    #[inline(never)]
-    pub(crate) fn length(
-        &mut self,
-        active: &Activation,
-        stack: &CallStack<'_>,
-        indexed: Option<&Value>,
-    ) -> Result<Value, Stop>
-        ensures meaning { (w : World) → IsKnown result → Evaluates Faults (context_of stack.now indexed.entry) length_mark (state_of self.old w active.now) (seen_value result) (state_of self.new w active.now) }
-        ensures ticks { self.new.ticks_left ≤ self.old.ticks_left }
-    {
-        self.take_tick(active, stack)?;
-        match measure(indexed) {
-            Ok(value) => Ok(value),
-            Err(failure) => self.settled(active, stack, failure),
-        }
     }
 }
 

@@ -1,331 +1,168 @@
-//! Evaluates nodes by their kind. Each takes a tick, computes its value, and raises an error of its own if the frame has
-//! the d bit. The functions are not inlined, so that nested expressions need stack space only for their own kinds.
-ghost use Rattle.std.specs.Prelude.{◌≤◌};
-ghost use Rattle.moo_syntax_ast.specs.Tree.{unary, binary, logic, conditional, index, range, list, property, verb_call, call, assign};
-ghost use Rattle.moo_syntax_lower.specs.Source.{source, source_items, source_codes};
-ghost use Rattle.moo_eval_frame.specs.Seen.{context_of, seen_value, catch_of, IsKnown};
+//! Evaluates nodes. Each takes a tick, computes its value, and raises an error of its own if the frame has the d bit.
+ghost use Rattle.std.specs.Prelude.{◌≡◌, ◌≤◌, Ok, IfSome, IfNone};
+ghost use Rattle.moo_value.specs.Tree.{integer, string};
+ghost use Rattle.moo_value.specs.View.{tree};
+ghost use Rattle.moo_syntax_ast.specs.Tree.{call};
+ghost use Rattle.moo_syntax_lower.specs.Source.{source, source_items};
+ghost use Rattle.moo_world_table.specs.World.{World as WorldModel};
+ghost use Rattle.moo_eval_frame.specs.State.{Context};
+ghost use Rattle.moo_eval_frame.specs.Seen.{context_of, seen_answer, seen_value, IsKnown, IsKnownFailure};
 ghost use Rattle.moo_builtin.specs.Telling.{Faults};
-ghost use Rattle.moo_eval_semantics.specs.Meaning.{Evaluates};
+ghost use Rattle.moo_eval_semantics.specs.Meaning.{Evaluates, Computes};
 ghost use Rattle.moo_eval.specs.Seen.{state_of};
 
 use crate::interpreter::Task;
-use moo_eval_frame::{Activation, CallStack, Stop};
-use moo_syntax_ast::operator::{BinaryOperator, LogicOperator, UnaryOperator};
-use moo_syntax_lower::{FunctionName, Node, NodeCodes, NodeItem};
+use moo_eval_frame::{Activation, CallStack, Failure, Stop, measure, read_variable};
+use moo_eval_integer::call_integer;
+use moo_syntax_ast::Text;
+use moo_syntax_lower::{FunctionName, Node, NodeItem};
 use moo_value::Value;
 use moo_world::World;
 
 impl Task {
-    /// Evaluates an operator with one operand.
+    /// Evaluates an expression that is no leaf. Not inlined, so that nested expressions need no stack space for all kinds.
     #[cycle(evaluation)]
     #[inline(never)]
-    pub(crate) fn evaluate_unary(
+    pub(crate) fn evaluate_node(
         &mut self,
         world: &mut World,
         active: &mut Activation,
         stack: &CallStack<'_>,
         indexed: Option<&Value>,
-        operator: UnaryOperator,
-        operand: &Node,
+        node: &Node,
     ) -> Result<Value, Stop>
-        ensures meaning { IsKnown result → Evaluates Faults (context_of stack.now indexed.entry) (unary operator (source operand.now)) (state_of self.old world.old active.old) (seen_value result) (state_of self.new world.new active.new) }
+        ensures meaning { IsKnown result → Evaluates Faults (context_of stack.now indexed.entry) (source node.now) (state_of self.old world.old active.old) (seen_value result) (state_of self.new world.new active.new) }
         ensures ticks { self.new.ticks_left ≤ self.old.ticks_left }
     {
-        self.take_tick(active, stack)?;
-        match self.unary(world, active, stack, indexed, operator, operand) {
-            Ok(value) => Ok(value),
-            Err(failure) => self.settled(active, stack, failure),
-        }
-    }
-
-    /// Evaluates an operator with two operands.
-    #[cycle(evaluation)]
-    #[inline(never)]
-    pub(crate) fn evaluate_binary(
-        &mut self,
-        world: &mut World,
-        active: &mut Activation,
-        stack: &CallStack<'_>,
-        indexed: Option<&Value>,
-        operator: BinaryOperator,
-        left: &Node,
-        right: &Node,
-    ) -> Result<Value, Stop>
-        ensures meaning { IsKnown result → Evaluates Faults (context_of stack.now indexed.entry) (binary operator (source left.now) (source right.now)) (state_of self.old world.old active.old) (seen_value result) (state_of self.new world.new active.new) }
-        ensures ticks { self.new.ticks_left ≤ self.old.ticks_left }
-    {
-        self.take_tick(active, stack)?;
-        match self.binary(world, active, stack, indexed, operator, left, right) {
-            Ok(value) => Ok(value),
-            Err(failure) => self.settled(active, stack, failure),
-        }
-    }
-
-    /// Evaluates an operator of arithmetic node by node.
-    #[cycle(evaluation)]
-    #[inline(never)]
-    pub(crate) fn evaluate_arithmetic(
-        &mut self,
-        world: &mut World,
-        active: &mut Activation,
-        stack: &CallStack<'_>,
-        indexed: Option<&Value>,
-        operator: BinaryOperator,
-        left: &Node,
-        right: &Node,
-    ) -> Result<Value, Stop>
-        ensures meaning { IsKnown result → Evaluates Faults (context_of stack.now indexed.entry) (binary operator (source left.now) (source right.now)) (state_of self.old world.old active.old) (seen_value result) (state_of self.new world.new active.new) }
-        ensures ticks { self.new.ticks_left ≤ self.old.ticks_left }
-    {
-        self.take_tick(active, stack)?;
-        match self.arithmetic(world, active, stack, indexed, operator, left, right) {
-            Ok(value) => Ok(value),
-            Err(failure) => self.settled(active, stack, failure),
-        }
-    }
-
-    /// Evaluates `left && right` or `left || right`.
-    #[cycle(evaluation)]
-    #[inline(never)]
-    pub(crate) fn evaluate_logic(
-        &mut self,
-        world: &mut World,
-        active: &mut Activation,
-        stack: &CallStack<'_>,
-        indexed: Option<&Value>,
-        operator: LogicOperator,
-        left: &Node,
-        right: &Node,
-    ) -> Result<Value, Stop>
-        ensures meaning { IsKnown result → Evaluates Faults (context_of stack.now indexed.entry) (logic operator (source left.now) (source right.now)) (state_of self.old world.old active.old) (seen_value result) (state_of self.new world.new active.new) }
-        ensures ticks { self.new.ticks_left ≤ self.old.ticks_left }
-    {
-        self.take_tick(active, stack)?;
-        match self.logic(world, active, stack, indexed, operator, left, right) {
-            Ok(value) => Ok(value),
-            Err(failure) => self.settled(active, stack, failure),
-        }
-    }
-
-    /// Evaluates `test ? first | second`.
-    #[cycle(evaluation)]
-    #[inline(never)]
-    pub(crate) fn evaluate_conditional(
-        &mut self,
-        world: &mut World,
-        active: &mut Activation,
-        stack: &CallStack<'_>,
-        indexed: Option<&Value>,
-        test: &Node,
-        first: &Node,
-        second: &Node,
-    ) -> Result<Value, Stop>
-        ensures meaning { IsKnown result → Evaluates Faults (context_of stack.now indexed.entry) (conditional (source test.now) (source first.now) (source second.now)) (state_of self.old world.old active.old) (seen_value result) (state_of self.new world.new active.new) }
-        ensures ticks { self.new.ticks_left ≤ self.old.ticks_left }
-    {
-        self.take_tick(active, stack)?;
-        match self.conditional(world, active, stack, indexed, test, first, second) {
-            Ok(value) => Ok(value),
-            Err(failure) => self.settled(active, stack, failure),
-        }
-    }
-
-    /// Evaluates `base[place]`.
-    #[cycle(evaluation)]
-    #[inline(never)]
-    pub(crate) fn evaluate_index(
-        &mut self,
-        world: &mut World,
-        active: &mut Activation,
-        stack: &CallStack<'_>,
-        indexed: Option<&Value>,
-        base: &Node,
-        place: &Node,
-    ) -> Result<Value, Stop>
-        ensures meaning { IsKnown result → Evaluates Faults (context_of stack.now indexed.entry) (index (source base.now) (source place.now)) (state_of self.old world.old active.old) (seen_value result) (state_of self.new world.new active.new) }
-        ensures ticks { self.new.ticks_left ≤ self.old.ticks_left }
-    {
-        if let Some(value) = self.try_element(active, base, place) {
+        if let Some(value) = self.try_node(active, node) {
             return Ok(value);
         }
-        self.evaluate_element(world, active, stack, indexed, base, place)
+        self.evaluate_parts(world, active, stack, indexed, node)
     }
 
-    // Evaluates `base[place]` that `try_element` has declined.
-    #[cycle(evaluation)]
-    #[inline(never)]
-    fn evaluate_element(
-        &mut self,
-        world: &mut World,
-        active: &mut Activation,
-        stack: &CallStack<'_>,
-        indexed: Option<&Value>,
-        base: &Node,
-        place: &Node,
-    ) -> Result<Value, Stop>
-        ensures meaning { IsKnown result → Evaluates Faults (context_of stack.now indexed.entry) (index (source base.now) (source place.now)) (state_of self.old world.old active.old) (seen_value result) (state_of self.new world.new active.new) }
+    /// Evaluates an operator of arithmetic, an element of a variable or the length of one at once, and takes its ticks.
+    /// `None` if that can't be; then nothing has changed.
+    #[inline(always)]
+    pub(crate) fn try_node(&mut self, active: &Activation, node: &Node) -> Option<Value>
+        ensures some { IfSome result (λ v. (w : WorldModel) (c : Context) → Evaluates Faults c (source node.now) (state_of self.old w active.now) (Ok (tree v)) (state_of self.new w active.now)) }
+        ensures none { IfNone result (self.new ≡ self.old) }
         ensures ticks { self.new.ticks_left ≤ self.old.ticks_left }
     {
-        self.take_tick(active, stack)?;
-        match self.index(world, active, stack, indexed, base, place) {
-            Ok(value) => Ok(value),
-            Err(failure) => self.settled(active, stack, failure),
+        match node {
+            Node::Arithmetic(operator, left, right) => {
+                let number = self.try_integers(active, *operator, left, right)?;
+                Some(Value::Int(number))
+            }
+            Node::Index(base, place) => self.try_element(active, base, place),
+            Node::Call(name, items) => {
+                let number = self.try_call(active, name, items)?;
+                Some(Value::Int(number))
+            }
+            _ => None,
         }
     }
 
-    /// Evaluates `base[low..high]`.
-    #[cycle(evaluation)]
-    #[inline(never)]
-    pub(crate) fn evaluate_range(
+    // Computes a call of `length` for a variable, and takes its ticks. `None` if that can't be, or for another call; then
+    // nothing has changed.
+    #[inline(always)]
+    fn try_call(
         &mut self,
-        world: &mut World,
-        active: &mut Activation,
-        stack: &CallStack<'_>,
-        indexed: Option<&Value>,
-        base: &Node,
-        low: &Node,
-        high: &Node,
-    ) -> Result<Value, Stop>
-        ensures meaning { IsKnown result → Evaluates Faults (context_of stack.now indexed.entry) (range (source base.now) (source low.now) (source high.now)) (state_of self.old world.old active.old) (seen_value result) (state_of self.new world.new active.new) }
-        ensures ticks { self.new.ticks_left ≤ self.old.ticks_left }
-    {
-        self.take_tick(active, stack)?;
-        match self.range(world, active, stack, indexed, base, low, high) {
-            Ok(value) => Ok(value),
-            Err(failure) => self.settled(active, stack, failure),
-        }
-    }
-
-    /// Evaluates a list of items.
-    #[cycle(evaluation)]
-    #[inline(never)]
-    pub(crate) fn evaluate_list(
-        &mut self,
-        world: &mut World,
-        active: &mut Activation,
-        stack: &CallStack<'_>,
-        indexed: Option<&Value>,
-        items: &[NodeItem],
-    ) -> Result<Value, Stop>
-        ensures meaning { IsKnown result → Evaluates Faults (context_of stack.now indexed.entry) (list (source_items items.now)) (state_of self.old world.old active.old) (seen_value result) (state_of self.new world.new active.new) }
-        ensures ticks { self.new.ticks_left ≤ self.old.ticks_left }
-    {
-        self.take_tick(active, stack)?;
-        match self.list(world, active, stack, indexed, items) {
-            Ok(value) => Ok(value),
-            Err(failure) => self.settled(active, stack, failure),
-        }
-    }
-
-    /// Evaluates `base.name`.
-    #[cycle(evaluation)]
-    #[inline(never)]
-    pub(crate) fn evaluate_property(
-        &mut self,
-        world: &mut World,
-        active: &mut Activation,
-        stack: &CallStack<'_>,
-        indexed: Option<&Value>,
-        base: &Node,
-        name: &Node,
-    ) -> Result<Value, Stop>
-        ensures meaning { IsKnown result → Evaluates Faults (context_of stack.now indexed.entry) (property (source base.now) (source name.now)) (state_of self.old world.old active.old) (seen_value result) (state_of self.new world.new active.new) }
-        ensures ticks { self.new.ticks_left ≤ self.old.ticks_left }
-    {
-        self.take_tick(active, stack)?;
-        match self.property(world, active, stack, indexed, base, name) {
-            Ok(value) => Ok(value),
-            Err(failure) => self.settled(active, stack, failure),
-        }
-    }
-
-    /// Evaluates a call of a verb.
-    #[cycle(evaluation)]
-    #[inline(never)]
-    pub(crate) fn evaluate_verb_call(
-        &mut self,
-        world: &mut World,
-        active: &mut Activation,
-        stack: &CallStack<'_>,
-        indexed: Option<&Value>,
-        base: &Node,
-        name: &Node,
-        items: &[NodeItem],
-    ) -> Result<Value, Stop>
-        ensures meaning { IsKnown result → Evaluates Faults (context_of stack.now indexed.entry) (verb_call (source base.now) (source name.now) (source_items items.now)) (state_of self.old world.old active.old) (seen_value result) (state_of self.new world.new active.new) }
-        ensures ticks { self.new.ticks_left ≤ self.old.ticks_left }
-    {
-        self.take_tick(active, stack)?;
-        match self.verb_call(world, active, stack, indexed, base, name, items) {
-            Ok(value) => Ok(value),
-            Err(failure) => self.settled(active, stack, failure),
-        }
-    }
-
-    /// Evaluates a call of a built-in function.
-    #[cycle(evaluation)]
-    #[inline(never)]
-    pub(crate) fn evaluate_call(
-        &mut self,
-        world: &mut World,
-        active: &mut Activation,
-        stack: &CallStack<'_>,
-        indexed: Option<&Value>,
+        active: &Activation,
         name: &FunctionName,
         items: &[NodeItem],
-    ) -> Result<Value, Stop>
-        ensures meaning { IsKnown result → Evaluates Faults (context_of stack.now indexed.entry) (call name.now (source_items items.now)) (state_of self.old world.old active.old) (seen_value result) (state_of self.new world.new active.new) }
+    ) -> Option<i32>
+        ensures some { IfSome result (λ n. (w : WorldModel) (c : Context) → Evaluates Faults c (call name.now (source_items items.now)) (state_of self.old w active.now) (Ok (integer n)) (state_of self.new w active.now)) }
+        ensures none { IfNone result (self.new ≡ self.old) }
         ensures ticks { self.new.ticks_left ≤ self.old.ticks_left }
     {
-        self.take_tick(active, stack)?;
-        match self.call(world, active, stack, indexed, name, items) {
-            Ok(value) => Ok(value),
-            Err(failure) => self.settled(active, stack, failure),
-        }
+        let mut left = self.ticks_left.left() as u32;
+        let number = call_integer(active, &mut left, name, items)?;
+        self.ticks_left.leave(left);
+        Some(number)
     }
 
-    /// Evaluates an assignment.
+    /// Takes the tick of an expression, computes its value from those of its parts, and settles an error of its own.
     #[cycle(evaluation)]
-    #[inline(never)]
-    pub(crate) fn evaluate_assign(
+    #[inline(always)]
+    pub(crate) fn evaluate_parts(
         &mut self,
         world: &mut World,
         active: &mut Activation,
         stack: &CallStack<'_>,
         indexed: Option<&Value>,
-        target: &Node,
-        value: &Node,
+        node: &Node,
     ) -> Result<Value, Stop>
-        ensures meaning { IsKnown result → Evaluates Faults (context_of stack.now indexed.entry) (assign (source target.now) (source value.now)) (state_of self.old world.old active.old) (seen_value result) (state_of self.new world.new active.new) }
+        ensures meaning { IsKnown result → Evaluates Faults (context_of stack.now indexed.entry) (source node.now) (state_of self.old world.old active.old) (seen_value result) (state_of self.new world.new active.new) }
         ensures ticks { self.new.ticks_left ≤ self.old.ticks_left }
     {
         self.take_tick(active, stack)?;
-        match self.assign(world, active, stack, indexed, target, value) {
+        match self.compute(world, active, stack, indexed, node) {
             Ok(value) => Ok(value),
             Err(failure) => self.settled(active, stack, failure),
         }
     }
 
-    /// Evaluates a catch.
+    /// Computes the value of an expression, whose tick was taken. Inlined; the functions for each kind aren't, so that
+    /// nested expressions need stack space only for their own kinds.
     #[cycle(evaluation)]
-    #[inline(never)]
-    pub(crate) fn evaluate_catch(
+    #[inline(always)]
+    pub(crate) fn compute(
         &mut self,
         world: &mut World,
         active: &mut Activation,
         stack: &CallStack<'_>,
         indexed: Option<&Value>,
-        body: &Node,
-        codes: &NodeCodes,
-        other: &Option<Box<Node>>,
-    ) -> Result<Value, Stop>
-        ensures meaning { IsKnown result → Evaluates Faults (context_of stack.now indexed.entry) (catch_of (source body.now) (source_codes codes.now) other.now) (state_of self.old world.old active.old) (seen_value result) (state_of self.new world.new active.new) }
+        node: &Node,
+    ) -> Result<Value, Failure>
+        ensures meaning { IsKnownFailure result → Computes Faults (context_of stack.now indexed.entry) (source node.now) (state_of self.old world.old active.old) (seen_answer result) (state_of self.new world.new active.new) }
         ensures ticks { self.new.ticks_left ≤ self.old.ticks_left }
     {
-        self.take_tick(active, stack)?;
-        match self.catch(world, active, stack, indexed, body, codes, other) {
-            Ok(value) => Ok(value),
-            Err(failure) => self.settled(active, stack, failure),
+        match node {
+            Node::Integer(number) => Ok(Value::Int(*number)),
+            Node::Object(number) => Ok(Value::Obj(*number)),
+            Node::Error(code) => Ok(Value::Err(*code)),
+            Node::Str(text) => copied_text(text),
+            Node::Variable(name) => read_variable(active, name),
+            Node::Length => measure(indexed),
+            Node::Unary(operator, operand) => {
+                self.unary(world, active, stack, indexed, *operator, operand)
+            }
+            Node::Binary(operator, left, right) => {
+                self.binary(world, active, stack, indexed, *operator, left, right)
+            }
+            Node::Arithmetic(operator, left, right) => {
+                self.arithmetic(world, active, stack, indexed, *operator, left, right)
+            }
+            Node::Logic(operator, left, right) => {
+                self.logic(world, active, stack, indexed, *operator, left, right)
+            }
+            Node::Conditional(test, first, second) => {
+                self.conditional(world, active, stack, indexed, test, first, second)
+            }
+            Node::Index(base, place) => self.index(world, active, stack, indexed, base, place),
+            Node::Range(base, low, high) => {
+                self.range(world, active, stack, indexed, base, low, high)
+            }
+            Node::List(items) => self.list(world, active, stack, indexed, items),
+            Node::Property(base, name) => self.property(world, active, stack, indexed, base, name),
+            Node::VerbCall(base, name, items) => {
+                self.verb_call(world, active, stack, indexed, base, name, items)
+            }
+            Node::Call(name, items) => self.call(world, active, stack, indexed, name, items),
+            Node::Assign(target, value) => {
+                self.assign(world, active, stack, indexed, target, value)
+            }
+            Node::Catch(body, codes, other) => {
+                self.catch(world, active, stack, indexed, body, codes, other)
+            }
         }
     }
+}
+
+// Returns the value of a literal string. Not inlined, so that nested expressions need no stack space for it.
+#[inline(never)]
+fn copied_text(text: &Text) -> Result<Value, Failure>
+    ensures { IsKnownFailure result → Ok (string text.now) ≡ seen_answer result }
+{
+    Ok(Value::Str(text.string().try_clone()?))
 }

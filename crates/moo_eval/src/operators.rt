@@ -25,7 +25,7 @@ use std::alloc::Global;
 
 impl Task {
     #[cycle(evaluation)]
-    #[inline(always)]
+    #[inline(never)]
     pub(crate) fn unary(
         &mut self,
         world: &mut World,
@@ -43,7 +43,7 @@ impl Task {
     }
 
     #[cycle(evaluation)]
-    #[inline(always)]
+    #[inline(never)]
     pub(crate) fn binary(
         &mut self,
         world: &mut World,
@@ -86,7 +86,7 @@ impl Task {
 
     // Evaluates `base[index]`; in the index `$` is the length of the base.
     #[cycle(evaluation)]
-    #[inline(always)]
+    #[inline(never)]
     pub(crate) fn index(
         &mut self,
         world: &mut World,
@@ -105,7 +105,7 @@ impl Task {
     }
 
     #[cycle(evaluation)]
-    #[inline(always)]
+    #[inline(never)]
     pub(crate) fn range(
         &mut self,
         world: &mut World,
@@ -126,7 +126,7 @@ impl Task {
     }
 
     #[cycle(evaluation)]
-    #[inline(always)]
+    #[inline(never)]
     pub(crate) fn list(
         &mut self,
         world: &mut World,

@@ -18,6 +18,7 @@ use moo_value::Value;
 use moo_world::World;
 
 impl Task {
+    /// Reads a property.
     #[cycle(evaluation)]
     #[inline(always)]
     pub(crate) fn property(
@@ -32,11 +33,48 @@ impl Task {
         ensures meaning { IsKnownFailure result → Computes Faults (context_of stack.now indexed.entry) (property (source base.now) (source name.now)) (state_of self.old world.old active.old) (seen_answer result) (state_of self.new world.new active.new) }
         ensures ticks { self.new.ticks_left ≤ self.old.ticks_left }
     {
-        let base = self.evaluate(world, active, stack, indexed, base)?;
-        if let Some(name) = as_text(name) {
-            self.take_tick(active, stack)?;
-            return read_written(self.alloc(), world, active.programmer, &base, name);
+        match as_text(name) {
+            Some(name) => self.literal_property(world, active, stack, indexed, base, name),
+            None => self.computed_property(world, active, stack, indexed, base, name),
         }
+    }
+
+    // Reads a property whose name is a literal.
+    #[cycle(evaluation)]
+    #[inline(never)]
+    fn literal_property(
+        &mut self,
+        world: &mut World,
+        active: &mut Activation,
+        stack: &CallStack<'_>,
+        indexed: Option<&Value>,
+        base: &Node,
+        name: &Text,
+    ) -> Result<Value, Failure>
+        ensures meaning { IsKnownFailure result → Computes Faults (context_of stack.now indexed.entry) (property (source base.now) (literal (Str name.now))) (state_of self.old world.old active.old) (seen_answer result) (state_of self.new world.new active.new) }
+        ensures ticks { self.new.ticks_left ≤ self.old.ticks_left }
+    {
+        let base = self.evaluate(world, active, stack, indexed, base)?;
+        self.take_tick(active, stack)?;
+        read_written(self.alloc(), world, active.programmer, &base, name)
+    }
+
+    // Reads a property whose name is computed.
+    #[cycle(evaluation)]
+    #[inline(never)]
+    fn computed_property(
+        &mut self,
+        world: &mut World,
+        active: &mut Activation,
+        stack: &CallStack<'_>,
+        indexed: Option<&Value>,
+        base: &Node,
+        name: &Node,
+    ) -> Result<Value, Failure>
+        ensures meaning { IsKnownFailure result → Computes Faults (context_of stack.now indexed.entry) (property (source base.now) (source name.now)) (state_of self.old world.old active.old) (seen_answer result) (state_of self.new world.new active.new) }
+        ensures ticks { self.new.ticks_left ≤ self.old.ticks_left }
+    {
+        let base = self.evaluate(world, active, stack, indexed, base)?;
         let name = self.evaluate(world, active, stack, indexed, name)?;
         read_property(self.alloc(), world, active.programmer, &base, &name)
     }

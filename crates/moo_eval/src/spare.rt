@@ -4,13 +4,13 @@ use moo_eval_frame::FrameMemory;
 use moo_value::Value;
 use std::alloc::Global;
 
-/// Holds the memory of frames that have ended, and that of the codes of catches. No more of each is kept than a task has
-/// frames.
+/// Holds the memory of frames that have ended, and that of the codes of catches and of the arguments of built-in
+/// functions. No more of each is kept than a task has frames.
 #[derive(Drop)]
 pub(crate) struct SpareMemory {
     alloc: Global,
     frames: Vec<FrameMemory>,
-    codes: Vec<Vec<Value>>,
+    values: Vec<Vec<Value>>,
 }
 
 impl SpareMemory {
@@ -19,7 +19,7 @@ impl SpareMemory {
         SpareMemory {
             alloc,
             frames: Vec::new(alloc),
-            codes: Vec::new(alloc),
+            values: Vec::new(alloc),
         }
     }
 
@@ -40,22 +40,22 @@ impl SpareMemory {
         }
     }
 
-    /// Takes out the memory of the codes of the catch that ended last.
+    /// Takes out memory for values: that of the codes of a catch or of the arguments of a function that has ended.
     #[inline(always)]
-    pub(crate) fn take_codes(&mut self) -> Vec<Value> {
-        match self.codes.pop() {
+    pub(crate) fn take_values(&mut self) -> Vec<Value> {
+        match self.values.pop() {
             Some(memory) => memory,
             None => Vec::new(self.alloc),
         }
     }
 
-    /// Keeps the memory of the codes of a catch, whose values are dropped.
+    /// Keeps the memory of these values, which are dropped.
     #[inline(always)]
-    pub(crate) fn keep_codes(&mut self, codes: Vec<Value>) {
-        let mut memory = codes;
+    pub(crate) fn keep_values(&mut self, values: Vec<Value>) {
+        let mut memory = values;
         memory.clear();
-        if memory.capacity() > 0 && self.codes.len() < MOST_FRAMES {
-            let _kept = self.codes.push(memory);
+        if memory.capacity() > 0 && self.values.len() < MOST_FRAMES {
+            let _kept = self.values.push(memory);
         }
     }
 }

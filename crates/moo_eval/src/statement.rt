@@ -1,6 +1,6 @@
 //! Runs statements.
-ghost use Rattle.std.specs.Prelude.{◌≢◌, ◌≤◌, ◌<◌, None, OnOk};
-ghost use Rattle.moo_syntax_ast.specs.Tree.{assign, performs, branches, no_statement};
+ghost use Rattle.std.specs.Prelude.{◌≡◌, ◌≢◌, ◌≤◌, ◌<◌, None, OnOk, IfSome};
+ghost use Rattle.moo_syntax_ast.specs.Tree.{assign, property, performs, branches, no_statement};
 ghost use Rattle.moo_syntax_lower.specs.declared.statement.NodeStmt.TheVariants.{Return};
 ghost use Rattle.moo_syntax_lower.specs.Source.{source};
 ghost use Rattle.moo_syntax_lower.specs.Blocks.{source_statement, source_block, source_arm_list};
@@ -114,52 +114,12 @@ impl Task {
         ensures meaning { IsKnown result → Does Faults (context_of stack.now None) (performs (source node.now)) (state_of self.old world.old active.old) (seen_flow result) (state_of self.new world.new active.new) }
         ensures ticks { self.new.ticks_left ≤ self.old.ticks_left }
     {
-        match node {
-            Node::Assign(target, value) => {
-                self.assign_target(world, active, stack, target, value)
-            }
-            _ => self.drop_value(world, active, stack, node),
-        }
-    }
-
-    // Runs an assignment whose own value is not used.
-    #[cycle(evaluation)]
-    #[inline(always)]
-    fn assign_target(
-        &mut self,
-        world: &mut World,
-        active: &mut Activation,
-        stack: &CallStack<'_>,
-        target: &Node,
-        value: &Node,
-    ) -> Result<Flow, Stop>
-        ensures meaning { IsKnown result → Does Faults (context_of stack.now None) (performs (assign (source target.now) (source value.now))) (state_of self.old world.old active.old) (seen_flow result) (state_of self.new world.new active.new) }
-        ensures ticks { self.new.ticks_left ≤ self.old.ticks_left }
-    {
-        match target {
-            Node::Property(base, name) => {
+        match as_set_property(node) {
+            Some((base, name, value)) => {
                 self.set_property(world, active, stack, base, name, value)
             }
-            _ => self.drop_assigned(world, active, stack, target, value),
+            None => self.drop_value(world, active, stack, node),
         }
-    }
-
-    // Evaluates an assignment to another target, and drops its value.
-    #[cycle(evaluation)]
-    #[inline(never)]
-    fn drop_assigned(
-        &mut self,
-        world: &mut World,
-        active: &mut Activation,
-        stack: &CallStack<'_>,
-        target: &Node,
-        value: &Node,
-    ) -> Result<Flow, Stop>
-        ensures meaning { IsKnown result → Does Faults (context_of stack.now None) (performs (assign (source target.now) (source value.now))) (state_of self.old world.old active.old) (seen_flow result) (state_of self.new world.new active.new) }
-        ensures ticks { self.new.ticks_left ≤ self.old.ticks_left }
-    {
-        let _value = self.evaluate_assign(world, active, stack, None, target, value)?;
-        Ok(Flow::Next)
     }
 
     // Evaluates an expression of any kind, and drops its value. Not inlined, so that nested statements need no stack space
@@ -266,5 +226,26 @@ impl Task {
             }
         }
         Ok(Flow::Next)
+    }
+}
+
+// Returns the object, the name and the value, if the expression is an assignment to a property.
+fn as_set_property(node: &Node) -> Option<(&Node, &Node, &Node)>
+    ensures { IfSome result (λ p. source node.now ≡ assign (property (source p.0.now) (source p.1.now)) (source p.2.now)) }
+{
+    let Node::Assign(target, value) = node else {
+        return None;
+    };
+    let (base, name) = as_property(target)?;
+    Some((base, name, value))
+}
+
+// Returns the object and the name, if the expression is a property.
+fn as_property(node: &Node) -> Option<(&Node, &Node)>
+    ensures { IfSome result (λ p. source node.now ≡ property (source p.0.now) (source p.1.now)) }
+{
+    match node {
+        Node::Property(base, name) => Some((base, name)),
+        _ => None,
     }
 }

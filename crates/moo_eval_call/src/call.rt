@@ -31,7 +31,8 @@ use std::alloc::{AllocError, Global};
 /// ticks are left, or its connections, one that leaves a notice, or a plain one. A wrong number of arguments raises
 /// E_ARGS, then one of a wrong type E_TYPE, then an object that isn't valid E_INVARG. The function's own tests
 /// follow, and the programmer's right comes last. An unknown function, and one that calls verbs, raises E_INVARG. If
-/// there are more arguments than the function takes, lists that were spliced in are not copied.
+/// there are more arguments than the function takes, lists that were spliced in are not copied. The memory of the
+/// arguments comes into `room`, which is for the next call.
 pub fn call_function(
     alloc: Global,
     world: &mut World,
@@ -41,6 +42,7 @@ pub fn call_function(
     notices: &mut Vec<Notice>,
     function: Option<Function>,
     values: Gathered,
+    room: &mut Vec<Value>,
 ) -> Result<Value, Failure>
     ensures { (name : List ℕ) → function_of name ≡ function → IsKnownFailure result → CallsFunction Faults (context_of stack.now None) name values (state_at ticks.now notices.old.items world.old active.old) (seen_answer result) (state_at ticks.now notices.new.items world.new active.new) }
 {
@@ -50,7 +52,7 @@ pub fn call_function(
                 alloc, world, active, stack, ticks, notices, function, values,
             )
         }
-        None => plain(alloc, world, active, stack, function, values),
+        None => plain(alloc, world, active, stack, function, values, room),
     }
 }
 
@@ -110,6 +112,7 @@ fn plain(
     stack: &CallStack<'_>,
     function: Option<Function>,
     values: Gathered,
+    room: &mut Vec<Value>,
 ) -> Result<Value, Failure>
     ensures { (name : List ℕ) (ticks : ℕ) (notices : List Notice) → function_of name ≡ function → IsKnownFailure result → ComesTo (CallsPlain Faults name values world.old (caller (context_of stack.now None) (state_at ticks notices world.old active.now))) (context_of stack.now None) (state_at ticks notices world.old active.now) (seen_answer result) (state_at ticks notices world.new active.now) }
 {
@@ -117,7 +120,7 @@ fn plain(
         programmer: active.programmer,
         moment: stack.surroundings.moment,
     };
-    match outcome(alloc, function, values, world, caller) {
+    match outcome(alloc, function, values, world, caller, room) {
         Outcome::Value(value) => Ok(value),
         Outcome::Raise(code, message, value) => {
             raised_here(alloc, stack, active, code, message, value)
@@ -133,6 +136,7 @@ fn outcome(
     values: Gathered,
     world: &mut World,
     caller: Caller,
+    room: &mut Vec<Value>,
 ) -> Outcome
     ensures { (name : List ℕ) → function_of name ≡ function → IsReply result world.old world.new (CallsPlain Faults name values world.old caller) }
 {
@@ -146,7 +150,7 @@ fn outcome(
         Function::Tostr => settled(alloc, joined_text(alloc, values)),
         Function::Min => settled(alloc, extreme_number(Extreme::Least, values)),
         Function::Max => settled(alloc, extreme_number(Extreme::Greatest, values)),
-        _ => called(alloc, found, values, world, caller),
+        _ => called(alloc, found, values, world, caller, room),
     }
 }
 
@@ -157,11 +161,16 @@ fn called(
     values: Gathered,
     world: &mut World,
     caller: Caller,
+    room: &mut Vec<Value>,
 ) -> Outcome
     ensures { (name : List ℕ) → function_of name ≡ Some function → IsReply result world.old world.new (CallsPlain Faults name values world.old caller) }
 {
     match values.into_values(alloc) {
-        Ok(mut args) => call_found(alloc, Some(function), &mut args, world, caller),
+        Ok(mut args) => {
+            let outcome = call_found(alloc, Some(function), &mut args, world, caller);
+            *room = args;
+            outcome
+        }
         Err(AllocError) => Outcome::Memory,
     }
 }

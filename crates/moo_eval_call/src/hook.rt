@@ -54,7 +54,7 @@ fn call_found<'a>(
 ) -> Result<Progress<'a>, Failure>
     ensures { found_verb world.now o name.now ≡ Ok (found_of found.entry) → IsKnownFailure result → hook (calling_of stack.now active.now) world.now function.now o name.now (arguments_of what) stage ≡ seen_progress result }
 {
-    let verb = text(alloc, name)?;
+    let verb = name_of_hook(alloc, &found.verb.names, name)?;
     let args = arguments(alloc, what)?;
     let called = enter_found(alloc, world, stack, active, o, found, &verb, args)?;
     Ok(Progress::verb_next(alloc, through(function, called), stage)?)
@@ -78,6 +78,16 @@ pub(crate) fn through<'a>(function: &'static str, called: Called<'a>) -> Called<
         },
         given,
     }
+}
+
+// Returns the name of a hook. A verb that has only this name shares it.
+fn name_of_hook(alloc: Global, names: &MooStr, name: &str) -> Result<MooStr, AllocError>
+    ensures { IfOk result (λ s. s ≡ name.now) }
+{
+    if names.as_bytes() == name.as_bytes() {
+        return names.try_clone();
+    }
+    text(alloc, name)
 }
 
 /// Returns a string of these bytes.

@@ -1,8 +1,10 @@
 //! Elements of lists, and letters of strings, in variables.
-ghost use Rattle.std.specs.Prelude.{◌≡◌, ◌≤◌, suc, pos, IsTrue, IsFalse, IfSome};
+ghost use Rattle.std.specs.Prelude.{◌≡◌, ◌≤◌, suc, pos, Ok, IsTrue, IsFalse, IfSome};
+ghost use Rattle.moo_value.specs.Tree.{integer, list_of};
 ghost use Rattle.moo_value.specs.View.{tree};
 ghost use Rattle.moo_syntax_ast.specs.Tree.{variable, index};
 ghost use Rattle.moo_syntax_lower.specs.Source.{source};
+ghost use Rattle.moo_builtin_operator.specs.Places.{index_of};
 ghost use Rattle.moo_eval_frame.specs.Seen.{variables_of};
 ghost use Rattle.moo_eval_integer.specs.Integers.{GivesValue};
 ghost use Rattle.moo_eval_integer.specs.Puts.{PutsInteger};
@@ -13,7 +15,7 @@ use moo_builtin_operator as operation;
 use moo_eval_frame::Activation;
 use moo_syntax_ast::Name;
 use moo_syntax_lower::Node;
-use moo_value::Value;
+use moo_value::{MooList, Value};
 use std::alloc::Global;
 
 /// Returns `name[place]`, and takes its ticks from `left`. `None` if the place isn't computed from integers and variables
@@ -36,6 +38,22 @@ pub fn element_of(
     match operation::index(alloc, base, &Value::Int(place)) {
         Ok(value) => Some(value),
         Err(_) => None,
+    }
+}
+
+/// Returns the integer at a place of a list. `None` if there is no such place or no integer there.
+#[inline(always)]
+pub(crate) fn integer_at(list: &MooList, place: i32) -> Option<i32>
+    ensures { IfSome result (λ n. index_of (list_of list.now) (integer place) ≡ Ok (integer n)) }
+{
+    let index = elements_before(place)?;
+    let elements = list.elements();
+    if index >= elements.len() {
+        return None;
+    }
+    match &elements[index] {
+        Value::Int(number) => Some(*number),
+        _ => None,
     }
 }
 

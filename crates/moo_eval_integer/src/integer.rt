@@ -4,12 +4,14 @@ ghost use Rattle.moo_value.specs.Tree.{Tree, integer};
 ghost use Rattle.moo_value.specs.Compare.{folded};
 ghost use Rattle.moo_syntax_ast.specs.declared.operator.BinaryOperator.TheVariants.{Add};
 ghost use Rattle.moo_syntax_ast.specs.declared.tree.Literal.TheVariants.{Integer};
-ghost use Rattle.moo_syntax_ast.specs.Tree.{literal, variable, binary};
+ghost use Rattle.moo_syntax_ast.specs.Tree.{literal, variable, binary, index};
 ghost use Rattle.moo_syntax_lower.specs.Source.{source};
 ghost use Rattle.moo_builtin_operator.specs.Truth.{is_true};
 ghost use Rattle.moo_eval_frame.specs.Seen.{indexed_of, variables_of};
 ghost use Rattle.moo_eval_integer.specs.Integers.{GivesInteger};
 
+use crate::element::integer_at;
+use crate::length::call_integer;
 use crate::ticks::take;
 use moo_eval_access::number_of;
 use moo_eval_frame::Activation;
@@ -19,8 +21,8 @@ use moo_syntax_lower::Node;
 use moo_value::Value;
 
 /// Returns the integer of an operator between two nodes, and takes its ticks from `left`. `None` if a node isn't an
-/// integer, a variable or such an operator, if a variable holds another value or none, if the operator may fail, or if
-/// ticks are missing. Then `left` may have fallen.
+/// integer, a variable, an element or the length of one, or such an operator, if one has another value or none, if the
+/// operator may fail, or if ticks are missing. Then `left` may have fallen.
 #[cycle(integer)]
 pub fn arithmetic_integer(
     active: &Activation,
@@ -66,7 +68,42 @@ pub(crate) fn integer_of(active: &Activation, left: &mut u32, node: &Node) -> Op
     if let Node::Arithmetic(operator, a, b) = node {
         return arithmetic_integer(active, left, *operator, a, b);
     }
-    None
+    part_integer(active, left, node)
+}
+
+// Returns the integer of an element of a variable or of its length, likewise. Not inlined, so that operators between
+// integers stay short.
+#[cycle(integer)]
+#[inline(never)]
+fn part_integer(active: &Activation, left: &mut u32, node: &Node) -> Option<i32>
+    ensures value { IfSome result (λ n. GivesInteger (variables_of active.now.variables) left.old (source node.now) n left.new) }
+    ensures ticks { left.new ≤ left.old }
+{
+    match node {
+        Node::Index(base, place) => element_integer(active, left, base, place),
+        Node::Call(name, items) => call_integer(active, left, name, items),
+        _ => None,
+    }
+}
+
+// Returns the integer at a place of the list in a variable, likewise.
+#[cycle(integer)]
+#[inline(always)]
+fn element_integer(active: &Activation, left: &mut u32, base: &Node, place: &Node) -> Option<i32>
+    ensures value { IfSome result (λ n. GivesInteger (variables_of active.now.variables) left.old (index (source base.now) (source place.now)) n left.new) }
+    ensures ticks { left.new ≤ left.old }
+{
+    let Node::Variable(name) = base else {
+        return None;
+    };
+    let held = active.variables.get(name)?;
+    let Value::List(list) = held else {
+        return None;
+    };
+    take(left)?;
+    take(left)?;
+    let place = integer_of(active, left, place)?;
+    integer_at(list, place)
 }
 
 #[inline(always)]

@@ -88,166 +88,6 @@ pub not_passes-returns-in_err-take_tick-clause-err : goal.not_passes-returns-in_
 not_passes-returns-in_err-take_tick-clause-err t c =
     let p = err_from_is_err_and c.from_residual.result c.from_residual.ensures.1 in rw (p.1, p.2) (λ k. let h = c.in_err-take_tick.ensures.spent k in rw (c.in_err-take_tick.ensures.kept, h.1) (spent h.0))
 
-pub evaluate_node-returns-in-List-clause-meaning : goal.evaluate_node-returns-in-List-clause-meaning
-evaluate_node-returns-in-List-clause-meaning t c =
-    λ k. rw (c.in-List.is, row_items, ← c.deref-in-List.ensures.value) (c.evaluate_list.ensures.meaning k)
-
-pub evaluate_unary-returns-in-Ok-clause-meaning : goal.evaluate_unary-returns-in-Ok-clause-meaning
-evaluate_unary-returns-in-Ok-clause-meaning t c =
-    λ k. begins c.in_ok-take_tick.ensures.taken (rw (c.in_ok-take_tick.ensures.left, c.in-Ok.is) at (c.unary.ensures.meaning (rw c.in-Ok.is tt))) refl
-
-pub evaluate_unary-returns-in-Err-clause-meaning : goal.evaluate_unary-returns-in-Err-clause-meaning
-evaluate_unary-returns-in-Err-clause-meaning t c =
-    λ k. begins c.in_ok-take_tick.ensures.taken (rw (c.in_ok-take_tick.ensures.left, c.in-Err.is) at (c.unary.ensures.meaning (rw c.in-Err.is (c.settled.ensures.known k)))) (c.settled.ensures.outcome k)
-
-pub evaluate_unary-returns-in_err-take_tick-clause-meaning : goal.evaluate_unary-returns-in_err-take_tick-clause-meaning
-evaluate_unary-returns-in_err-take_tick-clause-meaning t c =
-    let p = err_from_is_err_and c.from_residual.result c.from_residual.ensures.1 in rw (p.1, p.2) (λ k. let h = c.in_err-take_tick.ensures.spent k in rw (c.in_err-take_tick.ensures.kept, h.1) (spent h.0))
-
-pub evaluate_binary-returns-in-Ok-clause-meaning : goal.evaluate_binary-returns-in-Ok-clause-meaning
-evaluate_binary-returns-in-Ok-clause-meaning t c =
-    λ k. begins c.in_ok-take_tick.ensures.taken (rw (c.in_ok-take_tick.ensures.left, c.in-Ok.is) at (c.binary.ensures.meaning (rw c.in-Ok.is tt))) refl
-
-pub evaluate_binary-returns-in-Err-clause-meaning : goal.evaluate_binary-returns-in-Err-clause-meaning
-evaluate_binary-returns-in-Err-clause-meaning t c =
-    λ k. begins c.in_ok-take_tick.ensures.taken (rw (c.in_ok-take_tick.ensures.left, c.in-Err.is) at (c.binary.ensures.meaning (rw c.in-Err.is (c.settled.ensures.known k)))) (c.settled.ensures.outcome k)
-
-pub evaluate_binary-returns-in_err-take_tick-clause-meaning : goal.evaluate_binary-returns-in_err-take_tick-clause-meaning
-evaluate_binary-returns-in_err-take_tick-clause-meaning t c =
-    let p = err_from_is_err_and c.from_residual.result c.from_residual.ensures.1 in rw (p.1, p.2) (λ k. let h = c.in_err-take_tick.ensures.spent k in rw (c.in_err-take_tick.ensures.kept, h.1) (spent h.0))
-
-pub evaluate_arithmetic-returns-in-Ok-clause-meaning : goal.evaluate_arithmetic-returns-in-Ok-clause-meaning
-evaluate_arithmetic-returns-in-Ok-clause-meaning t c =
-    λ k. begins c.in_ok-take_tick.ensures.taken (rw (c.in_ok-take_tick.ensures.left, c.in-Ok.is) at (c.arithmetic.ensures.meaning (rw c.in-Ok.is tt))) refl
-
-pub evaluate_arithmetic-returns-in-Err-clause-meaning : goal.evaluate_arithmetic-returns-in-Err-clause-meaning
-evaluate_arithmetic-returns-in-Err-clause-meaning t c =
-    λ k. begins c.in_ok-take_tick.ensures.taken (rw (c.in_ok-take_tick.ensures.left, c.in-Err.is) at (c.arithmetic.ensures.meaning (rw c.in-Err.is (c.settled.ensures.known k)))) (c.settled.ensures.outcome k)
-
-pub evaluate_arithmetic-returns-in_err-take_tick-clause-meaning : goal.evaluate_arithmetic-returns-in_err-take_tick-clause-meaning
-evaluate_arithmetic-returns-in_err-take_tick-clause-meaning t c =
-    let p = err_from_is_err_and c.from_residual.result c.from_residual.ensures.1 in rw (p.1, p.2) (λ k. let h = c.in_err-take_tick.ensures.spent k in rw (c.in_err-take_tick.ensures.kept, h.1) (spent h.0))
-
-pub evaluate_logic-returns-in-Ok-clause-meaning : goal.evaluate_logic-returns-in-Ok-clause-meaning
-evaluate_logic-returns-in-Ok-clause-meaning t c =
-    λ k. begins c.in_ok-take_tick.ensures.taken (rw (c.in_ok-take_tick.ensures.left, c.in-Ok.is) at (c.logic.ensures.meaning (rw c.in-Ok.is tt))) refl
-
-pub evaluate_logic-returns-in-Err-clause-meaning : goal.evaluate_logic-returns-in-Err-clause-meaning
-evaluate_logic-returns-in-Err-clause-meaning t c =
-    λ k. begins c.in_ok-take_tick.ensures.taken (rw (c.in_ok-take_tick.ensures.left, c.in-Err.is) at (c.logic.ensures.meaning (rw c.in-Err.is (c.settled.ensures.known k)))) (c.settled.ensures.outcome k)
-
-pub evaluate_logic-returns-in_err-take_tick-clause-meaning : goal.evaluate_logic-returns-in_err-take_tick-clause-meaning
-evaluate_logic-returns-in_err-take_tick-clause-meaning t c =
-    let p = err_from_is_err_and c.from_residual.result c.from_residual.ensures.1 in rw (p.1, p.2) (λ k. let h = c.in_err-take_tick.ensures.spent k in rw (c.in_err-take_tick.ensures.kept, h.1) (spent h.0))
-
-pub evaluate_conditional-returns-in-Ok-clause-meaning : goal.evaluate_conditional-returns-in-Ok-clause-meaning
-evaluate_conditional-returns-in-Ok-clause-meaning t c =
-    λ k. begins c.in_ok-take_tick.ensures.taken (rw (c.in_ok-take_tick.ensures.left, c.in-Ok.is) at (c.conditional.ensures.meaning (rw c.in-Ok.is tt))) refl
-
-pub evaluate_conditional-returns-in-Err-clause-meaning : goal.evaluate_conditional-returns-in-Err-clause-meaning
-evaluate_conditional-returns-in-Err-clause-meaning t c =
-    λ k. begins c.in_ok-take_tick.ensures.taken (rw (c.in_ok-take_tick.ensures.left, c.in-Err.is) at (c.conditional.ensures.meaning (rw c.in-Err.is (c.settled.ensures.known k)))) (c.settled.ensures.outcome k)
-
-pub evaluate_conditional-returns-in_err-take_tick-clause-meaning : goal.evaluate_conditional-returns-in_err-take_tick-clause-meaning
-evaluate_conditional-returns-in_err-take_tick-clause-meaning t c =
-    let p = err_from_is_err_and c.from_residual.result c.from_residual.ensures.1 in rw (p.1, p.2) (λ k. let h = c.in_err-take_tick.ensures.spent k in rw (c.in_err-take_tick.ensures.kept, h.1) (spent h.0))
-
-pub evaluate_element-returns-in-Ok-clause-meaning : goal.evaluate_element-returns-in-Ok-clause-meaning
-evaluate_element-returns-in-Ok-clause-meaning t c =
-    λ k. begins c.in_ok-take_tick.ensures.taken (rw (c.in_ok-take_tick.ensures.left, c.in-Ok.is) at (c.index.ensures.meaning (rw c.in-Ok.is tt))) refl
-
-pub evaluate_element-returns-in-Err-clause-meaning : goal.evaluate_element-returns-in-Err-clause-meaning
-evaluate_element-returns-in-Err-clause-meaning t c =
-    λ k. begins c.in_ok-take_tick.ensures.taken (rw (c.in_ok-take_tick.ensures.left, c.in-Err.is) at (c.index.ensures.meaning (rw c.in-Err.is (c.settled.ensures.known k)))) (c.settled.ensures.outcome k)
-
-pub evaluate_element-returns-in_err-take_tick-clause-meaning : goal.evaluate_element-returns-in_err-take_tick-clause-meaning
-evaluate_element-returns-in_err-take_tick-clause-meaning t c =
-    let p = err_from_is_err_and c.from_residual.result c.from_residual.ensures.1 in rw (p.1, p.2) (λ k. let h = c.in_err-take_tick.ensures.spent k in rw (c.in_err-take_tick.ensures.kept, h.1) (spent h.0))
-
-pub evaluate_range-returns-in-Ok-clause-meaning : goal.evaluate_range-returns-in-Ok-clause-meaning
-evaluate_range-returns-in-Ok-clause-meaning t c =
-    λ k. begins c.in_ok-take_tick.ensures.taken (rw (c.in_ok-take_tick.ensures.left, c.in-Ok.is) at (c.range.ensures.meaning (rw c.in-Ok.is tt))) refl
-
-pub evaluate_range-returns-in-Err-clause-meaning : goal.evaluate_range-returns-in-Err-clause-meaning
-evaluate_range-returns-in-Err-clause-meaning t c =
-    λ k. begins c.in_ok-take_tick.ensures.taken (rw (c.in_ok-take_tick.ensures.left, c.in-Err.is) at (c.range.ensures.meaning (rw c.in-Err.is (c.settled.ensures.known k)))) (c.settled.ensures.outcome k)
-
-pub evaluate_range-returns-in_err-take_tick-clause-meaning : goal.evaluate_range-returns-in_err-take_tick-clause-meaning
-evaluate_range-returns-in_err-take_tick-clause-meaning t c =
-    let p = err_from_is_err_and c.from_residual.result c.from_residual.ensures.1 in rw (p.1, p.2) (λ k. let h = c.in_err-take_tick.ensures.spent k in rw (c.in_err-take_tick.ensures.kept, h.1) (spent h.0))
-
-pub evaluate_list-returns-in-Ok-clause-meaning : goal.evaluate_list-returns-in-Ok-clause-meaning
-evaluate_list-returns-in-Ok-clause-meaning t c =
-    λ k. begins c.in_ok-take_tick.ensures.taken (rw (c.in_ok-take_tick.ensures.left, c.in-Ok.is) at (c.list.ensures.meaning (rw c.in-Ok.is tt))) refl
-
-pub evaluate_list-returns-in-Err-clause-meaning : goal.evaluate_list-returns-in-Err-clause-meaning
-evaluate_list-returns-in-Err-clause-meaning t c =
-    λ k. begins c.in_ok-take_tick.ensures.taken (rw (c.in_ok-take_tick.ensures.left, c.in-Err.is) at (c.list.ensures.meaning (rw c.in-Err.is (c.settled.ensures.known k)))) (c.settled.ensures.outcome k)
-
-pub evaluate_list-returns-in_err-take_tick-clause-meaning : goal.evaluate_list-returns-in_err-take_tick-clause-meaning
-evaluate_list-returns-in_err-take_tick-clause-meaning t c =
-    let p = err_from_is_err_and c.from_residual.result c.from_residual.ensures.1 in rw (p.1, p.2) (λ k. let h = c.in_err-take_tick.ensures.spent k in rw (c.in_err-take_tick.ensures.kept, h.1) (spent h.0))
-
-pub evaluate_property-returns-in-Ok-clause-meaning : goal.evaluate_property-returns-in-Ok-clause-meaning
-evaluate_property-returns-in-Ok-clause-meaning t c =
-    λ k. begins c.in_ok-take_tick.ensures.taken (rw (c.in_ok-take_tick.ensures.left, c.in-Ok.is) at (c.property.ensures.meaning (rw c.in-Ok.is tt))) refl
-
-pub evaluate_property-returns-in-Err-clause-meaning : goal.evaluate_property-returns-in-Err-clause-meaning
-evaluate_property-returns-in-Err-clause-meaning t c =
-    λ k. begins c.in_ok-take_tick.ensures.taken (rw (c.in_ok-take_tick.ensures.left, c.in-Err.is) at (c.property.ensures.meaning (rw c.in-Err.is (c.settled.ensures.known k)))) (c.settled.ensures.outcome k)
-
-pub evaluate_property-returns-in_err-take_tick-clause-meaning : goal.evaluate_property-returns-in_err-take_tick-clause-meaning
-evaluate_property-returns-in_err-take_tick-clause-meaning t c =
-    let p = err_from_is_err_and c.from_residual.result c.from_residual.ensures.1 in rw (p.1, p.2) (λ k. let h = c.in_err-take_tick.ensures.spent k in rw (c.in_err-take_tick.ensures.kept, h.1) (spent h.0))
-
-pub evaluate_verb_call-returns-in-Ok-clause-meaning : goal.evaluate_verb_call-returns-in-Ok-clause-meaning
-evaluate_verb_call-returns-in-Ok-clause-meaning t c =
-    λ k. begins c.in_ok-take_tick.ensures.taken (rw (c.in_ok-take_tick.ensures.left, c.in-Ok.is) at (c.verb_call.ensures.meaning (rw c.in-Ok.is tt))) refl
-
-pub evaluate_verb_call-returns-in-Err-clause-meaning : goal.evaluate_verb_call-returns-in-Err-clause-meaning
-evaluate_verb_call-returns-in-Err-clause-meaning t c =
-    λ k. begins c.in_ok-take_tick.ensures.taken (rw (c.in_ok-take_tick.ensures.left, c.in-Err.is) at (c.verb_call.ensures.meaning (rw c.in-Err.is (c.settled.ensures.known k)))) (c.settled.ensures.outcome k)
-
-pub evaluate_verb_call-returns-in_err-take_tick-clause-meaning : goal.evaluate_verb_call-returns-in_err-take_tick-clause-meaning
-evaluate_verb_call-returns-in_err-take_tick-clause-meaning t c =
-    let p = err_from_is_err_and c.from_residual.result c.from_residual.ensures.1 in rw (p.1, p.2) (λ k. let h = c.in_err-take_tick.ensures.spent k in rw (c.in_err-take_tick.ensures.kept, h.1) (spent h.0))
-
-pub evaluate_call-returns-in-Ok-clause-meaning : goal.evaluate_call-returns-in-Ok-clause-meaning
-evaluate_call-returns-in-Ok-clause-meaning t c =
-    λ k. begins c.in_ok-take_tick.ensures.taken (rw (c.in_ok-take_tick.ensures.left, c.in-Ok.is) at (c.call.ensures.meaning (rw c.in-Ok.is tt))) refl
-
-pub evaluate_call-returns-in-Err-clause-meaning : goal.evaluate_call-returns-in-Err-clause-meaning
-evaluate_call-returns-in-Err-clause-meaning t c =
-    λ k. begins c.in_ok-take_tick.ensures.taken (rw (c.in_ok-take_tick.ensures.left, c.in-Err.is) at (c.call.ensures.meaning (rw c.in-Err.is (c.settled.ensures.known k)))) (c.settled.ensures.outcome k)
-
-pub evaluate_call-returns-in_err-take_tick-clause-meaning : goal.evaluate_call-returns-in_err-take_tick-clause-meaning
-evaluate_call-returns-in_err-take_tick-clause-meaning t c =
-    let p = err_from_is_err_and c.from_residual.result c.from_residual.ensures.1 in rw (p.1, p.2) (λ k. let h = c.in_err-take_tick.ensures.spent k in rw (c.in_err-take_tick.ensures.kept, h.1) (spent h.0))
-
-pub evaluate_assign-returns-in-Ok-clause-meaning : goal.evaluate_assign-returns-in-Ok-clause-meaning
-evaluate_assign-returns-in-Ok-clause-meaning t c =
-    λ k. begins c.in_ok-take_tick.ensures.taken (rw (c.in_ok-take_tick.ensures.left, c.in-Ok.is) at (c.assign.ensures.meaning (rw c.in-Ok.is tt))) refl
-
-pub evaluate_assign-returns-in-Err-clause-meaning : goal.evaluate_assign-returns-in-Err-clause-meaning
-evaluate_assign-returns-in-Err-clause-meaning t c =
-    λ k. begins c.in_ok-take_tick.ensures.taken (rw (c.in_ok-take_tick.ensures.left, c.in-Err.is) at (c.assign.ensures.meaning (rw c.in-Err.is (c.settled.ensures.known k)))) (c.settled.ensures.outcome k)
-
-pub evaluate_assign-returns-in_err-take_tick-clause-meaning : goal.evaluate_assign-returns-in_err-take_tick-clause-meaning
-evaluate_assign-returns-in_err-take_tick-clause-meaning t c =
-    let p = err_from_is_err_and c.from_residual.result c.from_residual.ensures.1 in rw (p.1, p.2) (λ k. let h = c.in_err-take_tick.ensures.spent k in rw (c.in_err-take_tick.ensures.kept, h.1) (spent h.0))
-
-pub evaluate_catch-returns-in-Ok-clause-meaning : goal.evaluate_catch-returns-in-Ok-clause-meaning
-evaluate_catch-returns-in-Ok-clause-meaning t c =
-    λ k. begins c.in_ok-take_tick.ensures.taken (rw (c.in_ok-take_tick.ensures.left, c.in-Ok.is) at (c.catch.ensures.meaning (rw c.in-Ok.is tt))) refl
-
-pub evaluate_catch-returns-in-Err-clause-meaning : goal.evaluate_catch-returns-in-Err-clause-meaning
-evaluate_catch-returns-in-Err-clause-meaning t c =
-    λ k. begins c.in_ok-take_tick.ensures.taken (rw (c.in_ok-take_tick.ensures.left, c.in-Err.is) at (c.catch.ensures.meaning (rw c.in-Err.is (c.settled.ensures.known k)))) (c.settled.ensures.outcome k)
-
-pub evaluate_catch-returns-in_err-take_tick-clause-meaning : goal.evaluate_catch-returns-in_err-take_tick-clause-meaning
-evaluate_catch-returns-in_err-take_tick-clause-meaning t c =
-    let p = err_from_is_err_and c.from_residual.result c.from_residual.ensures.1 in rw (p.1, p.2) (λ k. let h = c.in_err-take_tick.ensures.spent k in rw (c.in_err-take_tick.ensures.kept, h.1) (spent h.0))
-
 pub unary-returns-clause-meaning : goal.unary-returns-clause-meaning
 unary-returns-clause-meaning t c =
     λ k. applies (element_then (c.in_ok-operand.ensures.meaning tt) no_more refl) no_more (unary_is (ap answers c.in_ok-unary.ensures))
@@ -449,16 +289,20 @@ pub proceed-returns-in_err-pending-clause-meaning : goal.proceed-returns-in_err-
 proceed-returns-in_err-pending-clause-meaning t c =
     let p = err_from_is_err_and c.from_residual.result c.from_residual.ensures.1 in rw (p.1, p.2) (λ k. c.in_err-pending.ensures.meaning k _ _ is_done)
 
-pub property-returns-in_err-base-clause-meaning : goal.property-returns-in_err-base-clause-meaning
-property-returns-in_err-base-clause-meaning t c =
+pub literal_property-returns-in_err-base-clause-meaning : goal.literal_property-returns-in_err-base-clause-meaning
+literal_property-returns-in_err-base-clause-meaning t c =
     let p = err_from_is_err_and c.from_residual.result c.from_residual.ensures.1 in rw (p.1, p.2) (λ k. operands_end (element_stops (c.in_err-base.ensures.meaning k)))
 
-pub property-returns-in_err-name-clause-meaning : goal.property-returns-in_err-name-clause-meaning
-property-returns-in_err-name-clause-meaning t c =
+pub computed_property-returns-in_err-base-clause-meaning : goal.computed_property-returns-in_err-base-clause-meaning
+computed_property-returns-in_err-base-clause-meaning t c =
+    let p = err_from_is_err_and c.from_residual.result c.from_residual.ensures.1 in rw (p.1, p.2) (λ k. operands_end (element_stops (c.in_err-base.ensures.meaning k)))
+
+pub computed_property-returns-in_err-name-clause-meaning : goal.computed_property-returns-in_err-name-clause-meaning
+computed_property-returns-in_err-name-clause-meaning t c =
     let p = err_from_is_err_and c.from_residual-in_err-name.result c.from_residual-in_err-name.ensures.1 in rw (p.1, p.2) (λ k. operands_end (element_then (c.in_ok-base.ensures.meaning tt) (element_stops (c.in_err-name.ensures.meaning k)) refl))
 
-pub property-returns-clause-meaning : goal.property-returns-clause-meaning
-property-returns-clause-meaning t c =
+pub computed_property-returns-clause-meaning : goal.computed_property-returns-clause-meaning
+computed_property-returns-clause-meaning t c =
     λ k. applies (element_then (c.in_ok-base.ensures.meaning tt) (element_then (c.in_ok-name.ensures.meaning tt) no_more refl) refl) no_more (let f : SFits w32 c.evaluate-2.new.active.programmer = search rules in property_is (rw (to_z-of_z w32 c.evaluate-2.new.active.programmer f) at (c.read_property.ensures.value k)))
 
 pub call_verb-returns-clause-meaning : goal.call_verb-returns-clause-meaning
@@ -508,66 +352,6 @@ catch-returns-in_err-evaluate-in-Some-clause-meaning t c =
 pub catch-returns-in_ok-evaluate-in-Some-clause-meaning : goal.catch-returns-in_ok-evaluate-in-Some-clause-meaning
 catch-returns-in_ok-evaluate-in-Some-clause-meaning t c =
     λ k. rw (c.in-Some.is, ← c.deref-in-Some.ensures) (attempt_goes_on (c.in_ok-values.ensures.meaning tt) (rw (c.deref.ensures.value, c.in-Caught.is) at (c.in_ok-value.ensures.meaning tt)) (c.in_ok-evaluate-in-Some.ensures.meaning tt) refl)
-
-pub attempt-returns-in-Property-clause-meaning : goal.attempt-returns-in-Property-clause-meaning
-attempt-returns-in-Property-clause-meaning t c =
-    λ k. rw (c.in-Property.is, ← c.deref.ensures, ← c.deref-in-Property.ensures) (c.attempt_property.ensures.meaning k)
-
-pub attempt-returns-in-Index-clause-meaning : goal.attempt-returns-in-Index-clause-meaning
-attempt-returns-in-Index-clause-meaning t c =
-    λ k. rw (c.in-Index.is, ← c.deref-in-Index.ensures, ← c.deref-in-Index-2.ensures) (c.attempt_index.ensures.meaning k)
-
-pub attempt-returns-in-VerbCall-clause-meaning : goal.attempt-returns-in-VerbCall-clause-meaning
-attempt-returns-in-VerbCall-clause-meaning t c =
-    λ k. rw (c.in-VerbCall.is, row_items, ← c.deref-in-VerbCall.ensures, ← c.deref-in-VerbCall-2.ensures, ← c.deref-in-VerbCall-3.ensures, ← c.deref-in-VerbCall-4.ensures.value) (c.attempt_call.ensures.meaning k)
-
-pub attempt-returns-in_default-clause-meaning : goal.attempt-returns-in_default-clause-meaning
-attempt-returns-in_default-clause-meaning t c =
-    λ k. record { outcome = _; evaluates = c.evaluate-outcome.ensures.meaning (c.attempted.ensures.known k); seen = c.attempted.ensures.seen }
-
-pub attempt_property-returns-in-Ok-clause-meaning : goal.attempt_property-returns-in-Ok-clause-meaning
-attempt_property-returns-in-Ok-clause-meaning t c =
-    λ k. record { outcome = _; evaluates = begins c.in_ok-take_tick.ensures.taken (rw (c.in_ok-take_tick.ensures.left, c.in-Ok.is) at (c.property.ensures.meaning (rw c.in-Ok.is tt))) refl; seen = (refl, refl) }
-
-pub attempt_property-returns-in-Err-clause-meaning : goal.attempt_property-returns-in-Err-clause-meaning
-attempt_property-returns-in-Err-clause-meaning t c =
-    λ k. record { outcome = _; evaluates = begins c.in_ok-take_tick.ensures.taken (rw (c.in_ok-take_tick.ensures.left, c.in-Err.is) at (c.property.ensures.meaning (rw c.in-Err.is (c.settle_attempt.ensures.known k)))) refl; seen = c.settle_attempt.ensures.seen k }
-
-pub attempt_property-returns-in_err-take_tick-clause-meaning : goal.attempt_property-returns-in_err-take_tick-clause-meaning
-attempt_property-returns-in_err-take_tick-clause-meaning t c =
-    let p = err_from_is_err_and c.from_residual.result c.from_residual.ensures.1 in rw (p.1, p.2) (λ k. let h = c.in_err-take_tick.ensures.spent k in rw c.in_err-take_tick.ensures.kept (attempt_spent h.1 h.0))
-
-pub attempt_index-returns-in-Ok-clause-meaning : goal.attempt_index-returns-in-Ok-clause-meaning
-attempt_index-returns-in-Ok-clause-meaning t c =
-    λ k. record { outcome = _; evaluates = begins c.in_ok-take_tick.ensures.taken (rw (c.in_ok-take_tick.ensures.left, c.in-Ok.is) at (c.index.ensures.meaning (rw c.in-Ok.is tt))) refl; seen = (refl, refl) }
-
-pub attempt_index-returns-in-Err-clause-meaning : goal.attempt_index-returns-in-Err-clause-meaning
-attempt_index-returns-in-Err-clause-meaning t c =
-    λ k. record { outcome = _; evaluates = begins c.in_ok-take_tick.ensures.taken (rw (c.in_ok-take_tick.ensures.left, c.in-Err.is) at (c.index.ensures.meaning (rw c.in-Err.is (c.settle_attempt.ensures.known k)))) refl; seen = c.settle_attempt.ensures.seen k }
-
-pub attempt_index-returns-in_err-take_tick-clause-meaning : goal.attempt_index-returns-in_err-take_tick-clause-meaning
-attempt_index-returns-in_err-take_tick-clause-meaning t c =
-    let p = err_from_is_err_and c.from_residual.result c.from_residual.ensures.1 in rw (p.1, p.2) (λ k. let h = c.in_err-take_tick.ensures.spent k in rw c.in_err-take_tick.ensures.kept (attempt_spent h.1 h.0))
-
-pub attempt_call-returns-in-Ok-clause-meaning : goal.attempt_call-returns-in-Ok-clause-meaning
-attempt_call-returns-in-Ok-clause-meaning t c =
-    λ k. record { outcome = _; evaluates = begins c.in_ok-take_tick.ensures.taken (rw (c.in_ok-take_tick.ensures.left, c.in-Ok.is) at (c.verb_call.ensures.meaning (rw c.in-Ok.is tt))) refl; seen = (refl, refl) }
-
-pub attempt_call-returns-in-Err-clause-meaning : goal.attempt_call-returns-in-Err-clause-meaning
-attempt_call-returns-in-Err-clause-meaning t c =
-    λ k. record { outcome = _; evaluates = begins c.in_ok-take_tick.ensures.taken (rw (c.in_ok-take_tick.ensures.left, c.in-Err.is) at (c.verb_call.ensures.meaning (rw c.in-Err.is (c.settle_attempt.ensures.known k)))) refl; seen = c.settle_attempt.ensures.seen k }
-
-pub attempt_call-returns-in_err-take_tick-clause-meaning : goal.attempt_call-returns-in_err-take_tick-clause-meaning
-attempt_call-returns-in_err-take_tick-clause-meaning t c =
-    let p = err_from_is_err_and c.from_residual.result c.from_residual.ensures.1 in rw (p.1, p.2) (λ k. let h = c.in_err-take_tick.ensures.spent k in rw c.in_err-take_tick.ensures.kept (attempt_spent h.1 h.0))
-
-pub evaluate_node-returns-in-VerbCall-clause-meaning : goal.evaluate_node-returns-in-VerbCall-clause-meaning
-evaluate_node-returns-in-VerbCall-clause-meaning t c =
-    λ k. rw (c.in-VerbCall.is, row_items, ← c.deref-in-VerbCall.ensures, ← c.deref-in-VerbCall-2.ensures, ← c.deref-in-VerbCall-3.ensures, ← c.deref-in-VerbCall-4.ensures.value) (c.evaluate_verb_call.ensures.meaning k)
-
-pub evaluate_node-returns-in-Call-clause-meaning : goal.evaluate_node-returns-in-Call-clause-meaning
-evaluate_node-returns-in-Call-clause-meaning t c =
-    λ k. rw (c.in-Call.is, row_items, ← c.deref-in-Call.ensures.value) (c.evaluate_call.ensures.meaning k)
 
 pub evaluate_all-returns-in-Optional-clause-meaning : goal.evaluate_all-returns-in-Optional-clause-meaning
 evaluate_all-returns-in-Optional-clause-meaning t c =
@@ -1142,42 +926,42 @@ pub count-returns-clause-meaning : goal.count-returns-clause-meaning
 count-returns-clause-meaning t c =
     λ k. let g : SFits w32 c.args.span.high = search rules in let h = reached (to_z w64 c.numbers.number-bits) c.from.result c.args.span.high false g c.from.ensures c.numbers-test.false in c.numbers.invariant.rest (Ok next) _ (all_counted h)
 
-pub verb_call-returns-in_err-base-clause-meaning : goal.verb_call-returns-in_err-base-clause-meaning
-verb_call-returns-in_err-base-clause-meaning t c =
+pub call_literal-returns-in_err-base-clause-meaning : goal.call_literal-returns-in_err-base-clause-meaning
+call_literal-returns-in_err-base-clause-meaning t c =
     let p = err_from_is_err_and c.from_residual.result c.from_residual.ensures.1 in rw (p.1, p.2) (λ k. operands_end (element_stops (c.in_err-base.ensures.meaning k)))
 
-pub verb_call-returns-in_err-name-clause-meaning : goal.verb_call-returns-in_err-name-clause-meaning
-verb_call-returns-in_err-name-clause-meaning t c =
+pub call_computed-returns-in_err-base-clause-meaning : goal.call_computed-returns-in_err-base-clause-meaning
+call_computed-returns-in_err-base-clause-meaning t c =
+    let p = err_from_is_err_and c.from_residual.result c.from_residual.ensures.1 in rw (p.1, p.2) (λ k. operands_end (element_stops (c.in_err-base.ensures.meaning k)))
+
+pub call_computed-returns-in_err-name-clause-meaning : goal.call_computed-returns-in_err-name-clause-meaning
+call_computed-returns-in_err-name-clause-meaning t c =
     let p = err_from_is_err_and c.from_residual-in_err-name.result c.from_residual-in_err-name.ensures.1 in rw (p.1, p.2) (λ k. operands_end (element_then (c.in_ok-base.ensures.meaning tt) (element_stops (c.in_err-name.ensures.meaning k)) refl))
 
-pub verb_call-returns-in_err-take_tick-clause-meaning : goal.verb_call-returns-in_err-take_tick-clause-meaning
-verb_call-returns-in_err-take_tick-clause-meaning t c =
-    let p = err_from_is_err_and c.from_residual-in_err-take_tick.result c.from_residual-in_err-take_tick.ensures.1 in rw (p.1, p.2) (λ k. let h = c.in_err-take_tick.ensures.spent k in rw (c.in-Some.ensures, c.in_err-take_tick.ensures.kept, h.1) (operands_end (element_then (c.in_ok-base.ensures.meaning tt) (element_stops (spent h.0)) refl)))
+pub call_literal-returns-in_err-take_tick-clause-meaning : goal.call_literal-returns-in_err-take_tick-clause-meaning
+call_literal-returns-in_err-take_tick-clause-meaning t c =
+    let p = err_from_is_err_and c.from_residual-in_err-take_tick.result c.from_residual-in_err-take_tick.ensures.1 in rw (p.1, p.2) (λ k. let h = c.in_err-take_tick.ensures.spent k in rw (c.in_err-take_tick.ensures.kept, h.1) (operands_end (element_then (c.in_ok-base.ensures.meaning tt) (element_stops (spent h.0)) refl)))
 
-pub verb_call-returns-in_err-values-clause-meaning : goal.verb_call-returns-in_err-values-clause-meaning
-verb_call-returns-in_err-values-clause-meaning t c =
-    let p = err_from_is_err_and c.from_residual-in_err-values.result c.from_residual-in_err-values.ensures.1 in rw (p.1, p.2) (λ k. rw c.in-Some.ensures (operands_end (element_then (c.in_ok-base.ensures.meaning tt) (element_then (literal_read c.in_ok-take_tick.ensures.taken) (rw c.in_ok-take_tick.ensures.left at (c.in_err-values.ensures.meaning k)) refl) refl)))
+pub call_literal-returns-in_err-values-clause-meaning : goal.call_literal-returns-in_err-values-clause-meaning
+call_literal-returns-in_err-values-clause-meaning t c =
+    let p = err_from_is_err_and c.from_residual-in_err-values.result c.from_residual-in_err-values.ensures.1 in rw (p.1, p.2) (λ k. (operands_end (element_then (c.in_ok-base.ensures.meaning tt) (element_then (literal_read c.in_ok-take_tick.ensures.taken) (rw c.in_ok-take_tick.ensures.left at (c.in_err-values.ensures.meaning k)) refl) refl)))
 
-pub verb_call-returns-in-Some-clause-meaning : goal.verb_call-returns-in-Some-clause-meaning
-verb_call-returns-in-Some-clause-meaning t c =
-    λ k. rw c.in-Some.ensures (applies (element_then (c.in_ok-base.ensures.meaning tt) (element_then (literal_read c.in_ok-take_tick.ensures.taken) (rw c.in_ok-take_tick.ensures.left at (c.in_ok-values.ensures.meaning tt)) refl) refl) no_more (c.call_written.ensures.meaning c.args.indexed _ _ _ k))
+pub call_literal-returns-clause-meaning : goal.call_literal-returns-clause-meaning
+call_literal-returns-clause-meaning t c =
+    λ k. (applies (element_then (c.in_ok-base.ensures.meaning tt) (element_then (literal_read c.in_ok-take_tick.ensures.taken) (rw c.in_ok-take_tick.ensures.left at (c.in_ok-values.ensures.meaning tt)) refl) refl) no_more (c.call_written.ensures.meaning c.args.indexed _ _ _ k))
 
-pub verb_call-returns-in_err-values-2-clause-meaning : goal.verb_call-returns-in_err-values-2-clause-meaning
-verb_call-returns-in_err-values-2-clause-meaning t c =
-    let p = err_from_is_err_and c.from_residual-in_err-values-2.result c.from_residual-in_err-values-2.ensures.1 in rw (p.1, p.2) (λ k. operands_end (element_then (c.in_ok-base.ensures.meaning tt) (element_then (c.in_ok-name.ensures.meaning tt) (c.in_err-values-2.ensures.meaning k) refl) refl))
+pub call_computed-returns-in_err-values-clause-meaning : goal.call_computed-returns-in_err-values-clause-meaning
+call_computed-returns-in_err-values-clause-meaning t c =
+    let p = err_from_is_err_and c.from_residual-in_err-values.result c.from_residual-in_err-values.ensures.1 in rw (p.1, p.2) (λ k. operands_end (element_then (c.in_ok-base.ensures.meaning tt) (element_then (c.in_ok-name.ensures.meaning tt) (c.in_err-values.ensures.meaning k) refl) refl))
 
-pub verb_call-returns-clause-meaning : goal.verb_call-returns-clause-meaning
-verb_call-returns-clause-meaning t c =
-    λ k. applies (element_then (c.in_ok-base.ensures.meaning tt) (element_then (c.in_ok-name.ensures.meaning tt) (c.in_ok-values-2.ensures.meaning tt) refl) refl) no_more (c.call_verb.ensures.meaning c.args.indexed (source c.args.base.now) (source c.args.name.now) (source_items c.args.items.now) k)
+pub call_computed-returns-clause-meaning : goal.call_computed-returns-clause-meaning
+call_computed-returns-clause-meaning t c =
+    λ k. applies (element_then (c.in_ok-base.ensures.meaning tt) (element_then (c.in_ok-name.ensures.meaning tt) (c.in_ok-values.ensures.meaning tt) refl) refl) no_more (c.call_verb.ensures.meaning c.args.indexed (source c.args.base.now) (source c.args.name.now) (source_items c.args.items.now) k)
 
 pub run_called-returns-clause-meaning : goal.run_called-returns-clause-meaning
 run_called-returns-clause-meaning t c =
     let f : SFits w32 c.args.called.stack.running.programmer = search rules in
     λ caller k. record { outcome = _; last = _; runs = runs_from (same_state c.in_ok-begun.ensures (to_z-of_z w32 c.args.called.stack.running.programmer f)) c.code-statements.ensures (c.run_all-outcome.ensures.meaning (c.answered.ensures.known k)); leaves = refl; gives = c.answered.ensures.answer }
-
-pub evaluate_node-returns-in-Variable-clause-meaning : goal.evaluate_node-returns-in-Variable-clause-meaning
-evaluate_node-returns-in-Variable-clause-meaning t c =
-    λ k. rw c.in-Variable.is (c.variable.ensures.meaning c.args.indexed c.args.world.now k)
 
 pub run-returns-clause-meaning : goal.run-returns-clause-meaning
 run-returns-clause-meaning t c =
@@ -1206,32 +990,6 @@ perform-returns-in-Put-clause-meaning t c =
 pub assign-returns-in-Variable-clause-meaning : goal.assign-returns-in-Variable-clause-meaning
 assign-returns-in-Variable-clause-meaning t c = λ k. rw c.in-Variable.is (c.assign_variable.ensures.meaning k)
 
-pub evaluate_node-returns-in-Integer-clause-meaning : goal.evaluate_node-returns-in-Integer-clause-meaning
-evaluate_node-returns-in-Integer-clause-meaning t c =
-    let fits : SFits w32 c.in-Integer.number = search rules in
-    λ k. rw c.in-Integer.is (c.literal.ensures.meaning (literal.Integer c.in-Integer.number) c.args.indexed c.args.world.now (ap integer (to_z-of_z w32 c.in-Integer.number fits)) k)
-
-pub evaluate_node-returns-in-Object-clause-meaning : goal.evaluate_node-returns-in-Object-clause-meaning
-evaluate_node-returns-in-Object-clause-meaning t c =
-    let fits : SFits w32 c.in-Object.number = search rules in
-    λ k. rw c.in-Object.is (c.literal-in-Object.ensures.meaning (literal.Object c.in-Object.number) c.args.indexed c.args.world.now (ap object (to_z-of_z w32 c.in-Object.number fits)) k)
-
-pub evaluate_node-returns-in-Error-clause-meaning : goal.evaluate_node-returns-in-Error-clause-meaning
-evaluate_node-returns-in-Error-clause-meaning t c =
-    λ k. rw c.in-Error.is (c.literal-in-Error.ensures.meaning (literal.Error c.in-Error.code) c.args.indexed c.args.world.now refl k)
-
-pub evaluate_node-returns-in-Str-clause-meaning : goal.evaluate_node-returns-in-Str-clause-meaning
-evaluate_node-returns-in-Str-clause-meaning t c =
-    λ k. rw c.in-Str.is (c.text.ensures.meaning c.args.indexed c.args.world.now k)
-
-pub drop_assigned-returns-clause-meaning : goal.drop_assigned-returns-clause-meaning
-drop_assigned-returns-clause-meaning t c = λ k. evaluates (c.in_ok-_value.ensures.meaning tt) refl
-
-pub drop_assigned-returns-in_err-_value-clause-meaning : goal.drop_assigned-returns-in_err-_value-clause-meaning
-drop_assigned-returns-in_err-_value-clause-meaning t c =
-    let p = err_from_is_err_and c.from_residual.result c.from_residual.ensures.1 in
-    rw (p.1, p.2) (λ k. evaluates (c.in_err-_value.ensures.meaning k) refl)
-
 pub set_property-returns-in_ok-_error-in-Err-clause-meaning : goal.set_property-returns-in_ok-_error-in-Err-clause-meaning
 set_property-returns-in_ok-_error-in-Err-clause-meaning t c =
     λ k. passed_over c.in_ok-take_tick.ensures.taken (rw c.in_ok-take_tick.ensures.left at (c.in-Err.ensures.err (c.in_ok-_error-in-Err.ensures.known tt))) (c.in_ok-_error-in-Err.ensures.outcome tt)
@@ -1252,13 +1010,13 @@ pub scatter_alone-returns-in_err-take_tick-clause-meaning : goal.scatter_alone-r
 scatter_alone-returns-in_err-take_tick-clause-meaning t c =
     let p = err_from_is_err_and c.from_residual.result c.from_residual.ensures.1 in rw (p.1, p.2) (λ k. let h = c.in_err-take_tick.ensures.spent k in rw (c.in_err-take_tick.ensures.kept, h.1) (evaluates (spent h.0) refl))
 
-pub property-returns-in_err-take_tick-clause-meaning : goal.property-returns-in_err-take_tick-clause-meaning
-property-returns-in_err-take_tick-clause-meaning t c =
-    let p = err_from_is_err_and c.from_residual-in_err-take_tick.result c.from_residual-in_err-take_tick.ensures.1 in rw (p.1, p.2) (λ k. let h = c.in_err-take_tick.ensures.spent k in rw (c.in-Some.ensures, c.in_err-take_tick.ensures.kept, h.1) (operands_end (element_then (c.in_ok-base.ensures.meaning tt) (element_stops (spent h.0)) refl)))
+pub literal_property-returns-in_err-take_tick-clause-meaning : goal.literal_property-returns-in_err-take_tick-clause-meaning
+literal_property-returns-in_err-take_tick-clause-meaning t c =
+    let p = err_from_is_err_and c.from_residual-in_err-take_tick.result c.from_residual-in_err-take_tick.ensures.1 in rw (p.1, p.2) (λ k. let h = c.in_err-take_tick.ensures.spent k in rw (c.in_err-take_tick.ensures.kept, h.1) (operands_end (element_then (c.in_ok-base.ensures.meaning tt) (element_stops (spent h.0)) refl)))
 
-pub property-returns-in-Some-clause-meaning : goal.property-returns-in-Some-clause-meaning
-property-returns-in-Some-clause-meaning t c =
-    λ k. rw (c.in-Some.ensures, c.in_ok-take_tick.ensures.left) (applies (element_then (c.in_ok-base.ensures.meaning tt) (element_then (literal_read c.in_ok-take_tick.ensures.taken) no_more refl) refl) no_more (let f : SFits w32 c.evaluate.new.active.programmer = search rules in property_is (rw (to_z-of_z w32 c.evaluate.new.active.programmer f) at (c.read_written.ensures.value k))))
+pub literal_property-returns-clause-meaning : goal.literal_property-returns-clause-meaning
+literal_property-returns-clause-meaning t c =
+    λ k. rw (c.in_ok-take_tick.ensures.left) (applies (element_then (c.in_ok-base.ensures.meaning tt) (element_then (literal_read c.in_ok-take_tick.ensures.taken) no_more refl) refl) no_more (let f : SFits w32 c.evaluate.new.active.programmer = search rules in property_is (rw (to_z-of_z w32 c.evaluate.new.active.programmer f) at (c.read_written.ensures.value k))))
 
 pub put_property-returns-in_err-base-clause-err : goal.put_property-returns-in_err-base-clause-err
 put_property-returns-in_err-base-clause-err t c =
@@ -1388,3 +1146,68 @@ perform-returns-in-ScatterNames-clause-meaning t c =
 pub perform-returns-in-Scatter-clause-meaning : goal.perform-returns-in-Scatter-clause-meaning
 perform-returns-in-Scatter-clause-meaning t c =
     λ k. rw (c.in-Scatter.is, ← c.deref-in-Scatter.ensures.value, ← c.deref-in-Scatter-2.ensures) (c.scatter_alone.ensures.meaning k)
+
+pub evaluate_parts-returns-in-Ok-clause-meaning : goal.evaluate_parts-returns-in-Ok-clause-meaning
+evaluate_parts-returns-in-Ok-clause-meaning t c =
+    λ k. begins c.in_ok-take_tick.ensures.taken (rw (c.in_ok-take_tick.ensures.left, c.in-Ok.is) at (c.compute.ensures.meaning (rw c.in-Ok.is tt))) refl
+
+pub evaluate_parts-returns-in-Err-clause-meaning : goal.evaluate_parts-returns-in-Err-clause-meaning
+evaluate_parts-returns-in-Err-clause-meaning t c =
+    λ k. begins c.in_ok-take_tick.ensures.taken (rw (c.in_ok-take_tick.ensures.left, c.in-Err.is) at (c.compute.ensures.meaning (rw c.in-Err.is (c.settled.ensures.known k)))) (c.settled.ensures.outcome k)
+
+pub evaluate_parts-returns-in_err-take_tick-clause-meaning : goal.evaluate_parts-returns-in_err-take_tick-clause-meaning
+evaluate_parts-returns-in_err-take_tick-clause-meaning t c =
+    let p = err_from_is_err_and c.from_residual.result c.from_residual.ensures.1 in rw (p.1, p.2) (λ k. let h = c.in_err-take_tick.ensures.spent k in rw (c.in_err-take_tick.ensures.kept, h.1) (spent h.0))
+
+pub compute-returns-in-Integer-clause-meaning : goal.compute-returns-in-Integer-clause-meaning
+compute-returns-in-Integer-clause-meaning t c =
+    let fits : SFits w32 c.in-Integer.number = search rules in
+    λ k. rw (c.in-Integer.is, to_z-of_z w32 c.in-Integer.number fits) (applies no_more no_more literal_is)
+
+pub compute-returns-in-Object-clause-meaning : goal.compute-returns-in-Object-clause-meaning
+compute-returns-in-Object-clause-meaning t c =
+    let fits : SFits w32 c.in-Object.number = search rules in
+    λ k. rw (c.in-Object.is, to_z-of_z w32 c.in-Object.number fits) (applies no_more no_more literal_is)
+
+pub compute-returns-in-Error-clause-meaning : goal.compute-returns-in-Error-clause-meaning
+compute-returns-in-Error-clause-meaning t c = λ k. rw c.in-Error.is (applies no_more no_more literal_is)
+
+pub compute-returns-in-Str-clause-meaning : goal.compute-returns-in-Str-clause-meaning
+compute-returns-in-Str-clause-meaning t c =
+    λ k. rw (c.in-Str.is, ← c.copied_text.ensures k) (applies no_more no_more literal_is)
+
+pub compute-returns-in-Variable-clause-meaning : goal.compute-returns-in-Variable-clause-meaning
+compute-returns-in-Variable-clause-meaning t c =
+    λ k. rw c.in-Variable.is (applies no_more no_more (variable_is (c.read_variable.ensures.value k)))
+
+pub compute-returns-in-Length-clause-meaning : goal.compute-returns-in-Length-clause-meaning
+compute-returns-in-Length-clause-meaning t c =
+    λ k. rw c.in-Length.is (applies no_more no_more (length_is c.measure.ensures))
+
+pub compute-returns-in-List-clause-meaning : goal.compute-returns-in-List-clause-meaning
+compute-returns-in-List-clause-meaning t c =
+    λ k. rw (c.in-List.is, row_items, ← c.deref-in-List.ensures.value) (c.list.ensures.meaning k)
+
+pub compute-returns-in-VerbCall-clause-meaning : goal.compute-returns-in-VerbCall-clause-meaning
+compute-returns-in-VerbCall-clause-meaning t c =
+    λ k. rw (c.in-VerbCall.is, row_items, ← c.deref-in-VerbCall.ensures, ← c.deref-in-VerbCall-2.ensures, ← c.deref-in-VerbCall-3.ensures, ← c.deref-in-VerbCall-4.ensures.value) (c.verb_call.ensures.meaning k)
+
+pub compute-returns-in-Call-clause-meaning : goal.compute-returns-in-Call-clause-meaning
+compute-returns-in-Call-clause-meaning t c =
+    λ k. rw (c.in-Call.is, row_items, ← c.deref-in-Call.ensures.value) (c.call.ensures.meaning k)
+
+pub attempt-returns-in-Some-clause-meaning : goal.attempt-returns-in-Some-clause-meaning
+attempt-returns-in-Some-clause-meaning t c =
+    λ k. record { outcome = _; evaluates = c.in-Some.ensures c.args.world.now (context_of c.args.stack.now c.args.indexed); seen = (refl, refl) }
+
+pub attempt-returns-in-Ok-clause-meaning : goal.attempt-returns-in-Ok-clause-meaning
+attempt-returns-in-Ok-clause-meaning t c =
+    λ k. record { outcome = _; evaluates = begins c.in_ok-take_tick.ensures.taken (rw (c.in_ok-take_tick.ensures.left, c.in-Ok.is) at (c.compute.ensures.meaning (rw c.in-Ok.is tt))) refl; seen = (refl, refl) }
+
+pub attempt-returns-in-Err-clause-meaning : goal.attempt-returns-in-Err-clause-meaning
+attempt-returns-in-Err-clause-meaning t c =
+    λ k. record { outcome = _; evaluates = begins c.in_ok-take_tick.ensures.taken (rw (c.in_ok-take_tick.ensures.left, c.in-Err.is) at (c.compute.ensures.meaning (rw c.in-Err.is (c.settle_attempt.ensures.known k)))) refl; seen = c.settle_attempt.ensures.seen k }
+
+pub attempt-returns-in_err-take_tick-clause-meaning : goal.attempt-returns-in_err-take_tick-clause-meaning
+attempt-returns-in_err-take_tick-clause-meaning t c =
+    let p = err_from_is_err_and c.from_residual.result c.from_residual.ensures.1 in rw (p.1, p.2) (λ k. let h = c.in_err-take_tick.ensures.spent k in rw c.in_err-take_tick.ensures.kept (attempt_spent h.1 h.0))

@@ -49,51 +49,6 @@ decreases-not_passes l = 16 * l.self.now.ticks_left
 abbrev pub decreases-evaluate_node : goal.decreases-evaluate_node
 decreases-evaluate_node l = 16 * l.self.now.ticks_left + 2
 
-abbrev pub decreases-evaluate_integers : goal.decreases-evaluate_integers
-decreases-evaluate_integers l = 16 * l.self.now.ticks_left + 1
-
-abbrev pub decreases-evaluate_unary : goal.decreases-evaluate_unary
-decreases-evaluate_unary l = 16 * l.self.now.ticks_left
-
-abbrev pub decreases-evaluate_binary : goal.decreases-evaluate_binary
-decreases-evaluate_binary l = 16 * l.self.now.ticks_left
-
-abbrev pub decreases-evaluate_arithmetic : goal.decreases-evaluate_arithmetic
-decreases-evaluate_arithmetic l = 16 * l.self.now.ticks_left
-
-abbrev pub decreases-evaluate_logic : goal.decreases-evaluate_logic
-decreases-evaluate_logic l = 16 * l.self.now.ticks_left
-
-abbrev pub decreases-evaluate_conditional : goal.decreases-evaluate_conditional
-decreases-evaluate_conditional l = 16 * l.self.now.ticks_left
-
-abbrev pub decreases-evaluate_index : goal.decreases-evaluate_index
-decreases-evaluate_index l = 16 * l.self.now.ticks_left + 1
-
-abbrev pub decreases-evaluate_element : goal.decreases-evaluate_element
-decreases-evaluate_element l = 16 * l.self.now.ticks_left
-
-abbrev pub decreases-evaluate_range : goal.decreases-evaluate_range
-decreases-evaluate_range l = 16 * l.self.now.ticks_left
-
-abbrev pub decreases-evaluate_list : goal.decreases-evaluate_list
-decreases-evaluate_list l = 16 * l.self.now.ticks_left
-
-abbrev pub decreases-evaluate_property : goal.decreases-evaluate_property
-decreases-evaluate_property l = 16 * l.self.now.ticks_left
-
-abbrev pub decreases-evaluate_verb_call : goal.decreases-evaluate_verb_call
-decreases-evaluate_verb_call l = 16 * l.self.now.ticks_left
-
-abbrev pub decreases-evaluate_call : goal.decreases-evaluate_call
-decreases-evaluate_call l = 16 * l.self.now.ticks_left
-
-abbrev pub decreases-evaluate_assign : goal.decreases-evaluate_assign
-decreases-evaluate_assign l = 16 * l.self.now.ticks_left
-
-abbrev pub decreases-evaluate_catch : goal.decreases-evaluate_catch
-decreases-evaluate_catch l = 16 * l.self.now.ticks_left
-
 abbrev pub decreases-assign_variable : goal.decreases-assign_variable
 decreases-assign_variable l = 16 * l.self.now.ticks_left + 8
 
@@ -143,10 +98,10 @@ abbrev pub decreases-list : goal.decreases-list
 decreases-list l = 16 * l.self.now.ticks_left + 8
 
 abbrev pub decreases-property : goal.decreases-property
-decreases-property l = 16 * l.self.now.ticks_left + 7
+decreases-property l = 16 * l.self.now.ticks_left + 8
 
 abbrev pub decreases-verb_call : goal.decreases-verb_call
-decreases-verb_call l = 16 * l.self.now.ticks_left + 10
+decreases-verb_call l = 16 * l.self.now.ticks_left + 11
 
 abbrev pub decreases-call_verb : goal.decreases-call_verb
 decreases-call_verb l = 16 * l.self.now.ticks_left + 9
@@ -170,16 +125,7 @@ abbrev pub decreases-catch : goal.decreases-catch
 decreases-catch l = 16 * l.self.now.ticks_left + 9
 
 abbrev pub decreases-attempt : goal.decreases-attempt
-decreases-attempt l = 16 * l.self.now.ticks_left + 8
-
-abbrev pub decreases-attempt_property : goal.decreases-attempt_property
-decreases-attempt_property l = 16 * l.self.now.ticks_left
-
-abbrev pub decreases-attempt_index : goal.decreases-attempt_index
-decreases-attempt_index l = 16 * l.self.now.ticks_left
-
-abbrev pub decreases-attempt_call : goal.decreases-attempt_call
-decreases-attempt_call l = 16 * l.self.now.ticks_left
+decreases-attempt l = 16 * l.self.now.ticks_left
 
 abbrev pub decreases-guards : goal.decreases-guards
 decreases-guards l = 16 * l.self.now.ticks_left + 8
@@ -292,12 +238,6 @@ decreases-put_property l = 16 * l.self.now.ticks_left + 4
 abbrev pub decreases-scatter_alone : goal.decreases-scatter_alone
 decreases-scatter_alone l = 16 * l.self.now.ticks_left
 
-abbrev pub decreases-assign_target : goal.decreases-assign_target
-decreases-assign_target l = 16 * l.self.now.ticks_left + 6
-
-abbrev pub decreases-drop_assigned : goal.decreases-drop_assigned
-decreases-drop_assigned l = 16 * l.self.now.ticks_left + 4
-
 abbrev pub decreases-drop_value : goal.decreases-drop_value
 decreases-drop_value l = 16 * l.self.now.ticks_left + 4
 
@@ -373,3 +313,21 @@ decreases-put_prepended l = 16 * l.self.now.ticks_left + 6
 
 abbrev pub decreases-scatter_names : goal.decreases-scatter_names
 decreases-scatter_names l = 16 * l.self.now.ticks_left
+
+abbrev pub decreases-evaluate_parts : goal.decreases-evaluate_parts
+decreases-evaluate_parts l = 16 * l.self.now.ticks_left
+
+abbrev pub decreases-compute : goal.decreases-compute
+decreases-compute l = 16 * l.self.now.ticks_left + 12
+
+abbrev pub decreases-call_literal : goal.decreases-call_literal
+decreases-call_literal l = 16 * l.self.now.ticks_left + 10
+
+abbrev pub decreases-call_computed : goal.decreases-call_computed
+decreases-call_computed l = 16 * l.self.now.ticks_left + 10
+
+abbrev pub decreases-literal_property : goal.decreases-literal_property
+decreases-literal_property l = 16 * l.self.now.ticks_left + 7
+
+abbrev pub decreases-computed_property : goal.decreases-computed_property
+decreases-computed_property l = 16 * l.self.now.ticks_left + 7

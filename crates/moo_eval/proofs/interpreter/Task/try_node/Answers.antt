@@ -1,0 +1,11 @@
+use Rattle.std.proofs.Common.{rules}
+use Rattle.std.proofs.lemmas.Int.{to_z-of_z}
+use mir.Syntax.{w32}
+use mir.Val.{SFits}
+use Rattle.moo_syntax_lower.proofs.Rows.{row_items}
+use Rattle.moo_eval.proofs.interpreter.Task.try_node.Goals as goal
+
+pub returns-in_ok-number-in-Arithmetic-clause-some : goal.returns-in_ok-number-in-Arithmetic-clause-some
+returns-in_ok-number-in-Arithmetic-clause-some c =
+    let number : SFits w32 c.in_ok-number-in-Arithmetic.number = search rules in
+    λ w k. rw (c.in-Arithmetic.is, to_z-of_z w32 c.in_ok-number-in-Arithmetic.number number) (c.in_ok-number-in-Arithmetic.ensures.some w k)

@@ -1,0 +1,22 @@
+use Rattle.std.proofs.Common.{◌≡◌, ◌<◌, pos, suc, Ok, Some, refl, ap, ◌∙◌, arith, length, w32, rules}
+use Rattle.std.proofs.lemmas.Int.{to_z-of_z}
+use mir.Val.{SFits}
+use Rattle.moo_value.specs.View.{tree}
+use Rattle.moo_builtin_operator.specs.Assignment.{before_place}
+use Rattle.moo_builtin_operator.proofs.Lists.{index_in_list, length-trees}
+use Rattle.moo_eval_integer.proofs.Given.{before}
+use Rattle.moo_eval_integer.proofs.element.integer_at.Goals as goal
+
+pub returns-in-Int : goal.returns-in-Int
+returns-in-Int c =
+    let place : SFits w32 c.args.place = search rules in
+    let number : SFits w32 c.in-Int.number = search rules in
+    let elements = c.elements-elements.result.now in
+    let ts = c.args.list.now in
+    let k = c.in_ok-index.index in
+    let v = c.index-elements-index.result in
+    let at : c.args.place ≡ pos (suc k) = rw (to_z-of_z w32 c.args.place place) at c.in_ok-index.ensures in
+    let low : k < length ts = omega (arith, c.if-index-elements.false, length-trees elements ts c.elements-elements.ensures.value) in
+    let there : Some k ≡ before_place c.args.place (length ts) = before c.args.place k (length ts) at low in
+    rw (to_z-of_z w32 c.in-Int.number number)
+    (index_in_list elements ts c.args.place k (length ts) v c.elements-elements.ensures.value refl low there c.index-elements-index.is ∙ ap (λ x. Ok (tree x)) c.in-Int.is)

@@ -21,7 +21,7 @@ from row_file import TOP, Broken, parse
 FILES = {
     "commands": "command_line expr",
     "databases": "cut fields hierarchies lines refused values",
-    "programs": "answers begins branches calls expressions frames function_calls functions growing handlers hooks hostile in_place indexes integers last_ticks"
+    "programs": "answers begins branches calls element_operands expressions frames function_calls functions growing handlers hooks hostile in_place indexes integers last_ticks"
     " limits lists loops memory names operands operations parts replaced scatters shared statements table turns values verbs world",
     "script": "checkpoints commands connections hooks lines logins many parsing programming shown tasks",
 }

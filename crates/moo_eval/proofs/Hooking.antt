@@ -1,5 +1,5 @@
 -- Verbs that a function calls and that have nothing to run.
-use Rattle.std.proofs.Common.{◌≡◌, ℕ, pos, List, [], ◌∷◌, length, ◌==◌, false, Result, Ok, Err, OnOk, IsTrue, is_ok, refl, sym, subst}
+use Rattle.std.proofs.Common.{◌≡◌, pos, List, [], ◌∷◌, length, ◌==◌, false, Result, Ok, Err, OnOk, IsTrue, is_ok, refl, sym, subst}
 use Rattle.std.proofs.lemmas.Bool.{false≢true}
 use Rattle.moo_value.specs.Tree.{Tree, integer}
 use Rattle.moo_syntax_ast.specs.declared.tree.Stmt.{Stmt}

@@ -73,10 +73,9 @@ impl Task {
     {
         let base = self.evaluate(world, active, stack, indexed, base)?;
         self.take_tick(active, stack)?;
-        let mut memory = self.spare.take();
-        let room = memory.take_values(self.alloc());
+        let room = self.spare.take_values();
         let values = self.evaluate_all(world, active, stack, indexed, items, room)?;
-        self.call_written(world, active, stack, &base, name, values, memory)
+        self.call_written(world, active, stack, &base, name, values)
     }
 
     // Calls a verb whose name is computed.
@@ -97,10 +96,9 @@ impl Task {
     {
         let base = self.evaluate(world, active, stack, indexed, base)?;
         let name = self.evaluate(world, active, stack, indexed, name)?;
-        let mut memory = self.spare.take();
-        let room = memory.take_values(self.alloc());
+        let room = self.spare.take_values();
         let values = self.evaluate_all(world, active, stack, indexed, items, room)?;
-        self.call_verb(world, active, stack, &base, &name, values, memory)
+        self.call_verb(world, active, stack, &base, &name, values)
     }
 
     // Calls a verb whose name is a literal, its operands evaluated. Not inlined, so that calls in the arguments of calls
@@ -115,12 +113,11 @@ impl Task {
         base: &Value,
         name: &Text,
         values: Gathered,
-        memory: FrameMemory,
     ) -> Result<Value, Failure>
         ensures meaning { (indexed : Option (Bor ValueModel)) (a b : Expr) (items : Items) → IsKnownFailure result → Applies Faults (context_of stack.now indexed) (verb_call a b items) (tree_of base.now ∷ string name.now ∷ values) [] (state_of self.old world.old active.now) (seen_answer result) (state_of self.new world.new active.now) }
         ensures ticks { self.new.ticks_left ≤ self.old.ticks_left }
     {
-        let mut memory = memory;
+        let mut memory = self.spare.take();
         let args = values.into_arguments(self.alloc())?;
         let called = enter_written(
             self.alloc(),
@@ -147,12 +144,11 @@ impl Task {
         base: &Value,
         name: &Value,
         values: Gathered,
-        memory: FrameMemory,
     ) -> Result<Value, Failure>
         ensures meaning { (indexed : Option (Bor ValueModel)) (a b : Expr) (items : Items) → IsKnownFailure result → Applies Faults (context_of stack.now indexed) (verb_call a b items) (tree_of base.now ∷ tree_of name.now ∷ values) [] (state_of self.old world.old active.now) (seen_answer result) (state_of self.new world.new active.now) }
         ensures ticks { self.new.ticks_left ≤ self.old.ticks_left }
     {
-        let mut memory = memory;
+        let mut memory = self.spare.take();
         let args = values.into_arguments(self.alloc())?;
         let called = enter_verb(
             self.alloc(),

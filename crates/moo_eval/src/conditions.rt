@@ -73,7 +73,8 @@ impl Task {
                 if let Some(passes) = self.try_comparison(active, test) {
                     return Ok(passes);
                 }
-                self.value_passes(world, active, stack, indexed, test)
+                let value = self.evaluate_node(world, active, stack, indexed, test)?;
+                Ok(is_true(&value))
             }
         }
     }
@@ -172,25 +173,6 @@ impl Task {
             return None;
         }
         Some(passes)
-    }
-
-    // Returns whether the value of an expression is true. An operator that `try_test` has declined isn't tried again.
-    #[cycle(evaluation)]
-    #[inline(never)]
-    fn value_passes(
-        &mut self,
-        world: &mut World,
-        active: &mut Activation,
-        stack: &CallStack<'_>,
-        indexed: Option<&Value>,
-        test: &Node,
-    ) -> Result<bool, Stop>
-        ensures ok { IfOk result (λ b. (v : Tree) × Evaluates Faults (context_of stack.now indexed.entry) (source test.now) (state_of self.old world.old active.old) (Ok v) (state_of self.new world.new active.new) × (is_true v ≡ b)) }
-        ensures err { IfErr result (λ stop. HadMemory stop → Evaluates Faults (context_of stack.now indexed.entry) (source test.now) (state_of self.old world.old active.old) (Err (stop_of stop)) (state_of self.new world.new active.new)) }
-        ensures ticks { self.new.ticks_left ≤ self.old.ticks_left }
-    {
-        let value = self.evaluate_tried(world, active, stack, indexed, test)?;
-        Ok(is_true(&value))
     }
 
     // Returns whether the value of `left && right` or `left || right` is true.

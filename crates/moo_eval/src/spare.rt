@@ -4,8 +4,7 @@ use moo_eval_frame::FrameMemory;
 use moo_value::Value;
 use std::alloc::Global;
 
-/// Holds the memory of frames that have ended, and that of the codes of catches and of the arguments of built-in
-/// functions. No more of each is kept than a task has frames.
+/// Holds the memory of frames that have ended, and that of the values of arguments and of the codes of catches. No more of each is kept than a task has frames.
 #[derive(Drop)]
 pub(crate) struct SpareMemory {
     alloc: Global,
@@ -32,15 +31,18 @@ impl SpareMemory {
         }
     }
 
-    /// Keeps the memory of a frame.
+    /// Keeps the memory of a frame. That of the values of its arguments is kept apart, since the next call takes it before
+    /// its frame.
     #[inline(always)]
     pub(crate) fn keep(&mut self, memory: FrameMemory) {
+        let mut memory = memory;
+        self.keep_values(memory.take_values(self.alloc));
         if self.frames.len() < MOST_FRAMES {
             let _kept = self.frames.push(memory);
         }
     }
 
-    /// Takes out memory for values: that of the codes of a catch or of the arguments of a function that has ended.
+    /// Takes out memory for values: that of the arguments of a call, or of the codes of a catch, that has ended.
     #[inline(always)]
     pub(crate) fn take_values(&mut self) -> Vec<Value> {
         match self.values.pop() {

@@ -1,24 +1,21 @@
-use Rattle.std.proofs.Common.{not, ⊎_elim, ◌∷◌, [], Ok, Err, refl, sym, ap, subst, ◌∙◌, arith, rules, Some, None, ◌+◌, drop, map, pos, ◌+ℤ◌}
+use Rattle.std.proofs.Common.{not, ⊎_elim, ◌∷◌, [], Ok, Err, refl, sym, ap, subst, ◌∙◌, arith, rules, Some, None, ◌+◌, drop, map}
 use Rattle.std.proofs.lemmas.Result.{IfOk-weaker, err_from_is_err_and, on_ok_weaker}
 use Rattle.std.proofs.lemmas.List.{append-nil}
 use Rattle.std.proofs.lemmas.Int.{to_z-of_z}
 use Rattle.std.proofs.Math.ListN.{drop_of_length-le}
-use Rattle.moo_eval_frame.specs.Outcome.{fails, stops, answers, passes, next}
-use Rattle.moo_value.specs.Tree.{integer, object}
-use Rattle.moo_syntax_ast.specs.declared.tree.Literal.TheVariants as literal
+use Rattle.moo_eval_frame.specs.Outcome.{fails, stops, answers, next}
 use Rattle.moo_value.specs.View.{tree, trees}
 use Rattle.moo_syntax_lower.specs.Source.{source, source_items, source_codes}
 use Rattle.moo_syntax_lower.specs.Blocks.{source_block, source_handler_list}
 use Rattle.moo_eval.specs.declared.interpreter.Task.{Task}
 use Rattle.moo_eval_frame.specs.declared.frame.Activation.{Activation}
-use Rattle.moo_eval_frame.specs.Seen.{context_of, stop_of, failure_of, seen_value, flow_of}
+use Rattle.moo_eval_frame.specs.Seen.{context_of, stop_of, failure_of, flow_of}
 use Rattle.moo_builtin.specs.Telling.{Faults}
 use Rattle.moo_eval_call.specs.VerbCalls.{verb_caller}
 use Rattle.moo_eval.specs.Seen.{state_of}
-use Rattle.moo_eval_semantics.specs.Meaning.{Computes, EvaluatesAll, spent, begins, operands_end, places_end, applies, no_more, element_stops, element_then, splice_stops, splice_fails, splice_then, literal_is, variable_is, length_is, unary_is, binary_is, logic_decides, logic_goes_on, conditional_true, conditional_false, index_is, range_is, list_is, property_is, verb_fails, verb_runs, call_is, call_runs, is_done, hook_stops, hook_then, assign_is, catch_gives, catch_or_goes_on, target_ends, value_stops, assigns, root_ends, locates, parts_end, finds, inside, step_ends, enters, unread, spot_ends, steps_in, no_store, stores, none_missing, default_stops, default_then, Counts, statement_spent, statement_begins, selects, list_stops, list_fails, visits, span_stops, span_fails, counts, loops, breaks_out, continues_on, unprepared, tries, finally_skipped, finally_runs, ends, leaves, proceeds, none_selected, else_runs, test_stops, arm_runs, arm_passed, turn_spent, turns, loop_stops, loop_ends, loop_left, loop_then, all_visited, visit_left, visit_then, all_counted, count_left, count_then, nothing_raised, ticks_out, handles, Prepares, no_codes, codes_stop, codes_then, gives_zero, gives, evaluates}
+use Rattle.moo_eval_semantics.specs.Meaning.{Computes, EvaluatesAll, spent, begins, operands_end, places_end, applies, no_more, element_stops, element_then, splice_stops, splice_fails, splice_then, literal_is, variable_is, length_is, unary_is, binary_is, logic_decides, logic_goes_on, conditional_true, conditional_false, index_is, range_is, list_is, property_is, verb_fails, verb_runs, call_is, call_runs, is_done, hook_stops, hook_then, assign_is, target_ends, value_stops, assigns, root_ends, locates, parts_end, finds, inside, step_ends, enters, unread, spot_ends, steps_in, no_store, stores, none_missing, default_stops, default_then, Counts, statement_spent, statement_begins, selects, list_stops, list_fails, visits, span_stops, span_fails, counts, loops, breaks_out, continues_on, unprepared, tries, finally_skipped, finally_runs, ends, leaves, proceeds, none_selected, else_runs, test_stops, arm_runs, arm_passed, turn_spent, turns, loop_stops, loop_ends, loop_left, loop_then, all_visited, visit_left, visit_then, all_counted, count_left, count_then, nothing_raised, ticks_out, handles, Prepares, no_codes, codes_stop, codes_then, gives_zero, gives, evaluates}
 use Rattle.moo_value.specs.declared.error_code.ErrorCode.TheVariants.{TypeMismatch}
 use Rattle.moo_eval_access.specs.SeenTarget.{path_of}
-use Rattle.moo_eval_access.specs.SeenCalled.{entered_of}
 use Rattle.moo_eval.proofs.Hooking.{comes_on}
 use Rattle.moo_eval.proofs.Caught.{guards_end, attempt_stops, attempt_gives, attempt_caught, attempt_goes_on, attempt_spent}
 use Rattle.moo_syntax_ast.specs.Tree as program
@@ -39,10 +36,10 @@ use Rattle.moo_syntax_lower.proofs.Rows.{row_items}
 use Rattle.moo_syntax_lower.proofs.StatementRows.{row_block, row_arms, row_handlers}
 use Rattle.std.specs.Prelude.{◌≤ℤ◌, true, false, option_copied}
 use mir.Syntax.{w32, w64}
-use mir.Val.{SFits, to_z, of_z}
+use mir.Val.{SFits, to_z}
 use Rattle.moo_eval_frame.specs.Leading.{after_turn, numbered}
 use Rattle.moo_eval_frame.specs.SeenHandling.{guarded_of}
-use Rattle.moo_eval.proofs.Counting.{after, between, narrow, next_number, not_below, reached}
+use Rattle.moo_eval.proofs.Counting.{narrow, next_number, not_below, reached}
 use Rattle.moo_eval_frame.specs.Handling.{guarded}
 use Rattle.moo_eval_semantics.specs.Operands.{before}
 use Rattle.moo_eval.proofs.interpreter.Task.+evaluation.Goals as goal
@@ -1198,16 +1195,16 @@ compute-returns-in-Call-clause-meaning t c =
 
 pub attempt-returns-in-Some-clause-meaning : goal.attempt-returns-in-Some-clause-meaning
 attempt-returns-in-Some-clause-meaning t c =
-    λ k. record { outcome = _; evaluates = c.in-Some.ensures c.args.world.now (context_of c.args.stack.now c.args.indexed); seen = (refl, refl) }
+    λ k. record { outcome = _; evaluates = c.in-Some.ensures.some c.args.world.now (context_of c.args.stack.now c.args.indexed); seen = (refl, refl) }
 
 pub attempt-returns-in-Ok-clause-meaning : goal.attempt-returns-in-Ok-clause-meaning
 attempt-returns-in-Ok-clause-meaning t c =
-    λ k. record { outcome = _; evaluates = begins c.in_ok-take_tick.ensures.taken (rw (c.in_ok-take_tick.ensures.left, c.in-Ok.is) at (c.compute.ensures.meaning (rw c.in-Ok.is tt))) refl; seen = (refl, refl) }
+    λ k. rw (← c.in_default.ensures.none) (record { outcome = _; evaluates = begins c.in_ok-take_tick.ensures.taken (rw (c.in_ok-take_tick.ensures.left, c.in-Ok.is) at (c.compute.ensures.meaning (rw c.in-Ok.is tt))) refl; seen = (refl, refl) })
 
 pub attempt-returns-in-Err-clause-meaning : goal.attempt-returns-in-Err-clause-meaning
 attempt-returns-in-Err-clause-meaning t c =
-    λ k. record { outcome = _; evaluates = begins c.in_ok-take_tick.ensures.taken (rw (c.in_ok-take_tick.ensures.left, c.in-Err.is) at (c.compute.ensures.meaning (rw c.in-Err.is (c.settle_attempt.ensures.known k)))) refl; seen = c.settle_attempt.ensures.seen k }
+    λ k. rw (← c.in_default.ensures.none) (record { outcome = _; evaluates = begins c.in_ok-take_tick.ensures.taken (rw (c.in_ok-take_tick.ensures.left, c.in-Err.is) at (c.compute.ensures.meaning (rw c.in-Err.is (c.settle_attempt.ensures.known k)))) refl; seen = c.settle_attempt.ensures.seen k })
 
 pub attempt-returns-in_err-take_tick-clause-meaning : goal.attempt-returns-in_err-take_tick-clause-meaning
 attempt-returns-in_err-take_tick-clause-meaning t c =
-    let p = err_from_is_err_and c.from_residual.result c.from_residual.ensures.1 in rw (p.1, p.2) (λ k. let h = c.in_err-take_tick.ensures.spent k in rw c.in_err-take_tick.ensures.kept (attempt_spent h.1 h.0))
+    let p = err_from_is_err_and c.from_residual.result c.from_residual.ensures.1 in rw (p.1, p.2) (λ k. let h = c.in_err-take_tick.ensures.spent k in rw (c.in_err-take_tick.ensures.kept, ← c.in_default.ensures.none) (attempt_spent h.1 h.0))

@@ -37,9 +37,6 @@ decreases-arithmetic l = 16 * l.self.now.ticks_left + 7
 abbrev pub decreases-node_passes : goal.decreases-node_passes
 decreases-node_passes l = 16 * l.self.now.ticks_left + 6
 
-abbrev pub decreases-value_passes : goal.decreases-value_passes
-decreases-value_passes l = 16 * l.self.now.ticks_left + 5
-
 abbrev pub decreases-logic_passes : goal.decreases-logic_passes
 decreases-logic_passes l = 16 * l.self.now.ticks_left
 

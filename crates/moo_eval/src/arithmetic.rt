@@ -1,5 +1,5 @@
-//! Evaluates operators between integers, variables and such operators. They are computed from integers alone if that can
-//! be, and else node by node.
+//! Evaluates operators between integers, variables, their elements, their lengths and such operators. They are computed
+//! from integers alone if that can be, and else node by node.
 ghost use Rattle.std.specs.Prelude.{◌≡◌, ◌≤◌, Ok, IfSome, IfNone};
 ghost use Rattle.moo_value.specs.Tree.{integer};
 ghost use Rattle.moo_syntax_ast.specs.Tree.{binary};

@@ -55,7 +55,7 @@ impl Task {
         }
     }
 
-    // Calls a verb whose name is a literal.
+    // Calls a verb whose name is a literal: evaluates its operands first.
     #[cycle(evaluation)]
     #[inline(never)]
     fn call_literal(
@@ -78,7 +78,7 @@ impl Task {
         self.call_written(world, active, stack, &base, name, values)
     }
 
-    // Calls a verb whose name is computed.
+    // Calls a verb whose name is computed: evaluates its operands first.
     #[cycle(evaluation)]
     #[inline(never)]
     fn call_computed(

@@ -99,11 +99,11 @@ impl Task {
     }
 }
 
-// Is true for a node that may be computed from integers and variables alone.
+// Is true for a node that is often computed from integers alone.
 #[inline(always)]
 fn may_be_integer(node: &Node) -> bool {
     matches!(
         node,
-        Node::Integer(_) | Node::Variable(_) | Node::Arithmetic(..)
+        Node::Integer(_) | Node::Variable(_) | Node::Arithmetic(..) | Node::Index(..)
     )
 }

@@ -20,7 +20,8 @@ use moo_value::Value;
 use moo_world::World;
 
 impl Task {
-    /// Evaluates an expression that is no leaf. Not inlined, so that nested expressions need no stack space for all kinds.
+    /// Evaluates an expression, at once if that can be. Not inlined, so that nested expressions need no stack space for all
+    /// kinds.
     #[cycle(evaluation)]
     #[inline(never)]
     pub(crate) fn evaluate_node(
@@ -41,7 +42,7 @@ impl Task {
     }
 
     /// Evaluates an operator of arithmetic, an element of a variable or the length of one at once, and takes its ticks.
-    /// `None` if that can't be; then nothing has changed.
+    /// `None` if that can't be, or for another node; then nothing has changed.
     #[inline(always)]
     pub(crate) fn try_node(&mut self, active: &Activation, node: &Node) -> Option<Value>
         ensures some { IfSome result (λ v. (w : WorldModel) (c : Context) → Evaluates Faults c (source node.now) (state_of self.old w active.now) (Ok (tree v)) (state_of self.new w active.now)) }

@@ -62,8 +62,8 @@ impl Task {
         Ok(binary(self.alloc(), operator, &left, &right)?)
     }
 
-    /// Returns `base[place]` if the base is a variable and the place is computed from integers and variables alone, and takes
-    /// its ticks. `None` if that can't be; then nothing has changed.
+    /// Returns `base[place]` if the base is a variable and the place is computed from integers alone, and takes its ticks.
+    /// `None` if that can't be; then nothing has changed.
     #[inline(always)]
     pub(crate) fn try_element(
         &mut self,

@@ -4,7 +4,8 @@ use moo_eval_frame::FrameMemory;
 use moo_value::Value;
 use std::alloc::Global;
 
-/// Holds the memory of frames that have ended, and that of the values of arguments and of the codes of catches. No more of each is kept than a task has frames.
+/// Holds the memory of frames that have ended, and that of the values of arguments and of the codes of catches. No more
+/// of each is kept than a task has frames.
 #[derive(Drop)]
 pub(crate) struct SpareMemory {
     alloc: Global,

@@ -10,6 +10,7 @@ ghost use Rattle.moo_builtin.specs.Telling.{Faults};
 ghost use Rattle.moo_eval.specs.Seen.{state_of};
 
 use crate::interpreter::Task;
+use moo_eval_access::as_property;
 use moo_eval_frame::{Activation, CallStack, Flow, Stop, copied_name};
 use moo_syntax_lower::{Node, NodeArm, NodeStmt};
 use moo_value::Value;
@@ -238,14 +239,4 @@ fn as_set_property(node: &Node) -> Option<(&Node, &Node, &Node)>
     };
     let (base, name) = as_property(target)?;
     Some((base, name, value))
-}
-
-// Returns the object and the name, if the expression is a property.
-fn as_property(node: &Node) -> Option<(&Node, &Node)>
-    ensures { IfSome result (λ p. source node.now ≡ property (source p.0.now) (source p.1.now)) }
-{
-    match node {
-        Node::Property(base, name) => Some((base, name)),
-        _ => None,
-    }
 }

@@ -18,9 +18,9 @@ use moo_syntax_lower::Node;
 use moo_value::{MooList, Value};
 use std::alloc::Global;
 
-/// Returns `name[place]`, and takes its ticks from `left`. `None` if the place isn't computed from integers and variables
-/// alone, if the variable isn't set, if the value has no such place, or if ticks or memory are missing. Then `left` may have
-/// fallen.
+/// Returns `name[place]`, and takes its ticks from `left`. `None` if the place can't be computed from integers alone or is
+/// an element itself, if the variable isn't set, if the value has no such place, or if ticks or memory are missing. Then
+/// `left` may have fallen. An element is no place, so that the time for elements of elements is linear in their number.
 pub fn element_of(
     alloc: Global,
     active: &Activation,
@@ -31,6 +31,9 @@ pub fn element_of(
     ensures value { IfSome result (λ v. GivesValue (variables_of active.now.variables) left.old (index (variable name.now) (source place.now)) (tree v) left.new) }
     ensures ticks { left.new ≤ left.old }
 {
+    if is_element(place) {
+        return None;
+    }
     take(left)?;
     let base = active.variables.get(name)?;
     take(left)?;
@@ -39,6 +42,11 @@ pub fn element_of(
         Ok(value) => Some(value),
         Err(_) => None,
     }
+}
+
+#[inline(always)]
+fn is_element(node: &Node) -> bool {
+    matches!(node, Node::Index(..))
 }
 
 /// Returns the integer at a place of a list. `None` if there is no such place or no integer there.
@@ -59,7 +67,7 @@ pub(crate) fn integer_at(list: &MooList, place: i32) -> Option<i32>
 
 /// Sets `name[place]` to a value and returns true, and takes the ticks of place and value from `left`. The variable has
 /// to hold a list that nothing else shares, with an integer at the place; place and value have to be computed from
-/// integers and variables alone. Else the variables stay, but `left` may have fallen.
+/// integers alone. Else the variables stay, but `left` may have fallen.
 pub fn put_integer(
     active: &mut Activation,
     left: &mut u32,

@@ -1,4 +1,5 @@
-//! Integers of operators between integers, variables, their elements and their lengths, computed at once. An internal crate of `moo_eval`.
+//! Integers of operators between integers, variables, their elements and their lengths, computed at once. An internal
+//! crate of `moo_eval`.
 #![tactic(auto)]
 
 mod element;

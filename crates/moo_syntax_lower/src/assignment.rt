@@ -7,10 +7,13 @@ ghost use Rattle.moo_syntax_ast.specs.View.{tree, with_item, items_of};
 ghost use Rattle.moo_syntax_lower.specs.Blocks.{source_statement, named_items};
 
 use crate::expression::{copied_name, lower_boxed};
+use crate::function_name::FunctionName;
 use crate::item::lower_items;
 use crate::statement::NodeStmt;
 use moo_syntax_ast::operator::BinaryOperator;
 use moo_syntax_ast::{Expr, Item, Name};
+use moo_syntax_function::Function;
+use moo_value::MooStr;
 use std::alloc::{AllocError, Global};
 
 /// Returns the lowered statement of an expression. Err is out of memory.
@@ -36,6 +39,12 @@ fn lower_set(alloc: Global, name: &Name, value: &Expr) -> Result<NodeStmt, Alloc
     ensures { IfOk result (λ node. source_statement node ≡ source_tree.performs (source_tree.assign (source_tree.variable name.now) (tree value.now))) }
 {
     let copy = copied_name(name)?;
+    if let Some((called, items)) = as_call_with(name, value) {
+        let called = FunctionName::try_new(called)?;
+        if makes_list(&called) {
+            return Ok(NodeStmt::Update(copy, called, lower_items(alloc, items)?));
+        }
+    }
     if let Some(last) = as_longer(name, value) {
         return Ok(NodeStmt::Lengthen(copy, lower_boxed(alloc, last)?));
     }
@@ -46,6 +55,20 @@ fn lower_set(alloc: Global, name: &Name, value: &Expr) -> Result<NodeStmt, Alloc
         Some(last) => Ok(NodeStmt::Extend(copy, lower_boxed(alloc, last)?)),
         None => Ok(NodeStmt::Set(copy, lower_boxed(alloc, value)?)),
     }
+}
+
+// Is true for the functions whose first argument is a list, and whose value is that list with an element more or less.
+fn makes_list(name: &FunctionName) -> bool {
+    matches!(
+        name.function(),
+        Some(
+            Function::ListAppend
+                | Function::ListInsert
+                | Function::ListDelete
+                | Function::SetAdd
+                | Function::SetRemove
+        )
+    )
 }
 
 fn lower_put(alloc: Global, name: &Name, place: &Expr, value: &Expr) -> Result<NodeStmt, AllocError>
@@ -114,6 +137,23 @@ fn as_element_of_variable(expr: &Expr) -> Option<(&Name, &Expr)>
     };
     let name = as_variable(base)?;
     Some((name, place))
+}
+
+// Returns the name and the arguments, if the expression is a call `f(x, a)` with this variable as its first argument.
+fn as_call_with<'a>(name: &Name, value: &'a Expr) -> Option<(&'a MooStr, &'a [Item])>
+    ensures { IfSome result (λ p. tree value.now ≡ source_tree.call p.0.now (items_of p.1.now)) }
+{
+    let Expr::Call(called, items) = value else {
+        return None;
+    };
+    let (first, last) = two_items(items)?;
+    let own = as_variable(as_element(first)?)?;
+    as_element(last)?;
+    if own.is_spelled_as(name) {
+        Some((called, items))
+    } else {
+        None
+    }
 }
 
 // Returns the last element, if the expression is a list of all elements of this variable and one more, `{@x, a}`.

@@ -91,8 +91,8 @@ fn is_arithmetic(operator: BinaryOperator) -> bool {
     !matches!(operator, BinaryOperator::Power | BinaryOperator::In)
 }
 
-// Is true if the value of an operand is computed from integers, variables, their elements and their lengths alone. What
-// is compared by `==` or `!=` is most often no integer if it is an element.
+// Is true if the value of an operand is computed from integers, variables, their elements at flat places and their
+// lengths alone. What is compared by `==` or `!=` is most often no integer if it is an element, so that doesn't count.
 fn is_arithmetic_part(operator: BinaryOperator, node: &Node) -> bool {
     match node {
         Node::Integer(_) | Node::Variable(_) | Node::Arithmetic(..) => true,
@@ -108,11 +108,21 @@ fn is_equality(operator: BinaryOperator) -> bool {
     matches!(operator, BinaryOperator::Equal | BinaryOperator::NotEqual)
 }
 
-// Is true for an integer, a variable, and an operator of arithmetic between two of these.
+// Is true for a place that is computed by at most two operators of arithmetic from integers and variables, as in
+// `l[i + 1 - k]`. So the time for an operand that turns out to be no integer is bounded.
 fn is_flat_place(place: &Node) -> bool {
     match place {
-        Node::Arithmetic(_, a, b) => is_integer_or_variable(a) && is_integer_or_variable(b),
+        Node::Arithmetic(_, a, b) => is_flat_sum(a) && is_integer_or_variable(b)
+            || is_integer_or_variable(a) && is_flat_sum(b),
         _ => is_integer_or_variable(place),
+    }
+}
+
+// Is true for an integer, a variable, and an operator of arithmetic between two of these.
+fn is_flat_sum(node: &Node) -> bool {
+    match node {
+        Node::Arithmetic(_, a, b) => is_integer_or_variable(a) && is_integer_or_variable(b),
+        _ => is_integer_or_variable(node),
     }
 }
 

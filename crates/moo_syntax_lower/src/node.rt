@@ -18,7 +18,8 @@ pub enum Node {
     Unary(UnaryOperator, Box<Node>),
     Binary(BinaryOperator, Box<Node>, Box<Node>),
     /// `a + b` and its like, if the operands are integers, variables, their elements, their lengths or such operators
-    /// themselves. So its value is most often computed from integers alone.
+    /// themselves. So its value is most often computed from integers alone. The place of such an element has at most two
+    /// operators, and no elements are operands of `==` and `!=`.
     Arithmetic(BinaryOperator, Box<Node>, Box<Node>),
     Logic(LogicOperator, Box<Node>, Box<Node>),
     /// `a ? b | c`

@@ -1,4 +1,5 @@
 //! The statements of lowered programs.
+use crate::function_name::FunctionName;
 use crate::node::{Node, NodeCodes, NodeItem};
 use moo_syntax_ast::Name;
 use moo_value::MooStr;
@@ -9,7 +10,7 @@ use moo_value::MooStr;
 pub enum NodeStmt {
     /// `return;` or `return a;`
     Return(Option<Box<Node>>),
-    /// `a;`, a statement of an expression that none of the next seven is.
+    /// `a;`, a statement of an expression that none of the next eight is.
     Expression(Box<Node>),
     /// `x = a;`
     Set(Name, Box<Node>),
@@ -19,6 +20,8 @@ pub enum NodeStmt {
     Prepend(Name, Box<Node>),
     /// `x = x + a;`
     Extend(Name, Box<Node>),
+    /// `x = f(x, ..);` for a built-in function that makes a list of a list, as `listappend`.
+    Update(Name, FunctionName, Vec<NodeItem>),
     /// `x[a] = b;`
     Put(Name, Box<Node>, Box<Node>),
     /// `{x, y} = a;`, if each item is a variable.

@@ -2,7 +2,7 @@
 ghost use Rattle.std.specs.Prelude.{◌≡◌};
 ghost use Rattle.moo_value.specs.View.{tree, trees};
 ghost use Rattle.moo_syntax_function.specs.Table.{row};
-ghost use Rattle.moo_syntax_function.specs.Check.{refusal, all_valid, names_valid};
+ghost use Rattle.moo_syntax_function.specs.Check.{refusal, all_valid, names_valid, kind_at};
 ghost use Rattle.moo_builtin_world.specs.Objects.{is_valid};
 
 use moo_syntax_function::{Function, Kind};
@@ -27,18 +27,23 @@ fn all_valid(function: Function, args: &[Value], world: &World) -> bool
     ensures { result ≡ all_valid (is_valid world.now) (row function) (trees args.now) }
 {
     for place in 0..args.len() {
-        if !names_valid(world, function.kind_at(place), &args[place]) {
+        if !names_valid(world, function, place, &args[place]) {
             return false;
         }
     }
     true
 }
 
-fn names_valid(world: &World, kind: Kind, value: &Value) -> bool
-    ensures { result ≡ names_valid (is_valid world.now) kind (tree value.now) }
+// Returns whether the argument at a place is valid, if it is an object that has to be. No other argument needs a look at
+// the row.
+fn names_valid(world: &World, function: Function, place: usize, value: &Value) -> bool
+    ensures { result ≡ names_valid (is_valid world.now) (kind_at (row function) place) (tree value.now) }
 {
-    match (kind, value) {
-        (Kind::ValidObject, Value::Obj(o)) => world.valid(*o),
+    match value {
+        Value::Obj(o) => match function.kind_at(place) {
+            Kind::ValidObject => world.valid(*o),
+            _ => true,
+        },
         _ => true,
     }
 }

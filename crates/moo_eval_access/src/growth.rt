@@ -75,8 +75,8 @@ fn prepended(alloc: Global, list: MooList, value: Value) -> Result<MooList, Allo
     }
 }
 
-// Is true if the list with one more value, this one, is within the limits of weight and depth.
-fn has_room_for(list: &MooList, value: &Value) -> bool
+/// Returns whether the list with one more value, this one, is within the limits of weight and depth.
+pub fn has_room_for(list: &MooList, value: &Value) -> bool
     ensures last { IsTrue result ↔ IsWithinLimits (list_of (list.now ++ tree value.now ∷ [])) }
     ensures first { IsTrue result ↔ IsWithinLimits (list_of (tree value.now ∷ list.now)) }
 {

@@ -65,6 +65,16 @@ impl Gathered {
         })
     }
 
+    /// Returns these values.
+    pub fn of(alloc: Global, values: Vec<Value>) -> Gathered
+        ensures { result ≡ trees values.items }
+    {
+        Gathered {
+            stretches: Vec::new(alloc),
+            last: values,
+        }
+    }
+
     /// Appends a value.
     #[inline(always)]
     pub fn push(&mut self, value: Value) -> Result<(), AllocError>

@@ -1,5 +1,6 @@
 //! The slots of the variables of a program.
-ghost use Rattle.std.specs.Prelude.{◌≡◌, List, [], ◌+◌, ◌<◌, ◌≤◌, ◌++◌, Some, None, map, set, position, length, get_or, option_map, vec_len, vec_capacity, IsTrue, IsFalse, IfOk, IfSome};
+ghost use Rattle.std.specs.Prelude.{◌≡◌, ℤ, ◌+ℤ◌, List, [], ◌+◌, ◌<◌, ◌≤◌, ◌++◌, Some, None, map, set, position, length, get_or, option_map, vec_len, vec_capacity, IsTrue, IsFalse, IfOk, IfSome};
+ghost use Rattle.std.specs.Int.{int_wrap, w32};
 ghost use Rattle.std.specs.Str.{bytes_eq};
 ghost use Rattle.moo_value.specs.Tree.{Tree, integer, list_of};
 ghost use Rattle.moo_value.specs.Size.{IsWithinLimits};
@@ -113,6 +114,16 @@ impl Slots {
         put_integer(&mut self.values, slot, number);
     }
 
+    /// Adds to the integer in a slot, and returns whether it holds one.
+    #[inline(always)]
+    pub(crate) fn add_integer(&mut self, slot: usize, number: i32) -> bool
+        requires { IsSlot self.old slot }
+        ensures added { IsTrue result → (i : ℤ) × (get_or self.old.values slot None ≡ Some (Int i)) × (self.new ≡ with_held self.old slot (Int (int_wrap w32 (i +ℤ number)))) }
+        ensures kept { IsFalse result → self.new ≡ self.old }
+    {
+        add_integer(&mut self.values, slot, number)
+    }
+
     /// Replaces an integer in the list in a slot by another if nothing else shares the list, and returns whether it did.
     #[inline(always)]
     pub(crate) fn put_element(&mut self, slot: usize, index: usize, number: i32) -> bool
@@ -131,6 +142,38 @@ fn put_integer(values: &mut Vec<Option<Value>>, slot: usize, number: i32)
     ensures { values.new.items ≡ set values.old.items slot (Some (Int number)) }
 {
     set_integer(&mut values[slot], number);
+}
+
+// Adds to the integer in a slot, and returns whether it holds one.
+#[inline(always)]
+fn add_integer(values: &mut Vec<Option<Value>>, slot: usize, number: i32) -> bool
+    requires { slot < length values.old.items }
+    ensures added { IsTrue result → (i : ℤ) × (get_or values.old.items slot None ≡ Some (Int i)) × (values.new.items ≡ set values.old.items slot (Some (Int (int_wrap w32 (i +ℤ number))))) }
+    ensures kept { IsFalse result → values.new.items ≡ values.old.items }
+{
+    add_in_place(&mut values[slot], number)
+}
+
+// Adds to the integer at a place, and returns whether it holds one.
+#[inline(always)]
+fn add_in_place(place: &mut Option<Value>, number: i32) -> bool
+    ensures added { IsTrue result → (i : ℤ) × (place.old ≡ Some (Int i)) × (place.new ≡ Some (Int (int_wrap w32 (i +ℤ number)))) }
+    ensures kept { IsFalse result → place.new ≡ place.old }
+{
+    match place {
+        Some(Value::Int(held)) => {
+            *held = sum(*held, number);
+            true
+        }
+        _ => false,
+    }
+}
+
+#[inline(always)]
+fn sum(a: i32, b: i32) -> i32
+    ensures { result ≡ int_wrap w32 (a +ℤ b) }
+{
+    a.wrapping_add(b)
 }
 
 // Replaces an integer in the list in a slot by another if nothing else shares the list, and returns whether it did.

@@ -1,5 +1,6 @@
 //! The variables of a frame.
-ghost use Rattle.std.specs.Prelude.{◌≡◌, ◌<◌, List, [], Some, length, set, option_map, IsTrue, IsFalse, IfOk, OnOk};
+ghost use Rattle.std.specs.Prelude.{◌≡◌, ◌<◌, ℤ, ◌+ℤ◌, List, [], Some, length, set, option_map, IsTrue, IsFalse, IfOk, OnOk};
+ghost use Rattle.std.specs.Int.{int_wrap, w32};
 ghost use Rattle.moo_value.specs.Tree.{Tree, integer, list_of};
 ghost use Rattle.moo_value.specs.Size.{IsWithinLimits};
 ghost use Rattle.moo_value.specs.View.{tree};
@@ -92,17 +93,31 @@ impl Variables {
         }
     }
 
-    /// Sets a variable to an integer. A variable that holds an integer is changed in place.
+    /// Sets a variable to an integer, in place if it holds one, and returns true. False if the variable's slot isn't known;
+    /// then nothing has changed.
     #[inline(always)]
-    pub fn set_integer(&mut self, name: &Name, number: i32) -> Result<(), AllocError>
-        ensures { OnOk result (variables_of self.new ≡ with_variable (variables_of self.old) (bind name.now (integer number))) }
+    pub fn put_integer(&mut self, name: &Name, number: i32) -> bool
+        ensures put { IsTrue result → variables_of self.new ≡ with_variable (variables_of self.old) (bind name.now (integer number)) }
+        ensures kept { IsFalse result → variables_of self.new ≡ variables_of self.old }
     {
         match self.own.known_slot(name) {
             Some(slot) => {
                 self.own.set_integer(slot, number);
-                Ok(())
+                true
             }
-            None => self.set_unknown_integer(name, number),
+            None => false,
+        }
+    }
+
+    /// Adds to the integer in a variable, and returns whether it holds one. It doesn't if the variable's slot isn't known.
+    #[inline(always)]
+    pub fn add_integer(&mut self, name: &Name, number: i32) -> bool
+        ensures added { IsTrue result → (i : ℤ) × (variables_of self.old (folded name.now) ≡ Some (integer i)) × (variables_of self.new ≡ with_variable (variables_of self.old) (bind name.now (integer (int_wrap w32 (i +ℤ number))))) }
+        ensures kept { IsFalse result → variables_of self.new ≡ variables_of self.old }
+    {
+        match self.own.known_slot(name) {
+            Some(slot) => self.own.add_integer(slot, number),
+            None => false,
         }
     }
 
@@ -117,15 +132,6 @@ impl Variables {
             Some(slot) => self.own.put_element(slot, index, number),
             None => false,
         }
-    }
-
-    // Sets a variable to an integer whose slot isn't known. It is a separate function, so that the common case needs no
-    // room for a value.
-    #[inline(never)]
-    fn set_unknown_integer(&mut self, name: &Name, number: i32) -> Result<(), AllocError>
-        ensures { OnOk result (variables_of self.new ≡ with_variable (variables_of self.old) (bind name.now (integer number))) }
-    {
-        self.set_unknown(name, Value::Int(number))
     }
 
     // Sets a variable whose slot isn't known: one that every frame has, or one that a search finds. It is a separate

@@ -7,11 +7,11 @@ use Rattle.moo_eval_frame.specs.GivenValues.{given_values}
 use Rattle.moo_eval_frame.specs.Seen.{value_among, slot_value, own_variables, variables_of}
 use Rattle.moo_eval_frame.proofs.GivenNames.{other_set}
 use Rattle.moo_eval_frame.proofs.Stored.{set_slot}
-use Rattle.moo_eval_frame.proofs.variables.Variables.set_integer.Goals as goal
+use Rattle.moo_eval_frame.proofs.variables.Variables.put_integer.Goals as goal
 
-pub returns-in-Some : goal.returns-in-Some
+pub returns-in-Some-clause-put : goal.returns-in-Some-clause-put
 unfolding variables_of
-returns-in-Some c =
+returns-in-Some-clause-put c = λ t.
     let found = c.in-Some.ensures in
     let old = c.args.self.now in
     let n = to_z-of_z w32 c.args.number c.ranges.number in

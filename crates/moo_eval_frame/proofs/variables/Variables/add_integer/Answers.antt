@@ -1,0 +1,37 @@
+use Rattle.std.proofs.Common.{◌+ℤ◌, None, ap, sym, ◌∙◌, w32}
+use Rattle.std.proofs.lemmas.Int.{to_z-of_z}
+use Rattle.std.specs.Int.{int_wrap}
+use Rattle.std.specs.Option.{option_map}
+use Rattle.moo_value.specs.View.{tree}
+use Rattle.moo_value.specs.Tree.{integer}
+use Rattle.moo_value.specs.declared.value.Value.TheVariants.{Int}
+use Rattle.moo_syntax_ast.specs.Given.{given_names}
+use Rattle.moo_eval_frame.specs.GivenValues.{given_values}
+use Rattle.moo_eval_frame.specs.Seen.{value_among, slot_value, own_variables, variables_of}
+use Rattle.moo_eval_frame.proofs.GivenNames.{other_at, other_set}
+use Rattle.moo_eval_frame.proofs.Names.{slot_at}
+use Rattle.moo_eval_frame.proofs.Stored.{set_slot}
+use Rattle.moo_eval_frame.proofs.variables.Variables.add_integer.Goals as goal
+
+pub returns-in-Some-clause-added : goal.returns-in-Some-clause-added
+unfolding variables_of
+returns-in-Some-clause-added c = λ t.
+    let found = c.in-Some.ensures in
+    let old = c.args.self.now in
+    let name = c.args.name.now in
+    let slot = c.in-Some.slot in
+    let elsewhere = value_among old.others.items in
+    let n = to_z-of_z w32 c.args.number c.ranges.number in
+    let p = simp n at (c.add_integer.ensures.added t) in
+    let new = int_wrap w32 (p.0 +ℤ c.args.number) in (
+      p.0,
+      sym (other_at old.given (own_variables old) name found.own) ∙ slot_at name old.own.names old.own.values elsewhere None slot found.there found.within ∙ ap (option_map (λ v. tree v)) p.1,
+      ap (slot_value given_names (given_values old.given)) (ap (λ own. slot_value own.names own.values elsewhere) p.2 ∙ set_slot name (Int new) old.own.names old.own.values elsewhere slot found.there found.within)
+          ∙ other_set old.given (own_variables old) name found.own (integer new),
+    )
+
+pub returns-in-Some-clause-kept : goal.returns-in-Some-clause-kept
+unfolding variables_of
+returns-in-Some-clause-kept c = λ f.
+    let old = c.args.self.now in
+    ap (λ own. slot_value given_names (given_values old.given) (slot_value own.names own.values (value_among old.others.items))) (c.add_integer.ensures.kept f)

@@ -18,3 +18,4 @@ pub mod Turning
 pub mod HookUnique
 pub mod HookOnward
 pub mod HookWider
+pub mod Updates

@@ -18,3 +18,4 @@ pub mod Stages
 pub mod VerbCalls
 pub mod SeenByHooks
 pub mod Turns
+pub mod Updates

@@ -21,6 +21,7 @@ mod spliced;
 mod stages;
 mod task;
 mod ticks;
+mod update;
 mod verb_call;
 
 pub use arguments::are_too_many;
@@ -29,4 +30,5 @@ pub use evaluating::typed_frame;
 pub use progress::{Progress, Stage};
 pub use stages::resume_call;
 pub use ticks::{MOST_TICKS, Ticks};
+pub use update::{makes_list, set_list};
 pub use verb_call::{start_call, verb_caller};

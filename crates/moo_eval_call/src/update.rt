@@ -1,0 +1,100 @@
+//! Changes of the list in a variable by a built-in function, as by `l = listappend(l, x);`.
+ghost use Rattle.std.specs.Prelude.{◌≡◌, [], ◌∷◌, Some, IsTrue, IfOk, OnOk};
+ghost use Rattle.moo_value.specs.Tree.{Tree, list_of};
+ghost use Rattle.moo_value.specs.Size.{IsWithinLimits};
+ghost use Rattle.moo_value.specs.View.{tree, trees};
+ghost use Rattle.moo_builtin_operator.specs.declared.fault.OperationFault.TheVariants.{Memory};
+ghost use Rattle.moo_eval_frame.specs.Variables.{bind, with_variable};
+ghost use Rattle.moo_eval_frame.specs.Seen.{variables_of};
+ghost use Rattle.moo_eval_call.specs.Updates.{MakesList, HasList, HasPlace};
+
+use moo_builtin_operator::{OperationFault, before_place};
+use moo_builtin_value::plain_answer;
+use moo_eval_access::has_room_for;
+use moo_eval_frame::Variables;
+use moo_syntax_ast::Name;
+use moo_syntax_function::Function;
+use moo_value::{DEPTH_LIMIT, MooList, Value, WEIGHT_LIMIT};
+use std::alloc::{AllocError, Global};
+
+/// Sets a variable to the list that a function makes of these arguments, of which `makes_list` holds. The variable gives
+/// up what it holds first, so a list that nothing else shares is changed in place. Err is out of memory.
+pub fn set_list(
+    alloc: Global,
+    variables: &mut Variables,
+    name: &Name,
+    function: Function,
+    args: &mut [Value],
+) -> Result<(), AllocError>
+    requires { HasList function (trees args.old) }
+    ensures { OnOk result ((w : Tree) × MakesList function (trees args.old) w × (variables_of variables.new ≡ with_variable (variables_of variables.old) (bind name.now w))) }
+{
+    variables.set(name, Value::Int(0))?;
+    let list = made(alloc, function, args)?;
+    variables.set(name, list)?;
+    Ok(())
+}
+
+// Returns the list that a function makes of these arguments. Err is out of memory.
+fn made(alloc: Global, function: Function, args: &mut [Value]) -> Result<Value, AllocError>
+    requires { HasList function (trees args.old) }
+    ensures { IfOk result (λ v. MakesList function (trees args.old) (tree v)) }
+{
+    let Some(answer) = plain_answer(alloc, function, args, 0) else {
+        unreachable!()
+    };
+    match answer {
+        Ok(list) => Ok(list),
+        Err(fault) => Err(out_of_memory(fault)),
+    }
+}
+
+// Returns the error of an operation that memory was missing for.
+fn out_of_memory(fault: OperationFault) -> AllocError
+    requires { fault ≡ Memory }
+{
+    match fault {
+        OperationFault::Memory => AllocError,
+        OperationFault::Raise(_) => unreachable!(),
+    }
+}
+
+/// Returns whether a function makes a list of its first argument, with an element more or less, and raises no error.
+pub fn makes_list(function: Function, args: &[Value]) -> bool
+    ensures { IsTrue result → HasList function (trees args.now) }
+{
+    match args {
+        [Value::List(list), value] => makes_list_of(function, list, value),
+        _ => false,
+    }
+}
+
+fn makes_list_of(function: Function, list: &MooList, value: &Value) -> bool
+    ensures { IsTrue result → HasList function (list_of list.now ∷ tree value.now ∷ []) }
+{
+    match function {
+        Function::ListAppend => has_room_for(list, value),
+        Function::ListInsert => has_room_for(list, value),
+        Function::SetAdd => has_room_for(list, value),
+        Function::ListDelete => has_place(list, value) && is_within_limits(list),
+        Function::SetRemove => is_within_limits(list),
+        _ => false,
+    }
+}
+
+// Is true if a value is the place of an element of the list.
+fn has_place(list: &MooList, value: &Value) -> bool
+    ensures { IsTrue result → HasPlace list.now (tree value.now) }
+{
+    match value {
+        Value::Int(place) => before_place(*place, list.len()).is_some(),
+        _ => false,
+    }
+}
+
+// Is always true, and says why.
+fn is_within_limits(list: &MooList) -> bool
+    ensures { IsTrue result → IsWithinLimits (list_of list.now) }
+{
+    list.weight() <= WEIGHT_LIMIT && list.depth() <= DEPTH_LIMIT
+}

@@ -1,6 +1,6 @@
 //! Elements of lists, and letters of strings, in variables.
-ghost use Rattle.std.specs.Prelude.{◌≡◌, ◌≤◌, suc, pos, Ok, IsTrue, IsFalse, IfSome};
-ghost use Rattle.moo_value.specs.Tree.{integer, list_of};
+ghost use Rattle.std.specs.Prelude.{◌≡◌, ◌≤◌, suc, pos, Ok, IsTrue, IsFalse, IfSome, IfNone};
+ghost use Rattle.moo_value.specs.Tree.{integer, list_of, string as string_tree};
 ghost use Rattle.moo_value.specs.View.{tree};
 ghost use Rattle.moo_syntax_ast.specs.Tree.{variable, index};
 ghost use Rattle.moo_syntax_lower.specs.Source.{source};
@@ -10,25 +10,25 @@ ghost use Rattle.moo_eval_integer.specs.Integers.{GivesValue};
 ghost use Rattle.moo_eval_integer.specs.Puts.{PutsInteger};
 
 use crate::integer::integer_of;
+use crate::letters::Letters;
 use crate::ticks::take;
-use moo_builtin_operator as operation;
 use moo_eval_frame::Activation;
 use moo_syntax_ast::Name;
 use moo_syntax_lower::Node;
-use moo_value::{MooList, Value};
-use std::alloc::Global;
+use moo_value::{MooList, MooStr, Value};
 
 /// Returns `name[place]`, and takes its ticks from `left`. `None` if the place can't be computed from integers alone or is
 /// an element itself, if the variable isn't set, if the value has no such place, or if ticks or memory are missing. Then
 /// `left` may have fallen. An element is no place, so that the time for elements of elements is linear in their number.
 pub fn element_of(
-    alloc: Global,
+    letters: &mut Letters,
     active: &Activation,
     left: &mut u32,
     name: &Name,
     place: &Node,
 ) -> Option<Value>
     ensures value { IfSome result (λ v. GivesValue (variables_of active.now.variables) left.old (index (variable name.now) (source place.now)) (tree v) left.new) }
+    ensures kept { IfNone result (letters.new ≡ letters.old) }
     ensures ticks { left.new ≤ left.old }
 {
     if is_element(place) {
@@ -38,10 +38,49 @@ pub fn element_of(
     let base = active.variables.get(name)?;
     take(left)?;
     let place = integer_of(active, left, place)?;
-    match operation::index(alloc, base, &Value::Int(place)) {
+    element_at(letters, base, place)
+}
+
+// Returns the element of a list, or the letter of a string, at a place. `None` if there is none, or if memory is missing.
+#[inline(always)]
+fn element_at(letters: &mut Letters, base: &Value, place: i32) -> Option<Value>
+    ensures value { IfSome result (λ v. index_of (tree base.now) (integer place) ≡ Ok (tree v)) }
+    ensures kept { IfNone result (letters.new ≡ letters.old) }
+{
+    let index = elements_before(place)?;
+    match base {
+        Value::List(list) => element_after(list, index),
+        Value::Str(string) => letter_after(letters, string, index),
+        _ => None,
+    }
+}
+
+// Returns the element of a list that comes after so many.
+#[inline(always)]
+fn element_after(list: &MooList, index: usize) -> Option<Value>
+    ensures { IfSome result (λ v. index_of (list_of list.now) (integer (pos (suc index))) ≡ Ok (tree v)) }
+{
+    let elements = list.elements();
+    if index >= elements.len() {
+        return None;
+    }
+    match elements[index].try_clone() {
         Ok(value) => Some(value),
         Err(_) => None,
     }
+}
+
+// Returns the letter of a string that comes after so many.
+#[inline(always)]
+fn letter_after(letters: &mut Letters, string: &MooStr, index: usize) -> Option<Value>
+    ensures value { IfSome result (λ v. index_of (string_tree string.now) (integer (pos (suc index))) ≡ Ok (tree v)) }
+    ensures kept { IfNone result (letters.new ≡ letters.old) }
+{
+    let bytes = string.as_bytes();
+    if index >= bytes.len() {
+        return None;
+    }
+    Some(Value::Str(letters.letter(bytes[index])?))
 }
 
 #[inline(always)]

@@ -1,5 +1,5 @@
 //! Computes the integers of nodes.
-ghost use Rattle.std.specs.Prelude.{◌≡◌, ◌≤◌, ℕ, List, Option, Some, IfSome};
+ghost use Rattle.std.specs.Prelude.{◌≡◌, ◌≤◌, ◌<◌, ◌-◌, ℕ, ℤ, List, Option, Some, IfSome, IsTrue, IsFalse};
 ghost use Rattle.moo_value.specs.Tree.{Tree, integer};
 ghost use Rattle.moo_value.specs.Compare.{folded};
 ghost use Rattle.moo_syntax_ast.specs.declared.operator.BinaryOperator.TheVariants.{Add};
@@ -7,6 +7,7 @@ ghost use Rattle.moo_syntax_ast.specs.declared.tree.Literal.TheVariants.{Integer
 ghost use Rattle.moo_syntax_ast.specs.Tree.{literal, variable, binary, index};
 ghost use Rattle.moo_syntax_lower.specs.Source.{source};
 ghost use Rattle.moo_builtin_operator.specs.Truth.{is_true};
+ghost use Rattle.moo_eval_frame.specs.Variables.{bind, with_variable};
 ghost use Rattle.moo_eval_frame.specs.Seen.{indexed_of, variables_of};
 ghost use Rattle.moo_eval_integer.specs.Integers.{GivesInteger};
 
@@ -40,18 +41,63 @@ pub fn arithmetic_integer(
     number_of(operator, a, b)
 }
 
-/// Returns the integer of the sum of a variable and a node, likewise.
-pub fn sum_integer(active: &Activation, left: &mut u32, name: &Name, node: &Node) -> Option<i32>
-    ensures value { IfSome result (λ n. GivesInteger (variables_of active.now.variables) left.old (binary Add (variable name.now) (source node.now)) n left.new) }
+/// Adds the integer of a node to the one in a variable and returns true, and takes the ticks of the sum from `left`. The
+/// variable has to hold an integer, and the node has to be computed from integers alone. Else the variables stay, but
+/// `left` may have fallen.
+#[inline(always)]
+pub fn add_integer(active: &mut Activation, left: &mut u32, name: &Name, node: &Node) -> bool
+    ensures added { IsTrue result → (n : ℤ) × GivesInteger (variables_of active.old.variables) left.old (binary Add (variable name.now) (source node.now)) n left.new × (variables_of active.new.variables ≡ with_variable (variables_of active.old.variables) (bind name.now (integer n))) }
+    ensures kept { IsFalse result → variables_of active.new.variables ≡ variables_of active.old.variables }
+    ensures programmer { active.new.programmer ≡ active.old.programmer }
+    ensures ticks { left.new ≤ left.old }
+{
+    match addend(active, left, node) {
+        Some(number) => active.variables.add_integer(name, number),
+        None => false,
+    }
+}
+
+/// Sets a variable to the integer of an operator and returns true, and takes the operator's ticks from `left`. The operator
+/// has to be computed from integers alone, and the variable's slot has to be known. Else the variables stay, but `left`
+/// may have fallen.
+#[inline(always)]
+pub fn set_arithmetic(active: &mut Activation, left: &mut u32, name: &Name, node: &Node) -> bool
+    ensures set { IsTrue result → (n : ℤ) × GivesInteger (variables_of active.old.variables) left.old (source node.now) n left.new × (variables_of active.new.variables ≡ with_variable (variables_of active.old.variables) (bind name.now (integer n))) }
+    ensures kept { IsFalse result → variables_of active.new.variables ≡ variables_of active.old.variables }
+    ensures programmer { active.new.programmer ≡ active.old.programmer }
+    ensures ticks { left.new ≤ left.old }
+{
+    match operator_integer(active, left, node) {
+        Some(number) => active.variables.put_integer(name, number),
+        None => false,
+    }
+}
+
+// Returns the integer of an operator, and takes its ticks from `left`. `None` as `arithmetic_integer`, and for another node.
+#[inline(always)]
+fn operator_integer(active: &Activation, left: &mut u32, node: &Node) -> Option<i32>
+    ensures value { IfSome result (λ n. GivesInteger (variables_of active.now.variables) left.old (source node.now) n left.new) }
+    ensures ticks { left.new ≤ left.old }
+{
+    match node {
+        Node::Arithmetic(operator, a, b) => arithmetic_integer(active, left, *operator, a, b),
+        _ => None,
+    }
+}
+
+// Returns the integer of a node, and takes its ticks after those of a sum and of its first operand. `None` as
+// `integer_of`.
+#[inline(always)]
+fn addend(active: &Activation, left: &mut u32, node: &Node) -> Option<i32>
+    ensures value { IfSome result (λ n. (between : ℕ) × (1 < left.old) × (between ≡ left.old - 2) × GivesInteger (variables_of active.now.variables) between (source node.now) n left.new) }
     ensures ticks { left.new ≤ left.old }
 {
     take(left)?;
-    let a = variable_integer(active, left, name)?;
-    let b = integer_of(active, left, node)?;
-    number_of(BinaryOperator::Add, a, b)
+    take(left)?;
+    integer_of(active, left, node)
 }
 
-// Returns the integer of a node, likewise. Inlined, so that an integer or a variable needs no call. Three tests are
+// Returns the integer of a node, and takes its ticks from `left`. `None` as `arithmetic_integer`. Inlined, so that an integer or a variable needs no call. Three tests are
 // shorter than the table of jumps that a `match` over all nodes would be.
 #[cycle(integer)]
 #[inline(always)]
@@ -71,7 +117,7 @@ pub(crate) fn integer_of(active: &Activation, left: &mut u32, node: &Node) -> Op
     part_integer(active, left, node)
 }
 
-// Returns the integer of an element of a variable or of its length, likewise. Not inlined, so that operators between
+// Returns the integer of an element of a variable or of its length, and takes its ticks from `left`. Not inlined, so that operators between
 // integers stay short.
 #[cycle(integer)]
 #[inline(never)]
@@ -86,7 +132,7 @@ fn part_integer(active: &Activation, left: &mut u32, node: &Node) -> Option<i32>
     }
 }
 
-// Returns the integer at a place of the list in a variable, likewise.
+// Returns the integer at a place of the list in a variable, and takes its ticks from `left`.
 #[cycle(integer)]
 #[inline(always)]
 fn element_integer(active: &Activation, left: &mut u32, base: &Node, place: &Node) -> Option<i32>

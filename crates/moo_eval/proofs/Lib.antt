@@ -14,3 +14,4 @@ mod Placed
 mod Prepended
 mod Properties
 mod Ticks
+mod Updated

@@ -1,20 +1,20 @@
 -- Assignments to a place of the list or string in a variable.
-use Rattle.std.proofs.Common.{◌≡◌, ℕ, ◌<◌, ℤ, List, [], ◌∷◌, Option, Result, Ok, Err, refl, sym, ap, subst}
+use Rattle.std.proofs.Common.{◌≡◌, ℕ, ◌<◌, ◌-◌, ℤ, List, [], ◌∷◌, Option, Result, Ok, Err, refl, sym, ap, subst}
 use Rattle.moo_value.specs.declared.error_code.ErrorCode.TheVariants.{VariableNotFound}
-use Rattle.moo_value.specs.Tree.{Tree}
+use Rattle.moo_value.specs.Tree.{Tree, integer}
 use Rattle.moo_value.specs.Compare.{folded}
-use Rattle.moo_syntax_ast.specs.Tree.{Expr, performs}
+use Rattle.moo_syntax_ast.specs.Tree.{Expr, Stmt, variable, assign, performs}
 use Rattle.moo_builtin_operator.specs.Assignment.{with_index_of}
-use Rattle.moo_eval_frame.specs.Outcome.{Stop, Failure, stops, next, or_error, answers, settled}
+use Rattle.moo_eval_frame.specs.Outcome.{Stop, Failure, Flow, stops, next, or_error, answers, settled}
 use Rattle.moo_eval_frame.specs.State.{Context, within}
-use Rattle.moo_eval_frame.specs.Variables.{bind}
+use Rattle.moo_eval_frame.specs.Variables.{bind, with_variable}
 use Rattle.moo_eval_access.specs.State.{State, ticked, bound, trace}
 use Rattle.moo_builtin.specs.Telling.{Telling, Faults}
-use Rattle.moo_eval_integer.specs.Integers.{with_ticks}
+use Rattle.moo_eval_integer.specs.Integers.{with_ticks, GivesInteger}
 use Rattle.moo_eval_integer.specs.Puts.{PutsInteger}
 use Rattle.moo_eval.specs.Element.{sets_place, IsPut}
 use Rattle.moo_eval_semantics.specs.Meaning.{Evaluates, Computes, Does, begins, applies, no_more, element_stops, element_then, assign_is, target_ends, value_stops, assigns, locates, finds, inside, step_ends, enters, unread, spot_ends, steps_in, no_store, stores, puts_variable, evaluates}
-use Rattle.moo_eval.proofs.Direct.{performed}
+use Rattle.moo_eval.proofs.Direct.{assigned, performed}
 use Rattle.moo_eval.proofs.Exits.{same_state}
 
 -- the container with the value at the place
@@ -26,11 +26,12 @@ pub integer_put : {name : List ℕ} {i e : Expr} {n m : ℕ} {after : List ℕ �
 integer_put c s same h = put (ap (λ o. answers (or_error o VariableNotFound)) h.held) (h.placed (within c (h.container ∷ [])) s refl) (h.valued c s refl) h.made (same_state (sym h.sets) same)
 
 -- from an equal state
-pub put_from : {T : Telling} {c : Context} {name : List ℕ} {i e : Expr} {s s' t : State} → s ≡ s' → IsPut T c name i e s t → IsPut T c name i e s' t
-put_from {T = T} {c = c} {name = name} {i = i} {e = e} {t = t} h = subst (λ x. IsPut T c name i e x t) h
+pub does_from : {T : Telling} {c : Context} {e : Stmt} {s s' t : State} {o : Result Flow Stop} → s ≡ s' → Does T c e s o t → Does T c e s' o t
+does_from {T = T} {c = c} {e = e} {t = t} {o = o} h = subst (λ x. Does T c e x o t) h
 
-pub computes_from : {T : Telling} {c : Context} {e : Expr} {s s' t : State} {o : Result Tree Failure} → s ≡ s' → Computes T c e s o t → Computes T c e s' o t
-computes_from {T = T} {c = c} {e = e} {t = t} {o = o} h = subst (λ x. Computes T c e x o t) h
+-- a variable is set to an integer
+pub integer_set : {name : List ℕ} {e : Expr} {n m : ℕ} {i : ℤ} {after : List ℕ → Option Tree} {programmer : ℤ} (c : Context) (s : State) → s.programmer ≡ programmer → 0 < n → GivesInteger s.variables (n - 1) e i m → after ≡ with_variable s.variables (bind name (integer i)) → Does Faults c (performs (assign (variable name) e)) (with_ticks n s) (Ok next) (record { ticks = m; world = s.world; variables = after; programmer = programmer; notices = s.notices })
+integer_set c s same z g sets = performed z (assigned (g c s refl) (same_state (sym sets) same))
 
 -- the container takes no such value at the place
 pub not_put : {T : Telling} {c : Context} {name : List ℕ} {i e : Expr} {s s1 s2 : State} {x y v : Tree} {failure : Failure} → answers (or_error (s.variables (folded name)) VariableNotFound) ≡ Ok x → Evaluates T (within c (x ∷ [])) i s (Ok y) s1 → Evaluates T c e s1 (Ok v) s2 → answers (with_index_of x y v) ≡ Err failure → Computes T c (sets_place name i e) s (Err failure) s2

@@ -1,20 +1,24 @@
 -- Assignments to properties, and scatters.
-use Rattle.std.proofs.Common.{◌≡◌, ℕ, List, [], ◌∷◌, Result, Ok, Err, OnOk, IfErr, refl, sym, ap, ◌∙◌}
+use Rattle.std.proofs.Common.{◌≡◌, ◌<◌, ◌-◌, ℕ, List, [], ◌∷◌, Option, Result, Ok, Err, arith, OnOk, IfErr, refl, sym, ap, ◌∙◌}
 use Rattle.moo_value.specs.declared.error_code.ErrorCode.{ErrorCode}
-use Rattle.moo_value.specs.Tree.{Tree}
-use Rattle.moo_syntax_ast.specs.Tree.{Expr, Items, list, property, assign}
+use Rattle.moo_value.specs.Tree.{Tree, string}
+use Rattle.moo_syntax_ast.specs.declared.tree.Literal.TheVariants.{Str}
+use Rattle.moo_syntax_ast.specs.Tree.{Expr, Items, literal, list, property, assign}
 use Rattle.moo_syntax_lower.specs.Blocks.{named_items}
 use Rattle.moo_eval_frame.specs.Outcome.{Stop, Failure, stops, fails, answers}
 use Rattle.moo_eval_frame.specs.Scatter.{lacking, given}
 use Rattle.moo_eval_frame.specs.Scatter as scatter
 use Rattle.moo_eval_frame.specs.State.{Context}
-use Rattle.moo_eval_access.specs.State.{State, bound}
+use Rattle.moo_eval_access.specs.Calls.{read_property}
+use Rattle.moo_eval_access.specs.State.{State, ticked, bound}
 use Rattle.moo_eval_access.specs.Target.{owned, scattered}
 use Rattle.moo_eval_frame.specs.declared.outcome.Failure as code_failure
 use Rattle.moo_eval_frame.specs.Seen.{seen_done, failure_of, HadMemoryIn}
 use Rattle.moo_eval_semantics.specs.Operands.{with_value}
-use Rattle.moo_builtin.specs.Telling.{Telling}
-use Rattle.moo_eval_semantics.specs.Meaning.{Evaluates, Computes, Puts, applies, no_more, element_stops, element_then, assign_is, target_ends, value_stops, assigns, root_ends, locates, parts_end, finds, inside, stores, scatter_fails, scatters, none_missing}
+use Rattle.moo_builtin.specs.Telling.{Telling, Faults}
+use Rattle.moo_eval.specs.Leaves.{GivesLeaf}
+use Rattle.moo_eval.proofs.Direct.{literal_read}
+use Rattle.moo_eval_semantics.specs.Meaning.{Evaluates, Computes, Puts, property_is, applies, no_more, element_stops, element_then, assign_is, target_ends, value_stops, assigns, root_ends, locates, parts_end, finds, inside, stores, scatter_fails, scatters, none_missing}
 
 -- the object, the name and the value are evaluated, then the property is set or not
 pub put : {T : Telling} {c : Context} {b n e : Expr} {s s1 s2 s3 t : State} {x y v : Tree} {o : Result (Unit {0}) Failure} {r : Result Tree Failure} → Evaluates T c b s (Ok x) s1 → Evaluates T c n s1 (Ok y) s2 → Evaluates T c e s2 (Ok v) s3 → Puts T c (owned x y) v s3 o t → with_value v o ≡ r → Computes T c (assign (property b n) e) s r t
@@ -61,3 +65,9 @@ names_set names d sets = scatters (ap answers d) sets (rw (none_lacking names) n
 -- what can't be dealt sets no name
 pub names_kept : {T : Telling} {c : Context} {s t : State} {items : Items} {v : Tree} {code : ErrorCode} {failure : Failure} → scatter.dealt items v ≡ Err code → failure ≡ fails code → t ≡ s → Puts T c (scattered items) v s (Err failure) t
 names_kept d f e = rw e (scatter_fails (ap answers d ∙ ap Err (sym f)))
+
+-- a property of an object in a variable or of a literal one, after the tick of the expression itself
+pub property_computed : (variables : List ℕ → Option Tree) {c : Context} {s : State} {b : Expr} {x : Tree} {o : Result Tree Failure} (name : List ℕ) → GivesLeaf variables b x → answers (read_property s.world s.programmer x (string name)) ≡ o → s.variables ≡ variables → 1 < s.ticks → Computes Faults c (property b (literal (Str name))) s o (record s { ticks = s.ticks - 2 })
+property_computed variables {c = c} {s = s} name f g e z =
+    let t : s.ticks - 2 ≡ s.ticks - 1 - 1 = omega arith in
+    rw t (applies (element_then (f c s e (omega (arith, z))) (element_then {s = ticked s} (literal_read (omega (arith, z))) no_more refl) refl) no_more (property_is g))

@@ -76,9 +76,9 @@ impl Task {
     }
 
     /// Evaluates a node that `try_arithmetic` has declined, or a part of one. An operator isn't tried again, so the time
-    /// of a statement is linear in its size.
+    /// of a statement is linear in its size. Inlined, so that a variable or an integer needs no call.
     #[cycle(evaluation)]
-    #[inline(never)]
+    #[inline(always)]
     pub(crate) fn evaluate_tried(
         &mut self,
         world: &mut World,
@@ -91,8 +91,25 @@ impl Task {
         ensures ticks { self.new.ticks_left ≤ self.old.ticks_left }
     {
         match node {
-            Node::Arithmetic(..) => self.evaluate_parts(world, active, stack, indexed, node),
+            Node::Arithmetic(..) => self.evaluate_declined(world, active, stack, indexed, node),
             _ => self.evaluate(world, active, stack, indexed, node),
         }
+    }
+
+    // Evaluates an operator that was tried. Not inlined, so that other nodes need no stack space for it.
+    #[cycle(evaluation)]
+    #[inline(never)]
+    fn evaluate_declined(
+        &mut self,
+        world: &mut World,
+        active: &mut Activation,
+        stack: &CallStack<'_>,
+        indexed: Option<&Value>,
+        node: &Node,
+    ) -> Result<Value, Stop>
+        ensures meaning { IsKnown result → Evaluates Faults (context_of stack.now indexed.entry) (source node.now) (state_of self.old world.old active.old) (seen_value result) (state_of self.new world.new active.new) }
+        ensures ticks { self.new.ticks_left ≤ self.old.ticks_left }
+    {
+        self.evaluate_parts(world, active, stack, indexed, node)
     }
 }

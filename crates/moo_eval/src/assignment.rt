@@ -1,11 +1,12 @@
 //! Runs assignments.
-ghost use Rattle.std.specs.Prelude.{◌≤◌, None};
+ghost use Rattle.std.specs.Prelude.{◌≡◌, ◌≤◌, None, Ok, IsTrue, IsFalse};
 ghost use Rattle.moo_syntax_ast.specs.Tree.{variable, assign, performs};
 ghost use Rattle.moo_syntax_lower.specs.Source.{source};
 ghost use Rattle.moo_value.specs.View.{tree as value_tree};
 ghost use Rattle.moo_eval_access.specs.Target.{Path, named};
 ghost use Rattle.moo_eval_semantics.specs.Meaning.{Computes, Does, Locates, Finds, Steps, Stores};
 ghost use Rattle.moo_eval_frame.specs.Seen.{context_of, seen_answer, seen_by, seen_done, seen_flow, IsKnown, IsKnownFailure};
+ghost use Rattle.moo_eval_frame.specs.Outcome.{next};
 ghost use Rattle.moo_eval_frame.specs.State.{Context};
 ghost use Rattle.moo_world_table.specs.World.{World as WorldModel};
 ghost use Rattle.moo_builtin.specs.Telling.{Faults};
@@ -18,6 +19,7 @@ use moo_eval_access::{
     taken_apart, write_property,
 };
 use moo_eval_frame::{Activation, CallStack, Failure, Flow, Stop};
+use moo_eval_integer::set_arithmetic;
 use moo_syntax_ast::Name;
 use moo_syntax_lower::Node;
 use moo_value::Value;
@@ -88,10 +90,9 @@ impl Task {
         Ok(value)
     }
 
-    /// Assigns to a variable, if the assignment's own value is not used. Not inlined, so that nested statements need no
-    /// stack space for it.
+    /// Assigns to a variable, if the assignment's own value is not used: by integers alone if that can be.
     #[cycle(evaluation)]
-    #[inline(never)]
+    #[inline(always)]
     pub(crate) fn assign_alone(
         &mut self,
         world: &mut World,
@@ -103,11 +104,48 @@ impl Task {
         ensures meaning { IsKnown result → Does Faults (context_of stack.now None) (performs (assign (variable name.now) (source value.now))) (state_of self.old world.old active.old) (seen_flow result) (state_of self.new world.new active.new) }
         ensures ticks { self.new.ticks_left ≤ self.old.ticks_left }
     {
-        self.take_tick(active, stack)?;
-        if let Some(number) = self.try_arithmetic(active, value) {
-            active.variables.set(name, Value::Int(number))?;
+        if self.try_assign(active, name, value) {
             return Ok(Flow::Next);
         }
+        self.assign_value(world, active, stack, name, value)
+    }
+
+    // Assigns to a variable by integers alone, takes its ticks, and returns true. False if that can't be; then nothing has
+    // changed. Not inlined, so that nested statements need no stack space for it.
+    #[inline(never)]
+    fn try_assign(&mut self, active: &mut Activation, name: &Name, value: &Node) -> bool
+        ensures assigned { IsTrue result → (w : WorldModel) (c : Context) → Does Faults c (performs (assign (variable name.now) (source value.now))) (state_of self.old w active.old) (Ok next) (state_of self.new w active.new) }
+        ensures kept { IsFalse result → (w : WorldModel) → state_of self.new w active.new ≡ state_of self.old w active.old }
+        ensures ticks { self.new.ticks_left ≤ self.old.ticks_left }
+    {
+        let mut left = self.ticks_left.left() as u32;
+        if left == 0 {
+            return false;
+        }
+        left -= 1;
+        if !set_arithmetic(active, &mut left, name, value) {
+            return false;
+        }
+        self.ticks_left.leave(left);
+        true
+    }
+
+    // Assigns to a variable, if the assignment's own value is not used. Not inlined, so that nested statements need no stack
+    // space for it.
+    #[cycle(evaluation)]
+    #[inline(never)]
+    fn assign_value(
+        &mut self,
+        world: &mut World,
+        active: &mut Activation,
+        stack: &CallStack<'_>,
+        name: &Name,
+        value: &Node,
+    ) -> Result<Flow, Stop>
+        ensures meaning { IsKnown result → Does Faults (context_of stack.now None) (performs (assign (variable name.now) (source value.now))) (state_of self.old world.old active.old) (seen_flow result) (state_of self.new world.new active.new) }
+        ensures ticks { self.new.ticks_left ≤ self.old.ticks_left }
+    {
+        self.take_tick(active, stack)?;
         let value = self.evaluate_tried(world, active, stack, None, value)?;
         active.variables.set(name, value)?;
         Ok(Flow::Next)

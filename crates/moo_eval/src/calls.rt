@@ -209,6 +209,23 @@ impl Task {
     {
         let room = self.spare.take_values();
         let values = self.evaluate_all(world, active, stack, indexed, items, room)?;
+        self.call_with(world, active, stack, name, values)
+    }
+
+    /// Calls a built-in function, its arguments evaluated.
+    #[cycle(evaluation)]
+    #[inline(always)]
+    pub(crate) fn call_with(
+        &mut self,
+        world: &mut World,
+        active: &mut Activation,
+        stack: &CallStack<'_>,
+        name: &FunctionName,
+        values: Gathered,
+    ) -> Result<Value, Failure>
+        ensures meaning { (indexed : Option (Bor ValueModel)) (items : Items) → IsKnownFailure result → Applies Faults (context_of stack.now indexed) (call name.now items) values [] (state_of self.old world.old active.old) (seen_answer result) (state_of self.new world.new active.new) }
+        ensures ticks { self.new.ticks_left ≤ self.old.ticks_left }
+    {
         let function = name.function();
         let Some(caller) = verb_caller(function) else {
             return self.call_function(world, active, stack, function, values);

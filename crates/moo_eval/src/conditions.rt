@@ -73,7 +73,7 @@ impl Task {
                 if let Some(passes) = self.try_comparison(active, test) {
                     return Ok(passes);
                 }
-                let value = self.evaluate_node(world, active, stack, indexed, test)?;
+                let value = self.evaluate_tried(world, active, stack, indexed, test)?;
                 Ok(is_true(&value))
             }
         }

@@ -1,8 +1,9 @@
 //! Runs assignments to an element of a list, or a byte of a string, in a variable.
-ghost use Rattle.std.specs.Prelude.{◌≡◌, ◌≤◌, None, Err, IsTrue, IsFalse, IfErr, OnOk};
+ghost use Rattle.std.specs.Prelude.{◌≡◌, ◌≤◌, None, Ok, Err, IsTrue, IsFalse, IfErr, OnOk};
 ghost use Rattle.moo_syntax_ast.specs.Tree.{performs};
 ghost use Rattle.moo_syntax_lower.specs.Source.{source};
 ghost use Rattle.moo_world_table.specs.World.{World as WorldModel};
+ghost use Rattle.moo_eval_frame.specs.Outcome.{next};
 ghost use Rattle.moo_eval_frame.specs.State.{Context};
 ghost use Rattle.moo_eval_frame.specs.Seen.{context_of, failure_of, seen_flow, HadMemoryIn, IsKnown};
 ghost use Rattle.moo_builtin.specs.Telling.{Faults};
@@ -20,10 +21,9 @@ use moo_world::World;
 
 impl Task {
     /// Runs `name[place] = value`, if the assignment's own value is not used. An integer is put into a list in place if
-    /// nothing but the variable holds the list, and place and value are computed from integers alone. Not inlined, so
-    /// that nested statements need no stack space for it.
+    /// nothing but the variable holds the list, and place and value are computed from integers alone.
     #[cycle(evaluation)]
-    #[inline(never)]
+    #[inline(always)]
     pub(crate) fn set_place(
         &mut self,
         world: &mut World,
@@ -36,10 +36,29 @@ impl Task {
         ensures meaning { IsKnown result → Does Faults (context_of stack.now None) (performs (sets_place name.now (source place.now) (source value.now))) (state_of self.old world.old active.old) (seen_flow result) (state_of self.new world.new active.new) }
         ensures ticks { self.new.ticks_left ≤ self.old.ticks_left }
     {
-        self.take_tick(active, stack)?;
         if self.try_put(active, name, place, value) {
             return Ok(Flow::Next);
         }
+        self.set_element(world, active, stack, name, place, value)
+    }
+
+    // Runs `name[place] = value`, if the assignment's own value is not used. Not inlined, so that nested statements need no
+    // stack space for it.
+    #[cycle(evaluation)]
+    #[inline(never)]
+    fn set_element(
+        &mut self,
+        world: &mut World,
+        active: &mut Activation,
+        stack: &CallStack<'_>,
+        name: &Name,
+        place: &Node,
+        value: &Node,
+    ) -> Result<Flow, Stop>
+        ensures meaning { IsKnown result → Does Faults (context_of stack.now None) (performs (sets_place name.now (source place.now) (source value.now))) (state_of self.old world.old active.old) (seen_flow result) (state_of self.new world.new active.new) }
+        ensures ticks { self.new.ticks_left ≤ self.old.ticks_left }
+    {
+        self.take_tick(active, stack)?;
         match self.put_at(world, active, stack, name, place, value) {
             Ok(()) => Ok(Flow::Next),
             Err(failure) => {
@@ -49,18 +68,19 @@ impl Task {
         }
     }
 
-    // Sets the place of the list in the variable in place from integers alone, takes the ticks of place and value, and
-    // returns true. False if that can't be; then nothing has changed.
-    #[inline(always)]
+    // Runs `name[place] = value` in place by integers alone, takes its ticks, and returns true. False if that can't be; then
+    // nothing has changed. Not inlined, so that nested statements need no stack space for it.
+    #[inline(never)]
     fn try_put(&mut self, active: &mut Activation, name: &Name, place: &Node, value: &Node) -> bool
-        ensures put { IsTrue result → (w : WorldModel) (c : Context) → IsPut Faults c name.now (source place.now) (source value.now) (state_of self.old w active.old) (state_of self.new w active.new) }
+        ensures put { IsTrue result → (w : WorldModel) (c : Context) → Does Faults c (performs (sets_place name.now (source place.now) (source value.now))) (state_of self.old w active.old) (Ok next) (state_of self.new w active.new) }
         ensures kept { IsFalse result → (w : WorldModel) → state_of self.new w active.new ≡ state_of self.old w active.old }
         ensures ticks { self.new.ticks_left ≤ self.old.ticks_left }
     {
-        if !may_be_integer(value) {
+        let mut left = self.ticks_left.left() as u32;
+        if left == 0 || !may_be_integer(value) {
             return false;
         }
-        let mut left = self.ticks_left.left() as u32;
+        left -= 1;
         if !put_integer(active, &mut left, name, place, value) {
             return false;
         }

@@ -1,31 +1,29 @@
 //! Runs `x = x + a;`.
-ghost use Rattle.std.specs.Prelude.{◌≡◌, ◌≤◌, None, Ok, Err, IfSome, IfNone, IfErr, OnOk};
-ghost use Rattle.moo_value.specs.Tree.{integer};
+ghost use Rattle.std.specs.Prelude.{◌≡◌, ◌≤◌, None, Ok, Err, IsTrue, IsFalse, IfErr, OnOk};
 ghost use Rattle.moo_syntax_ast.specs.declared.operator.BinaryOperator.TheVariants.{Add};
 ghost use Rattle.moo_syntax_ast.specs.Tree.{variable, binary, assign, performs};
 ghost use Rattle.moo_syntax_lower.specs.Source.{source};
 ghost use Rattle.moo_world_table.specs.World.{World as WorldModel};
+ghost use Rattle.moo_eval_frame.specs.Outcome.{next};
 ghost use Rattle.moo_eval_frame.specs.State.{Context};
 ghost use Rattle.moo_eval_frame.specs.Seen.{context_of, failure_of, seen_flow, HadMemoryIn, IsKnown};
 ghost use Rattle.moo_builtin.specs.Telling.{Faults};
-ghost use Rattle.moo_eval_semantics.specs.Meaning.{Evaluates, Computes, Does};
+ghost use Rattle.moo_eval_semantics.specs.Meaning.{Computes, Does};
 ghost use Rattle.moo_eval.specs.Growth.{IsLengthened};
 ghost use Rattle.moo_eval.specs.Seen.{state_of};
 
 use crate::interpreter::Task;
 use moo_eval_access::set_sum;
 use moo_eval_frame::{Activation, CallStack, Failure, Flow, Stop};
-use moo_eval_integer::sum_integer;
+use moo_eval_integer::add_integer;
 use moo_syntax_ast::Name;
 use moo_syntax_lower::Node;
-use moo_value::Value;
 use moo_world::World;
 
 impl Task {
-    /// Runs `name = name + last`, if the assignment's own value is not used. A string that nothing but the variable
-    /// holds grows in place. Not inlined, so that nested statements need no stack space for it.
+    /// Runs `name = name + last`, if the assignment's own value is not used: by integers alone if that can be.
     #[cycle(evaluation)]
-    #[inline(never)]
+    #[inline(always)]
     pub(crate) fn extend(
         &mut self,
         world: &mut World,
@@ -37,11 +35,48 @@ impl Task {
         ensures meaning { IsKnown result → Does Faults (context_of stack.now None) (performs (assign (variable name.now) (binary Add (variable name.now) (source last.now)))) (state_of self.old world.old active.old) (seen_flow result) (state_of self.new world.new active.new) }
         ensures ticks { self.new.ticks_left ≤ self.old.ticks_left }
     {
-        self.take_tick(active, stack)?;
-        if let Some(number) = self.try_sum(active, name, last) {
-            active.variables.set(name, Value::Int(number))?;
+        if self.try_add(active, name, last) {
             return Ok(Flow::Next);
         }
+        self.extend_value(world, active, stack, name, last)
+    }
+
+    // Runs `name = name + last` by integers alone, takes its ticks, and returns true. False if that can't be; then nothing
+    // has changed. Not inlined, so that nested statements need no stack space for it.
+    #[inline(never)]
+    fn try_add(&mut self, active: &mut Activation, name: &Name, last: &Node) -> bool
+        ensures added { IsTrue result → (w : WorldModel) (c : Context) → Does Faults c (performs (assign (variable name.now) (binary Add (variable name.now) (source last.now)))) (state_of self.old w active.old) (Ok next) (state_of self.new w active.new) }
+        ensures kept { IsFalse result → (w : WorldModel) → state_of self.new w active.new ≡ state_of self.old w active.old }
+        ensures ticks { self.new.ticks_left ≤ self.old.ticks_left }
+    {
+        let mut left = self.ticks_left.left() as u32;
+        if left == 0 {
+            return false;
+        }
+        left -= 1;
+        if !add_integer(active, &mut left, name, last) {
+            return false;
+        }
+        self.ticks_left.leave(left);
+        true
+    }
+
+    // Runs `name = name + last`, if the assignment's own value is not used. A string that nothing but the variable holds
+    // grows in place. Not inlined, so that nested statements need no stack space for it.
+    #[cycle(evaluation)]
+    #[inline(never)]
+    fn extend_value(
+        &mut self,
+        world: &mut World,
+        active: &mut Activation,
+        stack: &CallStack<'_>,
+        name: &Name,
+        last: &Node,
+    ) -> Result<Flow, Stop>
+        ensures meaning { IsKnown result → Does Faults (context_of stack.now None) (performs (assign (variable name.now) (binary Add (variable name.now) (source last.now)))) (state_of self.old world.old active.old) (seen_flow result) (state_of self.new world.new active.new) }
+        ensures ticks { self.new.ticks_left ≤ self.old.ticks_left }
+    {
+        self.take_tick(active, stack)?;
         self.take_tick(active, stack)?;
         match self.put_extended(world, active, stack, name, last) {
             Ok(()) => Ok(Flow::Next),
@@ -51,19 +86,6 @@ impl Task {
                 Ok(Flow::Next)
             }
         }
-    }
-
-    // Computes `name + last` from integers alone, and takes its ticks. `None` if that can't be; then nothing has changed.
-    #[inline(always)]
-    fn try_sum(&mut self, active: &Activation, name: &Name, last: &Node) -> Option<i32>
-        ensures some { IfSome result (λ n. (w : WorldModel) (c : Context) → Evaluates Faults c (binary Add (variable name.now) (source last.now)) (state_of self.old w active.now) (Ok (integer n)) (state_of self.new w active.now)) }
-        ensures none { IfNone result (self.new ≡ self.old) }
-        ensures ticks { self.new.ticks_left ≤ self.old.ticks_left }
-    {
-        let mut left = self.ticks_left.left() as u32;
-        let number = sum_integer(active, &mut left, name, last)?;
-        self.ticks_left.leave(left);
-        Some(number)
     }
 
     // Sets the variable to `name + last`, if that is a value.

@@ -25,6 +25,7 @@ mod statement;
 mod task;
 mod trying;
 mod typed;
+mod update;
 
 pub use line::{EvalLine, eval_line};
 pub use moo_eval_call::typed_frame;

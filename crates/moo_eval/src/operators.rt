@@ -79,7 +79,7 @@ impl Task {
             return None;
         };
         let mut left = self.ticks_left.left() as u32;
-        let value = element_of(self.alloc(), active, &mut left, name, place)?;
+        let value = element_of(&mut self.spare.letters, active, &mut left, name, place)?;
         self.ticks_left.leave(left);
         Some(value)
     }

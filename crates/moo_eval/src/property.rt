@@ -1,12 +1,13 @@
 //! Evaluates properties, and runs assignments to them.
-ghost use Rattle.std.specs.Prelude.{◌≡◌, ◌≤◌, None, Ok, Err, IfSome, IfErr, OnOk};
-ghost use Rattle.moo_value.specs.Tree.{Tree};
+ghost use Rattle.std.specs.Prelude.{◌≡◌, ◌≤◌, ◌<◌, ◌-◌, None, Some, Ok, Err, IfSome, IfNone, IfErr, OnOk};
+ghost use Rattle.moo_value.specs.Tree.{Tree, object};
 ghost use Rattle.moo_syntax_ast.specs.declared.tree.Literal.TheVariants.{Str};
 ghost use Rattle.moo_syntax_ast.specs.Tree.{literal, property, assign, performs};
 ghost use Rattle.moo_syntax_lower.specs.Source.{source};
-ghost use Rattle.moo_eval_frame.specs.Seen.{context_of, failure_of, seen_answer, seen_flow, HadMemoryIn, IsKnown, IsKnownFailure};
+ghost use Rattle.moo_eval_frame.specs.Seen.{indexed_of, variables_of, context_of, failure_of, seen_answer, seen_flow, HadMemoryIn, IsKnown, IsKnownFailure};
 ghost use Rattle.moo_builtin.specs.Telling.{Faults};
 ghost use Rattle.moo_eval_semantics.specs.Meaning.{Computes, Does};
+ghost use Rattle.moo_eval.specs.Leaves.{GivesLeaf};
 ghost use Rattle.moo_eval.specs.Seen.{state_of};
 
 use crate::interpreter::Task;
@@ -39,10 +40,52 @@ impl Task {
         }
     }
 
-    // Reads a property whose name is a literal.
+    // Reads a property whose name is a literal. An object in a variable is read at once.
     #[cycle(evaluation)]
     #[inline(never)]
     fn literal_property(
+        &mut self,
+        world: &mut World,
+        active: &mut Activation,
+        stack: &CallStack<'_>,
+        indexed: Option<&Value>,
+        base: &Node,
+        name: &Text,
+    ) -> Result<Value, Failure>
+        ensures meaning { IsKnownFailure result → Computes Faults (context_of stack.now indexed.entry) (property (source base.now) (literal (Str name.now))) (state_of self.old world.old active.old) (seen_answer result) (state_of self.new world.new active.new) }
+        ensures ticks { self.new.ticks_left ≤ self.old.ticks_left }
+    {
+        match self.try_object(active, base) {
+            Some(object) => {
+                let base = Value::Obj(object);
+                read_written(self.alloc(), world, active.programmer, &base, name)
+            }
+            None => self.written_property(world, active, stack, indexed, base, name),
+        }
+    }
+
+    // Returns the object in a variable, or a literal one, and takes the ticks of it and of a literal name. `None` if that
+    // can't be; then nothing has changed.
+    #[inline(always)]
+    fn try_object(&mut self, active: &Activation, base: &Node) -> Option<i32>
+        ensures some { IfSome result (λ o. GivesLeaf (variables_of active.now.variables) (source base.now) (object o) × (1 < self.old.ticks_left) × (self.new ≡ record self.old { ticks_left = self.old.ticks_left - 2 })) }
+        ensures none { IfNone result (self.new ≡ self.old) }
+        ensures ticks { self.new.ticks_left ≤ self.old.ticks_left }
+    {
+        let object = object_of(active, base)?;
+        let ticks = self.ticks_left.left() as u32;
+        if ticks < 2 {
+            return None;
+        }
+        self.ticks_left.leave(ticks - 2);
+        Some(object)
+    }
+
+    // Reads a property whose name is a literal: evaluates the object first. Not inlined, so that other properties need no
+    // stack space for it.
+    #[cycle(evaluation)]
+    #[inline(never)]
+    fn written_property(
         &mut self,
         world: &mut World,
         active: &mut Activation,
@@ -140,6 +183,29 @@ pub(crate) fn as_text(node: &Node) -> Option<&Text>
 {
     match node {
         Node::Str(text) => Some(text),
+        _ => None,
+    }
+}
+
+// Returns the object in a variable, or the literal one that a node is.
+#[inline(always)]
+fn object_of(active: &Activation, node: &Node) -> Option<i32>
+    ensures { IfSome result (λ o. GivesLeaf (variables_of active.now.variables) (source node.now) (object o)) }
+{
+    match node {
+        Node::Variable(name) => object_in(active.variables.get(name)),
+        Node::Object(number) => Some(*number),
+        _ => None,
+    }
+}
+
+// Returns the object that a value is.
+#[inline(always)]
+fn object_in(value: Option<&Value>) -> Option<i32>
+    ensures { IfSome result (λ o. indexed_of value.entry ≡ Some (object o)) }
+{
+    match value {
+        Some(Value::Obj(number)) => Some(*number),
         _ => None,
     }
 }

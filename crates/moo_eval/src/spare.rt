@@ -1,16 +1,18 @@
 //! The memory of calls that have ended, which the next ones use.
 use moo_eval_access::MOST_FRAMES;
 use moo_eval_frame::FrameMemory;
+use moo_eval_integer::Letters;
 use moo_value::Value;
 use std::alloc::Global;
 
 /// Holds the memory of frames that have ended, and that of the values of arguments and of the codes of catches. No more
-/// of each is kept than a task has frames.
+/// of each is kept than a task has frames. It also holds strings of one letter.
 #[derive(Drop)]
 pub(crate) struct SpareMemory {
     alloc: Global,
     frames: Vec<FrameMemory>,
     values: Vec<Vec<Value>>,
+    pub(crate) letters: Letters,
 }
 
 impl SpareMemory {
@@ -20,6 +22,7 @@ impl SpareMemory {
             alloc,
             frames: Vec::new(alloc),
             values: Vec::new(alloc),
+            letters: Letters::new(alloc),
         }
     }
 

@@ -54,6 +54,9 @@ impl Task {
             NodeStmt::Lengthen(name, last) => self.lengthen(world, active, stack, name, last),
             NodeStmt::Prepend(name, first) => self.prepend(world, active, stack, name, first),
             NodeStmt::Extend(name, last) => self.extend(world, active, stack, name, last),
+            NodeStmt::Update(name, called, items) => {
+                self.update(world, active, stack, name, called, items)
+            }
             NodeStmt::Put(name, place, value) => {
                 self.set_place(world, active, stack, name, place, value)
             }

@@ -9,7 +9,7 @@ use Rattle.moo_syntax_lower.specs.Source.{source, source_items, source_codes}
 use Rattle.moo_syntax_lower.specs.Blocks.{source_block, source_handler_list}
 use Rattle.moo_eval.specs.declared.interpreter.Task.{Task}
 use Rattle.moo_eval_frame.specs.declared.frame.Activation.{Activation}
-use Rattle.moo_eval_frame.specs.Seen.{context_of, stop_of, failure_of, flow_of}
+use Rattle.moo_eval_frame.specs.Seen.{context_of, stop_of, failure_of, flow_of, variables_of}
 use Rattle.moo_builtin.specs.Telling.{Faults}
 use Rattle.moo_eval_call.specs.VerbCalls.{verb_caller}
 use Rattle.moo_eval.specs.Seen.{state_of}
@@ -24,9 +24,10 @@ use Rattle.moo_syntax_ast.specs.Tree.{variable, binary, splice, element, no_item
 use Rattle.moo_eval.proofs.Lengthened.{lengthened, too_long, first_stops, first_fails, unspliced, second_stops, set_longer, set_error, not_set}
 use Rattle.moo_eval.proofs.Prepended as front
 use Rattle.moo_eval.specs.Element.{sets_place}
-use Rattle.moo_eval.proofs.Placed.{put, put_from, computes_from, not_put, unheld, place_ends, value_ends, put_alone, passed_over, stopped}
+use Rattle.moo_eval.proofs.Placed.{put, does_from, not_put, unheld, place_ends, value_ends, put_alone, passed_over, stopped}
 use Rattle.moo_eval.proofs.Direct.{assigned, unassigned, performed, unperformed, literal_read}
 use Rattle.moo_eval.proofs.Extended.{extended, unextended}
+use Rattle.moo_eval.proofs.Updated.{updated}
 use Rattle.moo_eval.proofs.Properties as property
 use Rattle.moo_builtin_operator.specs.Truth.{is_true, truth_value}
 use Rattle.moo_eval.proofs.Passing.{undecided, decided, operand_stops, negated, not_stops, truth_of, if_err}
@@ -266,13 +267,17 @@ pub call-returns-in_err-values-clause-meaning : goal.call-returns-in_err-values-
 call-returns-in_err-values-clause-meaning t c =
     let p = err_from_is_err_and c.from_residual.result c.from_residual.ensures.1 in rw (p.1, p.2) (λ k. operands_end (c.in_err-values.ensures.meaning k))
 
-pub call-returns-in_default-clause-meaning : goal.call-returns-in_default-clause-meaning
-call-returns-in_default-clause-meaning t c =
-    λ k. applies (c.in_ok-values.ensures.meaning tt) no_more (call_is (ap verb_caller (sym c.function-function.ensures) ∙ sym c.verb_caller.ensures ∙ none_left _ c.in_default.not-Some) (c.call_function.ensures.call c.args.name.now (sym c.function-function.ensures) k))
+pub call_with-returns-in_default-clause-meaning : goal.call_with-returns-in_default-clause-meaning
+call_with-returns-in_default-clause-meaning t c =
+    λ indexed items k. call_is (ap verb_caller (sym c.function-function.ensures) ∙ sym c.verb_caller.ensures ∙ none_left _ c.in_default.not-Some) (c.call_function.ensures.call c.args.name.now (sym c.function-function.ensures) k)
+
+pub call_with-returns-clause-meaning : goal.call_with-returns-clause-meaning
+call_with-returns-clause-meaning t c =
+    λ indexed items k. c.call_caller.ensures.meaning indexed c.args.name.now items (ap verb_caller (sym c.function-function.ensures) ∙ sym c.verb_caller.ensures ∙ c.in-Some.is) k
 
 pub call-returns-clause-meaning : goal.call-returns-clause-meaning
 call-returns-clause-meaning t c =
-    λ k. applies (c.in_ok-values.ensures.meaning tt) no_more (c.call_caller.ensures.meaning c.args.indexed c.args.name.now (source_items c.args.items.now) (ap verb_caller (sym c.function-function.ensures) ∙ sym c.verb_caller.ensures ∙ c.in-Some.is) k)
+    λ k. applies (c.in_ok-values.ensures.meaning tt) no_more (c.call_with.ensures.meaning c.args.indexed (source_items c.args.items.now) k)
 
 pub call_caller-returns-in_err-first-clause-meaning : goal.call_caller-returns-in_err-first-clause-meaning
 call_caller-returns-in_err-first-clause-meaning t c =
@@ -286,8 +291,8 @@ pub proceed-returns-in_err-pending-clause-meaning : goal.proceed-returns-in_err-
 proceed-returns-in_err-pending-clause-meaning t c =
     let p = err_from_is_err_and c.from_residual.result c.from_residual.ensures.1 in rw (p.1, p.2) (λ k. c.in_err-pending.ensures.meaning k _ _ is_done)
 
-pub literal_property-returns-in_err-base-clause-meaning : goal.literal_property-returns-in_err-base-clause-meaning
-literal_property-returns-in_err-base-clause-meaning t c =
+pub written_property-returns-in_err-base-clause-meaning : goal.written_property-returns-in_err-base-clause-meaning
+written_property-returns-in_err-base-clause-meaning t c =
     let p = err_from_is_err_and c.from_residual.result c.from_residual.ensures.1 in rw (p.1, p.2) (λ k. operands_end (element_stops (c.in_err-base.ensures.meaning k)))
 
 pub computed_property-returns-in_err-base-clause-meaning : goal.computed_property-returns-in_err-base-clause-meaning
@@ -665,23 +670,25 @@ pub assign_variable-returns-in_err-value-clause-meaning : goal.assign_variable-r
 assign_variable-returns-in_err-value-clause-meaning t c =
     let p = err_from_is_err_and c.from_residual.result c.from_residual.ensures.1 in rw (p.1, p.2) (λ k. unassigned (c.in_err-value.ensures.meaning k))
 
-pub assign_alone-returns-in-Some-clause-meaning : goal.assign_alone-returns-in-Some-clause-meaning
-assign_alone-returns-in-Some-clause-meaning t c =
-    let number : SFits w32 c.in-Some.number = search rules in
-    let set = rw (to_z-of_z w32 c.in-Some.number number) at c.in_ok-set.ensures in
-    λ k. performed c.in_ok-take_tick.ensures.taken (assigned (rw c.in_ok-take_tick.ensures.left at (c.in-Some.ensures.some c.args.world.now (context_of c.args.stack.now None))) (same_state (sym set) refl))
+pub assign_alone-returns-then-try_assign-clause-meaning : goal.assign_alone-returns-then-try_assign-clause-meaning
+assign_alone-returns-then-try_assign-clause-meaning t c =
+    λ k. c.try_assign.ensures.assigned c.if-try_assign.true c.args.world.now (context_of c.args.stack.now None)
 
 pub assign_alone-returns-clause-meaning : goal.assign_alone-returns-clause-meaning
 assign_alone-returns-clause-meaning t c =
-    λ k. performed c.in_ok-take_tick.ensures.taken (assigned (rw (c.in_default.ensures.none, c.in_ok-take_tick.ensures.left) at (c.in_ok-value.ensures.meaning tt)) (same_state (sym c.in_ok-set-2.ensures) refl))
+    λ k. does_from (c.try_assign.ensures.kept c.if-try_assign.false c.args.world.now) (c.assign_value.ensures.meaning k)
 
-pub assign_alone-returns-in_err-take_tick-clause-meaning : goal.assign_alone-returns-in_err-take_tick-clause-meaning
-assign_alone-returns-in_err-take_tick-clause-meaning t c =
+pub assign_value-returns-clause-meaning : goal.assign_value-returns-clause-meaning
+assign_value-returns-clause-meaning t c =
+    λ k. performed c.in_ok-take_tick.ensures.taken (assigned (rw c.in_ok-take_tick.ensures.left at (c.in_ok-value.ensures.meaning tt)) (same_state (sym c.in_ok-set.ensures) refl))
+
+pub assign_value-returns-in_err-take_tick-clause-meaning : goal.assign_value-returns-in_err-take_tick-clause-meaning
+assign_value-returns-in_err-take_tick-clause-meaning t c =
     let p = err_from_is_err_and c.from_residual.result c.from_residual.ensures.1 in rw (p.1, p.2) (λ k. let h = c.in_err-take_tick.ensures.spent k in rw (c.in_err-take_tick.ensures.kept, h.1) (evaluates (spent h.0) refl))
 
-pub assign_alone-returns-in_err-value-clause-meaning : goal.assign_alone-returns-in_err-value-clause-meaning
-assign_alone-returns-in_err-value-clause-meaning t c =
-    let p = err_from_is_err_and c.from_residual-in_err-value.result c.from_residual-in_err-value.ensures.1 in rw (p.1, p.2) (λ k. unperformed c.in_ok-take_tick.ensures.taken (unassigned (rw (c.in_default.ensures.none, c.in_ok-take_tick.ensures.left) at (c.in_err-value.ensures.meaning k))))
+pub assign_value-returns-in_err-value-clause-meaning : goal.assign_value-returns-in_err-value-clause-meaning
+assign_value-returns-in_err-value-clause-meaning t c =
+    let p = err_from_is_err_and c.from_residual-in_err-value.result c.from_residual-in_err-value.ensures.1 in rw (p.1, p.2) (λ k. unperformed c.in_ok-take_tick.ensures.taken (unassigned (rw c.in_ok-take_tick.ensures.left at (c.in_err-value.ensures.meaning k))))
 
 pub lengthen-returns-in-Ok-clause-meaning : goal.lengthen-returns-in-Ok-clause-meaning
 lengthen-returns-in-Ok-clause-meaning t c =
@@ -703,31 +710,33 @@ pub lengthen-returns-in_err-take_tick-2-clause-meaning : goal.lengthen-returns-i
 lengthen-returns-in_err-take_tick-2-clause-meaning t c =
     let p = err_from_is_err_and c.from_residual-in_err-take_tick-2.result c.from_residual-in_err-take_tick-2.ensures.1 in rw (p.1, p.2) (λ k. let h = c.in_err-take_tick-2.ensures.spent k in rw (c.in_err-take_tick-2.ensures.kept, c.in_ok-take_tick.ensures.left, h.1) (unperformed c.in_ok-take_tick.ensures.taken (unassigned (spent (rw c.in_ok-take_tick.ensures.left at h.0)))))
 
-pub extend-returns-in-Ok-clause-meaning : goal.extend-returns-in-Ok-clause-meaning
-extend-returns-in-Ok-clause-meaning t c =
-    λ k. set_longer c.in_ok-take_tick.ensures.taken (rw (c.in_default.ensures.none, c.in_ok-take_tick.ensures.left) at c.in_ok-take_tick-2.ensures.taken) (rw (c.in_ok-take_tick-2.ensures.left, c.in_default.ensures.none, c.in_ok-take_tick.ensures.left) at c.in-Ok.ensures.ok)
+pub extend_value-returns-in-Ok-clause-meaning : goal.extend_value-returns-in-Ok-clause-meaning
+extend_value-returns-in-Ok-clause-meaning t c =
+    λ k. set_longer c.in_ok-take_tick.ensures.taken (rw c.in_ok-take_tick.ensures.left at c.in_ok-take_tick-2.ensures.taken) (rw (c.in_ok-take_tick-2.ensures.left, c.in_ok-take_tick.ensures.left) at c.in-Ok.ensures.ok)
 
-pub extend-returns-in_ok-set-in-Err-clause-meaning : goal.extend-returns-in_ok-set-in-Err-clause-meaning
-extend-returns-in_ok-set-in-Err-clause-meaning t c =
-    λ k. set_error c.in_ok-take_tick.ensures.taken (rw (c.in_default.ensures.none, c.in_ok-take_tick.ensures.left) at c.in_ok-take_tick-2.ensures.taken) (rw (c.in_ok-take_tick-2.ensures.left, c.in_default.ensures.none, c.in_ok-take_tick.ensures.left) at (c.in-Err.ensures.err (c.in_ok-value-in-Err.ensures.known tt))) (c.in_ok-value-in-Err.ensures.outcome tt) (same_state (sym c.in_ok-set-in-Err.ensures) refl)
+pub extend_value-returns-in_ok-set-in-Err-clause-meaning : goal.extend_value-returns-in_ok-set-in-Err-clause-meaning
+extend_value-returns-in_ok-set-in-Err-clause-meaning t c =
+    λ k. set_error c.in_ok-take_tick.ensures.taken (rw c.in_ok-take_tick.ensures.left at c.in_ok-take_tick-2.ensures.taken) (rw (c.in_ok-take_tick-2.ensures.left, c.in_ok-take_tick.ensures.left) at (c.in-Err.ensures.err (c.in_ok-value-in-Err.ensures.known tt))) (c.in_ok-value-in-Err.ensures.outcome tt) (same_state (sym c.in_ok-set-in-Err.ensures) refl)
 
-pub extend-returns-in_err-value-in-Err-clause-meaning : goal.extend-returns-in_err-value-in-Err-clause-meaning
-extend-returns-in_err-value-in-Err-clause-meaning t c =
-    let p = err_from_is_err_and c.from_residual-in_err-value-in-Err.result c.from_residual-in_err-value-in-Err.ensures.1 in rw (p.1, p.2) (λ k. not_set c.in_ok-take_tick.ensures.taken (rw (c.in_default.ensures.none, c.in_ok-take_tick.ensures.left) at c.in_ok-take_tick-2.ensures.taken) (rw (c.in_ok-take_tick-2.ensures.left, c.in_default.ensures.none, c.in_ok-take_tick.ensures.left) at (c.in-Err.ensures.err (c.in_err-value-in-Err.ensures.known k))) (c.in_err-value-in-Err.ensures.outcome k))
+pub extend_value-returns-in_err-value-in-Err-clause-meaning : goal.extend_value-returns-in_err-value-in-Err-clause-meaning
+extend_value-returns-in_err-value-in-Err-clause-meaning t c =
+    let p = err_from_is_err_and c.from_residual-in_err-value-in-Err.result c.from_residual-in_err-value-in-Err.ensures.1 in rw (p.1, p.2) (λ k. not_set c.in_ok-take_tick.ensures.taken (rw c.in_ok-take_tick.ensures.left at c.in_ok-take_tick-2.ensures.taken) (rw (c.in_ok-take_tick-2.ensures.left, c.in_ok-take_tick.ensures.left) at (c.in-Err.ensures.err (c.in_err-value-in-Err.ensures.known k))) (c.in_err-value-in-Err.ensures.outcome k))
 
-pub extend-returns-in_err-take_tick-clause-meaning : goal.extend-returns-in_err-take_tick-clause-meaning
-extend-returns-in_err-take_tick-clause-meaning t c =
+pub extend_value-returns-in_err-take_tick-clause-meaning : goal.extend_value-returns-in_err-take_tick-clause-meaning
+extend_value-returns-in_err-take_tick-clause-meaning t c =
     let p = err_from_is_err_and c.from_residual.result c.from_residual.ensures.1 in rw (p.1, p.2) (λ k. let h = c.in_err-take_tick.ensures.spent k in rw (c.in_err-take_tick.ensures.kept, h.1) (evaluates (spent h.0) refl))
 
-pub extend-returns-in_err-take_tick-2-clause-meaning : goal.extend-returns-in_err-take_tick-2-clause-meaning
-extend-returns-in_err-take_tick-2-clause-meaning t c =
-    let p = err_from_is_err_and c.from_residual-in_err-take_tick-2.result c.from_residual-in_err-take_tick-2.ensures.1 in rw (p.1, p.2) (λ k. let h = c.in_err-take_tick-2.ensures.spent k in rw (c.in_err-take_tick-2.ensures.kept, c.in_default.ensures.none, c.in_ok-take_tick.ensures.left, h.1) (unperformed c.in_ok-take_tick.ensures.taken (unassigned (spent (rw (c.in_default.ensures.none, c.in_ok-take_tick.ensures.left) at h.0)))))
+pub extend_value-returns-in_err-take_tick-2-clause-meaning : goal.extend_value-returns-in_err-take_tick-2-clause-meaning
+extend_value-returns-in_err-take_tick-2-clause-meaning t c =
+    let p = err_from_is_err_and c.from_residual-in_err-take_tick-2.result c.from_residual-in_err-take_tick-2.ensures.1 in rw (p.1, p.2) (λ k. let h = c.in_err-take_tick-2.ensures.spent k in rw (c.in_err-take_tick-2.ensures.kept, c.in_ok-take_tick.ensures.left, h.1) (unperformed c.in_ok-take_tick.ensures.taken (unassigned (spent (rw c.in_ok-take_tick.ensures.left at h.0)))))
 
-pub extend-returns-in-Some-clause-meaning : goal.extend-returns-in-Some-clause-meaning
-extend-returns-in-Some-clause-meaning t c =
-    let number : SFits w32 c.in-Some.number = search rules in
-    let set = rw (to_z-of_z w32 c.in-Some.number number) at c.in_ok-set.ensures in
-    λ k. performed c.in_ok-take_tick.ensures.taken (assigned (rw c.in_ok-take_tick.ensures.left at (c.in-Some.ensures.some c.args.world.now (context_of c.args.stack.now None))) (same_state (sym set) refl))
+pub extend-returns-then-try_add-clause-meaning : goal.extend-returns-then-try_add-clause-meaning
+extend-returns-then-try_add-clause-meaning t c =
+    λ k. c.try_add.ensures.added c.if-try_add.true c.args.world.now (context_of c.args.stack.now None)
+
+pub extend-returns-clause-meaning : goal.extend-returns-clause-meaning
+extend-returns-clause-meaning t c =
+    λ k. does_from (c.try_add.ensures.kept c.if-try_add.false c.args.world.now) (c.extend_value.ensures.meaning k)
 
 pub put_extended-returns-clause-ok : goal.put_extended-returns-clause-ok
 put_extended-returns-clause-ok t c =
@@ -750,6 +759,49 @@ put_extended-returns-in_err-set_sum-clause-err t c =
 pub perform-returns-in-Extend-clause-meaning : goal.perform-returns-in-Extend-clause-meaning
 perform-returns-in-Extend-clause-meaning t c =
     λ k. rw (c.in-Extend.is, ← c.deref-in-Extend.ensures) (c.extend.ensures.meaning k)
+
+pub update-returns-in-Ok-clause-meaning : goal.update-returns-in-Ok-clause-meaning
+update-returns-in-Ok-clause-meaning t c =
+    λ k. set_longer c.in_ok-take_tick.ensures.taken (rw c.in_ok-take_tick.ensures.left at c.in_ok-take_tick-2.ensures.taken) (rw (c.in_ok-take_tick-2.ensures.left, c.in_ok-take_tick.ensures.left) at c.in-Ok.ensures.ok)
+
+pub update-returns-in_ok-set-in-Err-clause-meaning : goal.update-returns-in_ok-set-in-Err-clause-meaning
+update-returns-in_ok-set-in-Err-clause-meaning t c =
+    λ k. set_error c.in_ok-take_tick.ensures.taken (rw c.in_ok-take_tick.ensures.left at c.in_ok-take_tick-2.ensures.taken) (rw (c.in_ok-take_tick-2.ensures.left, c.in_ok-take_tick.ensures.left) at (c.in-Err.ensures.err (c.in_ok-value-in-Err.ensures.known tt))) (c.in_ok-value-in-Err.ensures.outcome tt) (same_state (sym c.in_ok-set-in-Err.ensures) refl)
+
+pub update-returns-in_err-value-in-Err-clause-meaning : goal.update-returns-in_err-value-in-Err-clause-meaning
+update-returns-in_err-value-in-Err-clause-meaning t c =
+    let p = err_from_is_err_and c.from_residual-in_err-value-in-Err.result c.from_residual-in_err-value-in-Err.ensures.1 in rw (p.1, p.2) (λ k. not_set c.in_ok-take_tick.ensures.taken (rw c.in_ok-take_tick.ensures.left at c.in_ok-take_tick-2.ensures.taken) (rw (c.in_ok-take_tick-2.ensures.left, c.in_ok-take_tick.ensures.left) at (c.in-Err.ensures.err (c.in_err-value-in-Err.ensures.known k))) (c.in_err-value-in-Err.ensures.outcome k))
+
+pub update-returns-in_err-take_tick-clause-meaning : goal.update-returns-in_err-take_tick-clause-meaning
+update-returns-in_err-take_tick-clause-meaning t c =
+    let p = err_from_is_err_and c.from_residual.result c.from_residual.ensures.1 in rw (p.1, p.2) (λ k. let h = c.in_err-take_tick.ensures.spent k in rw (c.in_err-take_tick.ensures.kept, h.1) (evaluates (spent h.0) refl))
+
+pub update-returns-in_err-take_tick-2-clause-meaning : goal.update-returns-in_err-take_tick-2-clause-meaning
+update-returns-in_err-take_tick-2-clause-meaning t c =
+    let p = err_from_is_err_and c.from_residual-in_err-take_tick-2.result c.from_residual-in_err-take_tick-2.ensures.1 in rw (p.1, p.2) (λ k. let h = c.in_err-take_tick-2.ensures.spent k in rw (c.in_err-take_tick-2.ensures.kept, c.in_ok-take_tick.ensures.left, h.1) (unperformed c.in_ok-take_tick.ensures.taken (unassigned (spent (rw c.in_ok-take_tick.ensures.left at h.0)))))
+
+pub put_updated-returns-in_err-values-clause-err : goal.put_updated-returns-in_err-values-clause-err
+put_updated-returns-in_err-values-clause-err t c =
+    let p = err_from_is_err_and c.from_residual.result c.from_residual.ensures.1 in rw (p.1, p.2) (λ k. operands_end (c.in_err-values.ensures.meaning k))
+
+pub put_updated-returns-then-makes_list-clause-ok : goal.put_updated-returns-then-makes_list-clause-ok
+put_updated-returns-then-makes_list-clause-ok t c =
+    let h = c.in_ok-set_list.ensures in
+    updated (c.in_ok-values.ensures.meaning tt) (ap trees c.deref_mut.ensures.value ∙ c.in_ok-args.ensures) (sym c.function.ensures ∙ c.in-Some.is) h.1 (same_state (sym h.2) refl)
+
+pub put_updated-returns-in_err-value-clause-err : goal.put_updated-returns-in_err-value-clause-err
+put_updated-returns-in_err-value-clause-err t c =
+    let p = err_from_is_err_and c.from_residual-in_err-value.result c.from_residual-in_err-value.ensures.1 in
+    rw (p.1, p.2) (λ k. applies (c.in_ok-values.ensures.meaning tt) no_more (rw (c.of-values.ensures, c.in_ok-args.ensures) at (c.in_err-value.ensures.meaning None (source_items c.args.items.now) k)))
+
+pub put_updated-returns-clause-ok : goal.put_updated-returns-clause-ok
+put_updated-returns-clause-ok t c =
+    record {
+      value = tree c.in_ok-value.value;
+      between = _;
+      computes = applies (c.in_ok-values.ensures.meaning tt) no_more (rw (c.of-values.ensures, c.in_ok-args.ensures) at (c.in_ok-value.ensures.meaning None (source_items c.args.items.now) tt));
+      sets = same_state (sym c.in_ok-set.ensures) refl;
+    }
 
 pub put_longer-returns-clause-ok : goal.put_longer-returns-clause-ok
 put_longer-returns-clause-ok t c =
@@ -775,25 +827,26 @@ put_longer-returns-in_err-set_longer-clause-err t c =
 
 pub set_place-returns-then-try_put-clause-meaning : goal.set_place-returns-then-try_put-clause-meaning
 set_place-returns-then-try_put-clause-meaning t c =
-    λ k. put_alone c.in_ok-take_tick.ensures.taken (rw c.in_ok-take_tick.ensures.left at (c.try_put.ensures.put c.if-try_put.true c.args.world.now (context_of c.args.stack.now None)))
+    λ k. c.try_put.ensures.put c.if-try_put.true c.args.world.now (context_of c.args.stack.now None)
 
-pub set_place-returns-in-Ok-clause-meaning : goal.set_place-returns-in-Ok-clause-meaning
-set_place-returns-in-Ok-clause-meaning t c =
-    let same = c.try_put.ensures.kept c.if-try_put.false c.args.world.now in
-    λ k. put_alone c.in_ok-take_tick.ensures.taken (rw c.in_ok-take_tick.ensures.left at (put_from same c.in-Ok.ensures.ok))
+pub set_place-returns-clause-meaning : goal.set_place-returns-clause-meaning
+set_place-returns-clause-meaning t c =
+    λ k. does_from (c.try_put.ensures.kept c.if-try_put.false c.args.world.now) (c.set_element.ensures.meaning k)
 
-pub set_place-returns-in_ok-_error-in-Err-clause-meaning : goal.set_place-returns-in_ok-_error-in-Err-clause-meaning
-set_place-returns-in_ok-_error-in-Err-clause-meaning t c =
-    let same = c.try_put.ensures.kept c.if-try_put.false c.args.world.now in
-    λ k. passed_over c.in_ok-take_tick.ensures.taken (rw c.in_ok-take_tick.ensures.left at (computes_from same (c.in-Err.ensures.err (c.in_ok-_error-in-Err.ensures.known tt)))) (c.in_ok-_error-in-Err.ensures.outcome tt)
+pub set_element-returns-in-Ok-clause-meaning : goal.set_element-returns-in-Ok-clause-meaning
+set_element-returns-in-Ok-clause-meaning t c =
+    λ k. put_alone c.in_ok-take_tick.ensures.taken (rw c.in_ok-take_tick.ensures.left at c.in-Ok.ensures.ok)
 
-pub set_place-returns-in_err-_error-in-Err-clause-meaning : goal.set_place-returns-in_err-_error-in-Err-clause-meaning
-set_place-returns-in_err-_error-in-Err-clause-meaning t c =
-    let same = c.try_put.ensures.kept c.if-try_put.false c.args.world.now in
-    let p = err_from_is_err_and c.from_residual-in_err-_error-in-Err.result c.from_residual-in_err-_error-in-Err.ensures.1 in rw (p.1, p.2) (λ k. stopped c.in_ok-take_tick.ensures.taken (rw c.in_ok-take_tick.ensures.left at (computes_from same (c.in-Err.ensures.err (c.in_err-_error-in-Err.ensures.known k)))) (c.in_err-_error-in-Err.ensures.outcome k))
+pub set_element-returns-in_ok-_error-in-Err-clause-meaning : goal.set_element-returns-in_ok-_error-in-Err-clause-meaning
+set_element-returns-in_ok-_error-in-Err-clause-meaning t c =
+    λ k. passed_over c.in_ok-take_tick.ensures.taken (rw c.in_ok-take_tick.ensures.left at (c.in-Err.ensures.err (c.in_ok-_error-in-Err.ensures.known tt))) (c.in_ok-_error-in-Err.ensures.outcome tt)
 
-pub set_place-returns-in_err-take_tick-clause-meaning : goal.set_place-returns-in_err-take_tick-clause-meaning
-set_place-returns-in_err-take_tick-clause-meaning t c =
+pub set_element-returns-in_err-_error-in-Err-clause-meaning : goal.set_element-returns-in_err-_error-in-Err-clause-meaning
+set_element-returns-in_err-_error-in-Err-clause-meaning t c =
+    let p = err_from_is_err_and c.from_residual-in_err-_error-in-Err.result c.from_residual-in_err-_error-in-Err.ensures.1 in rw (p.1, p.2) (λ k. stopped c.in_ok-take_tick.ensures.taken (rw c.in_ok-take_tick.ensures.left at (c.in-Err.ensures.err (c.in_err-_error-in-Err.ensures.known k))) (c.in_err-_error-in-Err.ensures.outcome k))
+
+pub set_element-returns-in_err-take_tick-clause-meaning : goal.set_element-returns-in_err-take_tick-clause-meaning
+set_element-returns-in_err-take_tick-clause-meaning t c =
     let p = err_from_is_err_and c.from_residual.result c.from_residual.ensures.1 in rw (p.1, p.2) (λ k. let h = c.in_err-take_tick.ensures.spent k in rw (c.in_err-take_tick.ensures.kept, h.1) (evaluates (spent h.0) refl))
 
 pub put_at-returns-clause-ok : goal.put_at-returns-clause-ok
@@ -1007,13 +1060,24 @@ pub scatter_alone-returns-in_err-take_tick-clause-meaning : goal.scatter_alone-r
 scatter_alone-returns-in_err-take_tick-clause-meaning t c =
     let p = err_from_is_err_and c.from_residual.result c.from_residual.ensures.1 in rw (p.1, p.2) (λ k. let h = c.in_err-take_tick.ensures.spent k in rw (c.in_err-take_tick.ensures.kept, h.1) (evaluates (spent h.0) refl))
 
-pub literal_property-returns-in_err-take_tick-clause-meaning : goal.literal_property-returns-in_err-take_tick-clause-meaning
-literal_property-returns-in_err-take_tick-clause-meaning t c =
+pub written_property-returns-in_err-take_tick-clause-meaning : goal.written_property-returns-in_err-take_tick-clause-meaning
+written_property-returns-in_err-take_tick-clause-meaning t c =
     let p = err_from_is_err_and c.from_residual-in_err-take_tick.result c.from_residual-in_err-take_tick.ensures.1 in rw (p.1, p.2) (λ k. let h = c.in_err-take_tick.ensures.spent k in rw (c.in_err-take_tick.ensures.kept, h.1) (operands_end (element_then (c.in_ok-base.ensures.meaning tt) (element_stops (spent h.0)) refl)))
 
-pub literal_property-returns-clause-meaning : goal.literal_property-returns-clause-meaning
-literal_property-returns-clause-meaning t c =
+pub written_property-returns-clause-meaning : goal.written_property-returns-clause-meaning
+written_property-returns-clause-meaning t c =
     λ k. rw (c.in_ok-take_tick.ensures.left) (applies (element_then (c.in_ok-base.ensures.meaning tt) (element_then (literal_read c.in_ok-take_tick.ensures.taken) no_more refl) refl) no_more (let f : SFits w32 c.evaluate.new.active.programmer = search rules in property_is (rw (to_z-of_z w32 c.evaluate.new.active.programmer f) at (c.read_written.ensures.value k))))
+
+pub literal_property-returns-in-Some-clause-meaning : goal.literal_property-returns-in-Some-clause-meaning
+literal_property-returns-in-Some-clause-meaning t c =
+    let h = c.in-Some.ensures.some in
+    let object : SFits w32 c.in-Some.object = search rules in
+    let programmer : SFits w32 c.args.active.now.programmer = search rules in
+    λ k. rw h.2 (property.property_computed (variables_of c.args.active.now.variables) c.args.name.now h.0 (rw (to_z-of_z w32 c.in-Some.object object, to_z-of_z w32 c.args.active.now.programmer programmer) at (c.read_written.ensures.value k)) refl h.1)
+
+pub literal_property-returns-in-None-clause-meaning : goal.literal_property-returns-in-None-clause-meaning
+literal_property-returns-in-None-clause-meaning t c =
+    λ k. rw c.in-None.ensures.none at (c.written_property.ensures.meaning k)
 
 pub put_property-returns-in_err-base-clause-err : goal.put_property-returns-in_err-base-clause-err
 put_property-returns-in_err-base-clause-err t c =

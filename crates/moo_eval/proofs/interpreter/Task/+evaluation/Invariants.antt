@@ -31,6 +31,9 @@ decreases-passes l = 16 * l.self.now.ticks_left + 7
 abbrev pub decreases-evaluate_tried : goal.decreases-evaluate_tried
 decreases-evaluate_tried l = 16 * l.self.now.ticks_left + 4
 
+abbrev pub decreases-evaluate_declined : goal.decreases-evaluate_declined
+decreases-evaluate_declined l = 16 * l.self.now.ticks_left + 1
+
 abbrev pub decreases-arithmetic : goal.decreases-arithmetic
 decreases-arithmetic l = 16 * l.self.now.ticks_left + 7
 
@@ -50,22 +53,37 @@ abbrev pub decreases-assign_variable : goal.decreases-assign_variable
 decreases-assign_variable l = 16 * l.self.now.ticks_left + 8
 
 abbrev pub decreases-assign_alone : goal.decreases-assign_alone
-decreases-assign_alone l = 16 * l.self.now.ticks_left
+decreases-assign_alone l = 16 * l.self.now.ticks_left + 1
+
+abbrev pub decreases-assign_value : goal.decreases-assign_value
+decreases-assign_value l = 16 * l.self.now.ticks_left
 
 abbrev pub decreases-lengthen : goal.decreases-lengthen
 decreases-lengthen l = 16 * l.self.now.ticks_left
+
+abbrev pub decreases-update : goal.decreases-update
+decreases-update l = 16 * l.self.now.ticks_left
+
+abbrev pub decreases-put_updated : goal.decreases-put_updated
+decreases-put_updated l = 16 * l.self.now.ticks_left + 11
 
 abbrev pub decreases-put_longer : goal.decreases-put_longer
 decreases-put_longer l = 16 * l.self.now.ticks_left + 6
 
 abbrev pub decreases-extend : goal.decreases-extend
-decreases-extend l = 16 * l.self.now.ticks_left
+decreases-extend l = 16 * l.self.now.ticks_left + 1
+
+abbrev pub decreases-extend_value : goal.decreases-extend_value
+decreases-extend_value l = 16 * l.self.now.ticks_left
 
 abbrev pub decreases-put_extended : goal.decreases-put_extended
 decreases-put_extended l = 16 * l.self.now.ticks_left + 7
 
 abbrev pub decreases-set_place : goal.decreases-set_place
-decreases-set_place l = 16 * l.self.now.ticks_left
+decreases-set_place l = 16 * l.self.now.ticks_left + 1
+
+abbrev pub decreases-set_element : goal.decreases-set_element
+decreases-set_element l = 16 * l.self.now.ticks_left
 
 abbrev pub decreases-put_at : goal.decreases-put_at
 decreases-put_at l = 16 * l.self.now.ticks_left + 6
@@ -113,7 +131,10 @@ abbrev pub decreases-proceed : goal.decreases-proceed
 decreases-proceed l = 16 * l.self.now.ticks_left + 8
 
 abbrev pub decreases-call : goal.decreases-call
-decreases-call l = 16 * l.self.now.ticks_left + 10
+decreases-call l = 16 * l.self.now.ticks_left + 11
+
+abbrev pub decreases-call_with : goal.decreases-call_with
+decreases-call_with l = 16 * l.self.now.ticks_left + 10
 
 abbrev pub decreases-call_caller : goal.decreases-call_caller
 decreases-call_caller l = 16 * l.self.now.ticks_left + 9
@@ -325,6 +346,9 @@ decreases-call_computed l = 16 * l.self.now.ticks_left + 10
 
 abbrev pub decreases-literal_property : goal.decreases-literal_property
 decreases-literal_property l = 16 * l.self.now.ticks_left + 7
+
+abbrev pub decreases-written_property : goal.decreases-written_property
+decreases-written_property l = 16 * l.self.now.ticks_left + 6
 
 abbrev pub decreases-computed_property : goal.decreases-computed_property
 decreases-computed_property l = 16 * l.self.now.ticks_left + 7

@@ -1,9 +1,9 @@
-use Rattle.std.proofs.Common.{sym, rules}
+use Rattle.std.proofs.Common.{◌<◌, sym, rules, arith}
 use mir.Syntax.{w32}
 use mir.Val.{SFits}
 use Rattle.moo_eval.specs.Seen.{state_of}
 use Rattle.moo_eval.proofs.Exits.{same_state}
-use Rattle.moo_eval.proofs.Placed.{integer_put}
+use Rattle.moo_eval.proofs.Placed.{integer_put, put_alone}
 use Rattle.moo_eval.proofs.Ticks.{ticks_seen}
 use Rattle.moo_eval.proofs.interpreter.Task.try_put.Goals as goal
 
@@ -11,8 +11,9 @@ pub returns-clause-put : goal.returns-clause-put
 returns-clause-put c = λ t w k.
     let fits : SFits w32 c.left.result = search rules in
     let ticks = ticks_seen c.left.result c.args.self.now.ticks_left fits c.left.ensures in
+    let z : 0 < c.args.self.now.ticks_left = omega (arith, ticks, c.if-left-eq0.false) in
     let puts = rw ticks at (c.put_integer.ensures.put c.if-not-put_integer.false) in
-    rw c.leave.ensures (integer_put k (state_of c.args.self.now w c.args.active.now) (sym c.put_integer.ensures.programmer) puts)
+    rw c.leave.ensures (put_alone z (integer_put k (state_of c.args.self.now w c.args.active.now) (sym c.put_integer.ensures.programmer) puts))
 
 pub returns-then-not-put_integer-clause-kept : goal.returns-then-not-put_integer-clause-kept
 returns-then-not-put_integer-clause-kept c = λ f w. same_state (c.put_integer.ensures.kept c.if-not-put_integer.true) c.put_integer.ensures.programmer

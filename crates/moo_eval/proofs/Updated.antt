@@ -1,0 +1,32 @@
+-- Variables that a function on lists changes.
+use Rattle.std.proofs.Common.{◌≡◌, ℕ, List, [], ◌∷◌, Some, None, Ok, refl, ap, ◌∙◌}
+use Rattle.moo_value.specs.Tree.{Tree}
+use Rattle.moo_syntax_ast.specs.Tree.{Items, call}
+use Rattle.moo_syntax_function.specs.declared.function.Function.{Function}
+use Rattle.moo_syntax_function.specs.Names.{function_of}
+use Rattle.moo_builtin.specs.Telling.{Faults}
+use Rattle.moo_eval_frame.specs.Variables.{bind}
+use Rattle.moo_eval_frame.specs.State.{Context}
+use Rattle.moo_eval_access.specs.State.{State, bound}
+use Rattle.moo_eval_call.specs.VerbCalls.{verb_caller}
+use Rattle.moo_eval_call.specs.Updates.{MakesList, appends, inserts, adds, deletes, removes}
+use Rattle.moo_eval_call.proofs.Updates.{list_calls}
+use Rattle.moo_eval_semantics.specs.Meaning.{EvaluatesAll, applies, no_more, call_is}
+use Rattle.moo_eval.specs.Growth.{IsLengthened}
+
+-- such a function calls no verb
+calls_none : {f : Function} {args : List Tree} {w : Tree} → MakesList f args w → verb_caller (Some f) ≡ None
+calls_none (appends e) = refl
+calls_none (inserts e) = refl
+calls_none (adds e) = refl
+calls_none (deletes e) = refl
+calls_none (removes e) = refl
+
+-- the arguments are evaluated, and the variable is set to the list that is made of them
+pub updated : {c : Context} {x name : List ℕ} {items : Items} {f : Function} {s s1 t : State} {vs args : List Tree} {w : Tree} → EvaluatesAll Faults c items s (Ok vs) s1 → args ≡ vs → function_of name ≡ Some f → MakesList f args w → bound (bind x w ∷ []) s1 ≡ t → IsLengthened Faults c x (call name items) s t
+updated {name = name} {s1 = s1} {w = w} d same f h sets = record {
+  value = w;
+  between = s1;
+  computes = applies d no_more (call_is (ap verb_caller f ∙ calls_none h) (list_calls name _ _ f (rw same at h)));
+  sets = sets;
+}

@@ -49,7 +49,9 @@ GRAMMAR = {
     "simple": [
         (8, "<variable> = <expression>;"), (5, "<counter> = <number>;"), (6, "l = {@l, <expression>};"), (4, "l = {<expression>, @l};"),
         (3, "m = {@m, <item>};"),
-        (3, "s = s + <expression>;"), (3, "a = a + <number>;"), (6, "<target> = <expression>;"), (2, "l = listappend(l, <expression>);"), (4, "<expression>;"),
+        (3, "s = s + <expression>;"), (3, "a = a + <number>;"), (6, "<target> = <expression>;"), (4, "<expression>;"),
+        (2, "l = listappend(l, <expression>);"), (2, "l = listdelete(l, <number>);"), (1, "l = setadd(l, <expression>);"), (1, "l = setremove(l, <expression>);"),
+        (1, "m = listinsert(m, <item>);"), (2, "<variable> = <function>(<variable>, <items>);"),
     ],
     "arm": [(6, ""), (3, "else <block>"), (3, "elseif (<expression>) <block>"), (2, "elseif (<number>) <block> else <block>")],
     "leaving": [(5, ""), (2, "break;"), (2, "continue;"), (1, "if (<number>) break; else continue; endif"), (1, "return <expression>;")],

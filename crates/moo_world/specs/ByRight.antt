@@ -11,7 +11,7 @@ use Rattle.moo_world_object.specs.Cells.{Cell, is_named, cell_named}
 use Rattle.moo_world_table.specs.World.{World, thing_of}
 use Rattle.moo_world_table.specs.Properties.{read}
 use Rattle.moo_world.specs.Calls.{number_of}
-use Rattle.moo_world.specs.EditCalls.{set_raises}
+use Rattle.moo_world.specs.EditCalls.{set_raises, world_set}
 use Rattle.moo_world.specs.NamedProperties.{get_raises, value_got}
 use Rattle.moo_world.specs.Rights.{may_read_cell, may_write_cell, may_read_property, may_write_property}
 
@@ -47,3 +47,9 @@ pub record IsWritable (w : World) (p : ℤ) (x : ℕ) (name : List ℕ) (place :
 abbrev pub set_by_raises : World → ℤ → ℤ → List ℕ → Tree → Option ErrorCode
 set_by_raises w p o name v =
     option_or (set_raises w (number_of w.objects o) (folded name) v) (if may_write_property w p o name then None else Some Permission)
+
+-- The programmer may set the property before and after, to each value. Then it makes no difference what was there.
+pub record IsDropped (old new : World) (p o : ℤ) (name : List ℕ) : Type 0 where
+  pub before : (v : Tree) → set_by_raises old p o name v ≡ None
+  pub after : (v : Tree) → set_by_raises new p o name v ≡ None
+  pub again : (v : Tree) → world_set new (number_of new.objects o) (folded name) v ≡ world_set old (number_of old.objects o) (folded name) v

@@ -1,7 +1,7 @@
 //! Properties read and set with the rights of a programmer. The cell that decides the right is the cell that is read
 //! or set, so it is looked up once.
 
-ghost use Rattle.std.specs.Prelude.{◌≡◌, IsSome, IfSome, IsTrue, Some, is_some, true};
+ghost use Rattle.std.specs.Prelude.{◌≡◌, IsSome, IfSome, IsTrue, IsFalse, Some, is_some, true};
 ghost use Rattle.std.specs.Option.{option_map, option_copied};
 ghost use Rattle.std.specs.List.{position};
 ghost use Rattle.moo_value.specs.Compare.{folded};
@@ -10,7 +10,7 @@ ghost use Rattle.moo_world_object.specs.BuiltIn.{built_in_of};
 ghost use Rattle.moo_world_object.specs.Cells.{cell_named, is_named};
 ghost use Rattle.moo_world_table.specs.World.{object_of, thing_of};
 ghost use Rattle.moo_world_table.specs.Properties.{read};
-ghost use Rattle.moo_world.specs.ByRight.{readable_cell, readable_at, readable_value, IsReadable, IsWritable, set_by_raises};
+ghost use Rattle.moo_world.specs.ByRight.{readable_cell, readable_at, readable_value, IsReadable, IsWritable, IsDropped, set_by_raises};
 ghost use Rattle.moo_world.specs.EditCalls.{world_set};
 ghost use Rattle.moo_world.specs.Calls.{Changes, number_of, TakesNoMemory};
 
@@ -193,6 +193,50 @@ impl World {
             Some(x) => self.set_valid_written_by(programmer, o, x, name, value),
             None => Err(WorldFault::Raise(ErrorCode::InvalidIndirection)),
         }
+    }
+
+    /// Drops the value of a property, so that nothing in the world shares it. The property is 0 until the programmer sets
+    /// it again, which can't be refused. Returns false if the programmer may not set it, if it is built in, or if the
+    /// object has no cell for it; then nothing has changed.
+    pub fn try_drop(&mut self, programmer: i32, o: i32, name: &[u8]) -> bool
+        ensures dropped { IsTrue result → IsDropped self.old self.new programmer o name.now }
+        ensures kept { IsFalse result → self.new ≡ self.old }
+    {
+        let Some(x) = self.number(o) else {
+            return false;
+        };
+        let Some(place) = self.writable_place(programmer, x, name) else {
+            return false;
+        };
+        self.drop_at(programmer, o, x, name, place);
+        true
+    }
+
+    /// Drops the value of a property whose name is a literal, as `try_drop` does.
+    pub fn try_drop_written(&mut self, programmer: i32, o: i32, name: &Text) -> bool
+        ensures dropped { IsTrue result → IsDropped self.old self.new programmer o name.now }
+        ensures kept { IsFalse result → self.new ≡ self.old }
+    {
+        let Some(x) = self.number(o) else {
+            return false;
+        };
+        let Some(place) = self.writable_written(programmer, x, name) else {
+            return false;
+        };
+        self.drop_at(programmer, o, x, name.string().as_bytes(), place);
+        true
+    }
+
+    // Drops the value of the cell at a place where the programmer may set it.
+    fn drop_at(&mut self, programmer: i32, o: i32, x: usize, name: &[u8], place: usize)
+        requires valid { IsSome (object_of self.old.objects x) }
+        requires numbered { number_of self.old.objects o ≡ Some x }
+        requires writable { IsWritable self.old programmer x (folded name.now) place }
+        ensures { IsDropped self.old self.new programmer o name.now }
+    {
+        let zero = Value::Int(0);
+        let _weight = zero.weight();
+        set_at_in(&mut self.objects[x], place, zero);
     }
 
     // Sets a property of a valid object with the rights of a programmer.

@@ -13,5 +13,6 @@ mod Lengthened
 mod Placed
 mod Prepended
 mod Properties
+mod Stored
 mod Ticks
 mod Updated

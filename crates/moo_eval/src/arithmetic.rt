@@ -35,7 +35,8 @@ impl Task {
         }
     }
 
-    /// Computes the integer of an operator between two nodes, likewise.
+    /// Computes the integer of an operator between two nodes from integers alone, and takes its ticks. `None` if that can't
+    /// be; then nothing has changed.
     #[inline(always)]
     pub(crate) fn try_integers(
         &mut self,

@@ -3,7 +3,7 @@ ghost use Rattle.std.specs.Prelude.{◌≡◌, ◌≤◌, None, Ok, IsTrue, IsFa
 ghost use Rattle.moo_syntax_ast.specs.Tree.{variable, assign, performs};
 ghost use Rattle.moo_syntax_lower.specs.Source.{source};
 ghost use Rattle.moo_value.specs.View.{tree as value_tree};
-ghost use Rattle.moo_eval_access.specs.Target.{Path, named};
+ghost use Rattle.moo_eval_access.specs.Target.{Path, named, owned};
 ghost use Rattle.moo_eval_semantics.specs.Meaning.{Computes, Does, Locates, Finds, Steps, Stores};
 ghost use Rattle.moo_eval_frame.specs.Seen.{context_of, seen_answer, seen_by, seen_done, seen_flow, IsKnown, IsKnownFailure};
 ghost use Rattle.moo_eval_frame.specs.Outcome.{next};
@@ -15,11 +15,11 @@ ghost use Rattle.moo_eval_access.specs.SeenTarget.{root_seen, step_of, steps_of,
 
 use crate::interpreter::Task;
 use moo_eval_access::{
-    Path, Places, Root, Spot, Step, as_property, push_step, rebuilt, root_alone, set_variable,
-    taken_apart, write_property,
+    Path, Places, Root, Spot, Step, as_property, drop_property, push_step, rebuilt, root_alone,
+    set_variable, taken_apart, takes_value, write_property,
 };
 use moo_eval_frame::{Activation, CallStack, Failure, Flow, Stop};
-use moo_eval_integer::set_arithmetic;
+use moo_eval_integer::try_set_arithmetic;
 use moo_syntax_ast::Name;
 use moo_syntax_lower::Node;
 use moo_value::Value;
@@ -123,7 +123,7 @@ impl Task {
             return false;
         }
         left -= 1;
-        if !set_arithmetic(active, &mut left, name, value) {
+        if !try_set_arithmetic(active, &mut left, name, value) {
             return false;
         }
         self.ticks_left.leave(left);
@@ -252,14 +252,34 @@ impl Task {
         match root {
             Root::Variable(name) => self.store_variable(active, name, steps, value),
             Root::Property(base, name) => {
-                let whole = rebuilt(self.alloc(), steps, value)?;
-                write_property(world, active.programmer, &base, &name, whole)
+                self.store_property(world, active, &base, &name, steps, value)
             }
             Root::Scatter(items) => {
                 let whole = rebuilt(self.alloc(), steps, value)?;
                 self.scatter(world, active, stack, indexed, items, &whole)
             }
         }
+    }
+
+    // Sets a property, or the part of it at the end of the steps. A list that nothing but the property holds is changed in
+    // place. Not inlined, so that nested scatters need no stack space for it.
+    #[inline(never)]
+    fn store_property(
+        &self,
+        world: &mut World,
+        active: &Activation,
+        base: &Value,
+        name: &Value,
+        steps: Vec<Step>,
+        value: Value,
+    ) -> Result<(), Failure>
+        ensures { (c : Context) → IsKnownFailure result → Stores Faults c (owned (value_tree base.now) (value_tree name.now)) (steps_of steps.items) (value_tree value) (state_of self.now world.old active.now) (seen_done result) (state_of self.now world.new active.now) }
+    {
+        if takes_value(&steps, &value) {
+            drop_property(world, active.programmer, base, name);
+        }
+        let whole = rebuilt(self.alloc(), steps, value)?;
+        write_property(world, active.programmer, base, name, whole)
     }
 
     // Sets a variable, or the part of it at the end of the steps. Not inlined, so that nested scatters need no stack

@@ -14,7 +14,7 @@ ghost use Rattle.moo_eval.specs.Seen.{state_of};
 use crate::interpreter::Task;
 use moo_eval_access::set_at;
 use moo_eval_frame::{Activation, CallStack, Failure, Flow, Stop, read_variable};
-use moo_eval_integer::put_integer;
+use moo_eval_integer::try_put_integer;
 use moo_syntax_ast::Name;
 use moo_syntax_lower::Node;
 use moo_world::World;
@@ -81,7 +81,7 @@ impl Task {
             return false;
         }
         left -= 1;
-        if !put_integer(active, &mut left, name, place, value) {
+        if !try_put_integer(active, &mut left, name, place, value) {
             return false;
         }
         self.ticks_left.leave(left);

@@ -15,7 +15,7 @@ ghost use Rattle.moo_eval.specs.Seen.{state_of};
 use crate::interpreter::Task;
 use moo_eval_access::set_sum;
 use moo_eval_frame::{Activation, CallStack, Failure, Flow, Stop};
-use moo_eval_integer::add_integer;
+use moo_eval_integer::try_add_integer;
 use moo_syntax_ast::Name;
 use moo_syntax_lower::Node;
 use moo_world::World;
@@ -54,7 +54,7 @@ impl Task {
             return false;
         }
         left -= 1;
-        if !add_integer(active, &mut left, name, last) {
+        if !try_add_integer(active, &mut left, name, last) {
             return false;
         }
         self.ticks_left.leave(left);

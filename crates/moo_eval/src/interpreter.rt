@@ -80,7 +80,7 @@ impl Task {
         ensures { HadMemory result → stop_of result ≡ out_of_ticks (trace_of stack.now active.now) }
     {
         match stack.trace(self.alloc, active) {
-            Ok(trace) => Stop::OutOfTicks(trace),
+            Ok(trace) => Stop::out_of_ticks(self.alloc, trace),
             Err(_) => Stop::Memory,
         }
     }

@@ -78,7 +78,7 @@ impl Task {
         guarded: &[Guarded<'_>],
         raise: Raise,
     ) -> Result<Flow, Stop>
-        ensures meaning { IsKnown result → Takes Faults (context_of stack.now None) (chosen (map guarded_of guarded.now) raise.code) (raise_of raise) (state_of self.old world.old active.old) (seen_flow result) (state_of self.new world.new active.new) }
+        ensures meaning { IsKnown result → Takes Faults (context_of stack.now None) (chosen (map guarded_of guarded.now) (raise_of raise).code) (raise_of raise) (state_of self.old world.old active.old) (seen_flow result) (state_of self.new world.new active.new) }
         ensures ticks { self.new.ticks_left ≤ self.old.ticks_left }
     {
         let body = self.begin_handler(active, stack, guarded, raise)?;
@@ -95,10 +95,10 @@ impl Task {
         guarded: &[Guarded<'a>],
         raise: Raise,
     ) -> Result<&'a [NodeStmt], Stop>
-        ensures ok { IfOk result (λ body. (w : WorldModel) (o : Result Flowing Stopped) (s : State) → RunsAll Faults (context_of stack.now None) (source_block body.now) (state_of self.now w active.new) o s → Takes Faults (context_of stack.now None) (chosen (map guarded_of guarded.now) raise.code) (raise_of raise) (state_of self.now w active.old) o s) }
-        ensures err { IfErr result (λ stop. HadMemory stop → (w : WorldModel) → Takes Faults (context_of stack.now None) (chosen (map guarded_of guarded.now) raise.code) (raise_of raise) (state_of self.now w active.old) (Err (stop_of stop)) (state_of self.now w active.new)) }
+        ensures ok { IfOk result (λ body. (w : WorldModel) (o : Result Flowing Stopped) (s : State) → RunsAll Faults (context_of stack.now None) (source_block body.now) (state_of self.now w active.new) o s → Takes Faults (context_of stack.now None) (chosen (map guarded_of guarded.now) (raise_of raise).code) (raise_of raise) (state_of self.now w active.old) o s) }
+        ensures err { IfErr result (λ stop. HadMemory stop → (w : WorldModel) → Takes Faults (context_of stack.now None) (chosen (map guarded_of guarded.now) (raise_of raise).code) (raise_of raise) (state_of self.now w active.old) (Err (stop_of stop)) (state_of self.now w active.new)) }
     {
-        let Some(taken) = chosen(guarded, raise.code) else {
+        let Some(taken) = chosen(guarded, raise.account.code) else {
             return Err(Stop::Raised(raise));
         };
         set_caught(self.alloc(), stack, active, taken.name, raise)?;

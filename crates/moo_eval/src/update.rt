@@ -9,7 +9,7 @@ ghost use Rattle.moo_builtin.specs.Telling.{Faults};
 ghost use Rattle.moo_eval.specs.Seen.{state_of};
 
 use crate::interpreter::Task;
-use moo_eval_call::{makes_list, set_list};
+use moo_eval_call::{has_list, set_list};
 use moo_eval_frame::{Activation, CallStack, Failure, Flow, Gathered, Stop};
 use moo_syntax_ast::Name;
 use moo_syntax_lower::{FunctionName, NodeItem};
@@ -65,7 +65,7 @@ impl Task {
         let values = self.evaluate_all(world, active, stack, None, items, room)?;
         let mut args = values.into_values(self.alloc())?;
         if let Some(function) = called.function() {
-            if makes_list(function, &args) {
+            if has_list(function, &args) {
                 set_list(
                     self.alloc(),
                     &mut active.variables,

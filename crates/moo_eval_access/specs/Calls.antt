@@ -1,5 +1,5 @@
 -- What properties of objects give.
-use Rattle.std.specs.Prelude.{ℕ, ℤ, List, Option, None, Some, Result, Ok, Err, if◌then◌else◌}
+use Rattle.std.specs.Prelude.{◌≡◌, ℕ, ℤ, List, Option, None, Some, Result, Ok, Err, if◌then◌else◌}
 use Rattle.moo_value.specs.declared.error_code.ErrorCode.{ErrorCode}
 use Rattle.moo_value.specs.declared.error_code.ErrorCode.TheVariants.{TypeMismatch, PropertyNotFound, Permission}
 use Rattle.moo_value.specs.Tree.{Tree, object, string}
@@ -43,3 +43,13 @@ abbrev pub write_property : World → ℤ → Tree → Tree → Tree → Result 
 write_property w programmer (object o) (string name) v =
     unless_raised (set_raises w (number_of w.objects o) (folded name) v) (allowed_world w programmer o name v)
 write_property w programmer _ _ v = Err TypeMismatch
+
+-- the world with a property set to a value, if there is one
+abbrev pub write_result : World → ℤ → Tree → Tree → Result Tree ErrorCode → Result World ErrorCode
+write_result w programmer base name (Ok v) = write_property w programmer base name v
+write_result w programmer base name (Err code) = Err code
+
+-- Setting the property gives one world before and after, to each value. If that is refused, nothing has changed.
+pub record IsSetAlike (old new : World) (programmer : ℤ) (base name : Tree) : Type 0 where
+  pub sets : (v : Tree) → write_property new programmer base name v ≡ write_property old programmer base name v
+  pub refused : (v : Tree) (code : ErrorCode) → write_property old programmer base name v ≡ Err code → new ≡ old

@@ -63,8 +63,9 @@ pub fn set_prepended(
     Ok(())
 }
 
-// Returns the list with this value before its elements, which has to be within the limits.
-fn prepended(alloc: Global, list: MooList, value: Value) -> Result<MooList, AllocError>
+/// Returns the list with this value before its elements, which has to be within the limits. A list that nothing else
+/// shares takes it in place. Err is out of memory.
+pub fn prepended(alloc: Global, list: MooList, value: Value) -> Result<MooList, AllocError>
     requires { IsWithinLimits (list_of (tree value ∷ list)) }
     ensures { IfOk result (λ longer. longer ≡ tree value ∷ list) }
 {
@@ -88,8 +89,9 @@ pub fn has_room_for(list: &MooList, value: &Value) -> bool
     depth <= DEPTH_LIMIT
 }
 
-// Returns the list with this value at its end, which has to be within the limits.
-fn pushed(alloc: Global, list: MooList, value: Value) -> Result<MooList, AllocError>
+/// Returns the list with this value at its end, which has to be within the limits. A list that nothing else shares grows
+/// in place. Err is out of memory.
+pub fn pushed(alloc: Global, list: MooList, value: Value) -> Result<MooList, AllocError>
     requires { IsWithinLimits (list_of (list ++ tree value ∷ [])) }
     ensures { IfOk result (λ longer. longer ≡ list ++ tree value ∷ []) }
 {

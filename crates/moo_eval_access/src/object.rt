@@ -3,7 +3,7 @@
 ghost use Rattle.std.specs.Prelude.{◌≡◌, None, IfErr};
 ghost use Rattle.moo_value.specs.View.{tree};
 ghost use Rattle.moo_value.specs.Tree.{object, string};
-ghost use Rattle.moo_eval_access.specs.Calls.{read_raises, read_property, write_property};
+ghost use Rattle.moo_eval_access.specs.Calls.{read_raises, read_property, write_property, IsSetAlike};
 ghost use Rattle.moo_eval_frame.specs.Outcome.{answers};
 ghost use Rattle.moo_eval_frame.specs.Seen.{seen_answer, seen_by, IsKnownFailure, LacksOnlyIn};
 
@@ -117,5 +117,24 @@ pub fn write_written(
     match world.set_written_by(programmer, *o, name, value) {
         Ok(()) => Ok(()),
         Err(fault) => Err(failed(fault)),
+    }
+}
+
+/// Drops the value of a property that is set next, so that a list that nothing else holds is changed in place. Changes
+/// nothing if the programmer may not set the property, if it is built in, or if the object has no cell for it.
+pub fn drop_property(world: &mut World, programmer: i32, base: &Value, name: &Value)
+    ensures { IsSetAlike world.old world.new programmer (tree base.now) (tree name.now) }
+{
+    if let (Value::Obj(o), Value::Str(name)) = (base, name) {
+        let _dropped = world.try_drop(programmer, *o, name.as_bytes());
+    }
+}
+
+/// Drops the value of a property whose name is a literal, as `drop_property` does.
+pub fn drop_written(world: &mut World, programmer: i32, base: &Value, name: &Text)
+    ensures { IsSetAlike world.old world.new programmer (tree base.now) (string name.now) }
+{
+    if let Value::Obj(o) = base {
+        let _dropped = world.try_drop_written(programmer, *o, name);
     }
 }

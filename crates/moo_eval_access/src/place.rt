@@ -1,16 +1,19 @@
-//! Places of lists and strings that are set in the variable that holds them, as by `l[i] = x;`.
+//! Places of lists and strings that are set in the variable or the property that holds them, as by `l[i] = x;`.
 ghost use Rattle.std.specs.Prelude.{◌≡◌, Ok, Err, IfErr, OnOk};
-ghost use Rattle.moo_value.specs.Tree.{Tree};
+ghost use Rattle.moo_value.specs.Tree.{Tree, string};
 ghost use Rattle.moo_value.specs.View.{tree};
 ghost use Rattle.moo_builtin_operator.specs.Assignment.{with_index_of};
 ghost use Rattle.moo_eval_frame.specs.Outcome.{answers};
 ghost use Rattle.moo_eval_frame.specs.Variables.{bind, with_variable};
-ghost use Rattle.moo_eval_frame.specs.Seen.{variables_of, failure_of, HadMemoryIn};
+ghost use Rattle.moo_eval_frame.specs.Seen.{variables_of, failure_of, seen_by, HadMemoryIn, IsKnownFailure};
+ghost use Rattle.moo_eval_access.specs.Calls.{write_result};
 
+use crate::object::{drop_written, write_written};
 use moo_builtin_operator::{index_refusal, with_index};
 use moo_eval_frame::{Failure, Variables};
-use moo_syntax_ast::Name;
+use moo_syntax_ast::{Name, Text};
 use moo_value::Value;
+use moo_world::World;
 use std::alloc::Global;
 
 /// Sets a variable to the container with the value at the place. Raises the errors of `with_index`; the variable then
@@ -49,4 +52,28 @@ fn replace_at(
     let whole = with_index(alloc, container, place, value)?;
     variables.set(name, whole)?;
     Ok(())
+}
+
+/// Sets a property whose name is a literal to the container with the value at the place, with the rights of a programmer.
+/// Raises the errors of `with_index`, then those of `write_property`; the property then keeps its value. The property
+/// gives up what it holds first, so a list that nothing else shares is changed in place.
+pub fn set_property_at(
+    alloc: Global,
+    world: &mut World,
+    programmer: i32,
+    base: &Value,
+    name: &Text,
+    container: Value,
+    place: &Value,
+    value: Value,
+) -> Result<(), Failure>
+    ensures world { IsKnownFailure result → answers (write_result world.old programmer (tree base.now) (string name.now) (with_index_of (tree container) (tree place.now) (tree value))) ≡ seen_by (λ _. world.new) result }
+    ensures kept { IfErr result (λ failure. HadMemoryIn failure → world.new ≡ world.old) }
+{
+    if let Some(code) = index_refusal(&container, place, &value) {
+        return Err(Failure::Fails(code));
+    }
+    drop_written(world, programmer, base, name);
+    let whole = with_index(alloc, container, place, value)?;
+    write_written(world, programmer, base, name, whole)
 }

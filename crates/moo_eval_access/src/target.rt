@@ -1,6 +1,6 @@
 //! Targets of assignments: 'Replacing an Element of a List or String' and 'Replacing a Subsequence of a List or String'
 //! of the LambdaMOO Programmer's Manual, 'Assignment' of docs/reference/language.md.
-ghost use Rattle.std.specs.Prelude.{◌≡◌, ◌∷◌, [], Ok, Err, map, IfOk, IfErr, IfSome, IfNone, OnOk};
+ghost use Rattle.std.specs.Prelude.{◌≡◌, ◌∷◌, [], Ok, Err, map, is_ok, IsTrue, IfOk, IfErr, IfSome, IfNone, OnOk};
 ghost use Rattle.moo_value.specs.Tree.{Tree};
 ghost use Rattle.moo_value.specs.View.{tree};
 ghost use Rattle.moo_syntax_lower.specs.Source.{source};
@@ -178,6 +178,19 @@ pub fn rebuilt(alloc: Global, steps: Vec<Step>, value: Value) -> Result<Value, F
         whole = step.with(alloc, whole)?;
     }
     Ok(whole)
+}
+
+/// Is true if `rebuilt` raises nothing for the value at the end of one step to an element. False for other steps.
+pub fn takes_value(steps: &[Step], value: &Value) -> bool
+    ensures { IsTrue result → IsTrue (is_ok (rebuilt (steps_of steps.now) (Ok (tree value.now)))) }
+{
+    let [step] = steps else {
+        return false;
+    };
+    let Places::Element(place) = &step.places else {
+        return false;
+    };
+    operation::index_refusal(&step.container, place, value).is_none()
 }
 
 /// Appends a step into a container.

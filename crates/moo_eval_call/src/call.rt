@@ -31,8 +31,8 @@ use std::alloc::{AllocError, Global};
 /// ticks are left, or its connections, one that leaves a notice, or a plain one. A wrong number of arguments raises
 /// E_ARGS, then one of a wrong type E_TYPE, then an object that isn't valid E_INVARG. The function's own tests
 /// follow, and the programmer's right comes last. An unknown function, and one that calls verbs, raises E_INVARG. If
-/// there are more arguments than the function takes, lists that were spliced in are not copied. The memory of the
-/// arguments comes into `room`, which is for the next call.
+/// there are more arguments than the function takes, lists that were spliced in are not copied. For a function
+/// that depends on its arguments alone, their memory comes into `room`, for the next call.
 pub fn call_function(
     alloc: Global,
     world: &mut World,

@@ -1,5 +1,5 @@
 //! The built-in functions that call verbs, and `eval`, which runs a program. Each runs in stages: the work between
-//! two verbs, and the verb that comes next. An internal crate of `moo_eval`.
+//! two verbs, and the verb that comes next. Also changes of lists by built-in functions. An internal crate of `moo_eval`.
 #![tactic(auto)]
 
 mod arguments;
@@ -30,5 +30,5 @@ pub use evaluating::typed_frame;
 pub use progress::{Progress, Stage};
 pub use stages::resume_call;
 pub use ticks::{MOST_TICKS, Ticks};
-pub use update::{makes_list, set_list};
+pub use update::{has_list, list_made, set_list};
 pub use verb_call::{start_call, verb_caller};

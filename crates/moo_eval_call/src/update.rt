@@ -1,7 +1,6 @@
 //! Changes of the list in a variable by a built-in function, as by `l = listappend(l, x);`.
 ghost use Rattle.std.specs.Prelude.{◌≡◌, [], ◌∷◌, Some, IsTrue, IfOk, OnOk};
 ghost use Rattle.moo_value.specs.Tree.{Tree, list_of};
-ghost use Rattle.moo_value.specs.Size.{IsWithinLimits};
 ghost use Rattle.moo_value.specs.View.{tree, trees};
 ghost use Rattle.moo_builtin_operator.specs.declared.fault.OperationFault.TheVariants.{Memory};
 ghost use Rattle.moo_eval_frame.specs.Variables.{bind, with_variable};
@@ -14,10 +13,10 @@ use moo_eval_access::has_room_for;
 use moo_eval_frame::Variables;
 use moo_syntax_ast::Name;
 use moo_syntax_function::Function;
-use moo_value::{DEPTH_LIMIT, MooList, Value, WEIGHT_LIMIT};
+use moo_value::{MooList, Value, WEIGHT_LIMIT};
 use std::alloc::{AllocError, Global};
 
-/// Sets a variable to the list that a function makes of these arguments, of which `makes_list` holds. The variable gives
+/// Sets a variable to the list that a function makes of these arguments, of which `has_list` holds. The variable gives
 /// up what it holds first, so a list that nothing else shares is changed in place. Err is out of memory.
 pub fn set_list(
     alloc: Global,
@@ -30,13 +29,14 @@ pub fn set_list(
     ensures { OnOk result ((w : Tree) × MakesList function (trees args.old) w × (variables_of variables.new ≡ with_variable (variables_of variables.old) (bind name.now w))) }
 {
     variables.set(name, Value::Int(0))?;
-    let list = made(alloc, function, args)?;
+    let list = list_made(alloc, function, args)?;
     variables.set(name, list)?;
     Ok(())
 }
 
-// Returns the list that a function makes of these arguments. Err is out of memory.
-fn made(alloc: Global, function: Function, args: &mut [Value]) -> Result<Value, AllocError>
+/// Returns the list that a function makes of these arguments, of which `has_list` holds. A first argument that nothing
+/// else shares is changed in place. Err is out of memory.
+pub fn list_made(alloc: Global, function: Function, args: &mut [Value]) -> Result<Value, AllocError>
     requires { HasList function (trees args.old) }
     ensures { IfOk result (λ v. MakesList function (trees args.old) (tree v)) }
 {
@@ -59,25 +59,27 @@ fn out_of_memory(fault: OperationFault) -> AllocError
     }
 }
 
-/// Returns whether a function makes a list of its first argument, with an element more or less, and raises no error.
-pub fn makes_list(function: Function, args: &[Value]) -> bool
+/// Is true if a function makes a list of its first argument, with an element more or less, and raises no error. False for
+/// functions that have other arguments.
+pub fn has_list(function: Function, args: &[Value]) -> bool
     ensures { IsTrue result → HasList function (trees args.now) }
 {
     match args {
-        [Value::List(list), value] => makes_list_of(function, list, value),
+        [Value::List(list), value] => has_list_of(function, list, value),
         _ => false,
     }
 }
 
-fn makes_list_of(function: Function, list: &MooList, value: &Value) -> bool
+fn has_list_of(function: Function, list: &MooList, value: &Value) -> bool
     ensures { IsTrue result → HasList function (list_of list.now ∷ tree value.now ∷ []) }
 {
+    prove!(list.weight() <= WEIGHT_LIMIT);
     match function {
         Function::ListAppend => has_room_for(list, value),
         Function::ListInsert => has_room_for(list, value),
         Function::SetAdd => has_room_for(list, value),
-        Function::ListDelete => has_place(list, value) && is_within_limits(list),
-        Function::SetRemove => is_within_limits(list),
+        Function::ListDelete => has_place(list, value),
+        Function::SetRemove => true,
         _ => false,
     }
 }
@@ -90,11 +92,4 @@ fn has_place(list: &MooList, value: &Value) -> bool
         Value::Int(place) => before_place(*place, list.len()).is_some(),
         _ => false,
     }
-}
-
-// Is always true, and says why.
-fn is_within_limits(list: &MooList) -> bool
-    ensures { IsTrue result → IsWithinLimits (list_of list.now) }
-{
-    list.weight() <= WEIGHT_LIMIT && list.depth() <= DEPTH_LIMIT
 }

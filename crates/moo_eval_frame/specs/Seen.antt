@@ -80,12 +80,12 @@ abbrev pub trace_of : CallStack → Activation → List TraceEntry
 trace_of stack active = entries stack.running active.programmer stack.callers
 
 abbrev pub raise_of : code_raise.Raise → Raise
-raise_of raise = let account = raise.account.value in record { code = raise.code; message = account.message; value = tree account.value; trace = account.trace.items }
+raise_of raise = let account = raise.account.value in record { code = account.code; message = account.message; value = tree account.value; trace = account.trace.items }
 
 -- Lack of memory has no meaning: `IsKnown` is false of it, so its value here is never read.
 abbrev pub stop_of : code_stop.Stop → Stop
 stop_of (stop_case.Raised raise) = raised (raise_of raise)
-stop_of (stop_case.OutOfTicks trace) = out_of_ticks trace.items
+stop_of (stop_case.OutOfTicks trace) = out_of_ticks trace.value.items
 stop_of stop_case.Memory = out_of_ticks []
 
 abbrev pub failure_of : code_failure.Failure → Failure

@@ -41,7 +41,9 @@ pub fn caught(
     ensures { result ≡ caught (source_codes codes.now) (trees values.now) (seen_value outcome.now) }
 {
     match outcome {
-        Err(Stop::Raised(raise)) if is_caught(codes, values, raise.code) => Some(raise.code),
+        Err(Stop::Raised(raise)) if is_caught(codes, values, raise.account.code) => {
+            Some(raise.account.code)
+        }
         _ => None,
     }
 }

@@ -145,12 +145,11 @@ fn above<'a>(callers: &Callers, trace: &'a [TraceEntry]) -> &'a [TraceEntry]
 fn told(alloc: Global, callers: &Callers, raise: Raise) -> Result<Value, Failure>
     ensures { IsKnownFailure result → answers (told callers.now (raise_of raise)) ≡ seen_answer result }
 {
-    let Raise { code, account } = raise;
-    let account = Box::into_inner(account);
+    let account = Box::into_inner(raise.account);
     let frames = frame_lists(alloc, above(callers, &account.trace))?;
     let frames = operation::list(alloc, frames)?;
     let mut values = Vec::new(alloc);
-    push(&mut values, Value::Err(code))?;
+    push(&mut values, Value::Err(account.code))?;
     push(&mut values, Value::Str(account.message))?;
     push(&mut values, account.value)?;
     push(&mut values, frames)?;

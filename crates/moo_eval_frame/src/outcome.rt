@@ -1,7 +1,7 @@
 //! How evaluation may end.
 ghost use Rattle.std.specs.Prelude.{◌≡◌, true, IfOk, IfErr, IsErrAnd};
 ghost use Rattle.moo_value.specs.View.{tree};
-ghost use Rattle.moo_eval_frame.specs.Outcome.{settled, plain_raise, raised_by};
+ghost use Rattle.moo_eval_frame.specs.Outcome.{settled, plain_raise, raised_by, out_of_ticks};
 ghost use Rattle.moo_eval_frame.specs.Seen.{raise_of, trace_of, stop_of, failure_of, seen_value, seen_answer, IsKnown, IsKnownFailure, HadMemory, HadMemoryIn, LacksOnlyWhere, MayLack};
 
 use crate::frame::{Activation, CallStack, TraceEntry};
@@ -9,16 +9,16 @@ use moo_builtin_operator::OperationFault;
 use moo_value::{ErrorCode, ListLimit, MooStr, Value};
 use std::alloc::{AllocError, Global};
 
-/// An error that was raised. Its details are on the heap, so that an outcome is small.
+/// An error that was raised. It is on the heap, so that an outcome is small.
 #[derive(Drop)]
 pub struct Raise {
-    pub code: ErrorCode,
     pub account: Box<Account>,
 }
 
-/// The details of an error that was raised, with the entries from where it was raised.
+/// The code and the details of an error that was raised, with the entries from where it was raised.
 #[derive(Drop)]
 pub struct Account {
+    pub code: ErrorCode,
     pub message: MooStr,
     pub value: Value,
     pub trace: Vec<TraceEntry>,
@@ -36,12 +36,13 @@ impl Raise {
         ensures { IfOk result (λ raise. raise_of raise ≡ record { code = code; message = message; value = tree value; trace = trace.items }) }
     {
         let account = Account {
+            code,
             message,
             value,
             trace,
         };
         match Box::new(alloc, account) {
-            Ok(account) => Ok(Raise { code, account }),
+            Ok(account) => Ok(Raise { account }),
             Err(_) => Err(AllocError),
         }
     }
@@ -51,10 +52,22 @@ impl Raise {
 #[derive(Drop)]
 pub enum Stop {
     Raised(Raise),
-    /// No tick was left: the entries from where it was needed. No handler and no cleanup runs.
-    OutOfTicks(Vec<TraceEntry>),
+    /// No tick was left: the entries from where it was needed, on the heap. No handler and no cleanup runs.
+    OutOfTicks(Box<Vec<TraceEntry>>),
     /// Memory ran out.
     Memory,
+}
+
+impl Stop {
+    /// Returns the end of a task that has no tick left, with these entries.
+    pub fn out_of_ticks(alloc: Global, trace: Vec<TraceEntry>) -> Stop
+        ensures { HadMemory result → stop_of result ≡ out_of_ticks trace.items }
+    {
+        match Box::new(alloc, trace) {
+            Ok(trace) => Stop::OutOfTicks(trace),
+            Err(_) => Stop::Memory,
+        }
+    }
 }
 
 /// Where execution continues after a statement.

@@ -116,12 +116,12 @@ impl Slots {
 
     /// Adds to the integer in a slot, and returns whether it holds one.
     #[inline(always)]
-    pub(crate) fn add_integer(&mut self, slot: usize, number: i32) -> bool
+    pub(crate) fn try_add_integer(&mut self, slot: usize, number: i32) -> bool
         requires { IsSlot self.old slot }
         ensures added { IsTrue result → (i : ℤ) × (get_or self.old.values slot None ≡ Some (Int i)) × (self.new ≡ with_held self.old slot (Int (int_wrap w32 (i +ℤ number)))) }
         ensures kept { IsFalse result → self.new ≡ self.old }
     {
-        add_integer(&mut self.values, slot, number)
+        try_add_integer(&mut self.values, slot, number)
     }
 
     /// Replaces an integer in the list in a slot by another if nothing else shares the list, and returns whether it did.
@@ -146,7 +146,7 @@ fn put_integer(values: &mut Vec<Option<Value>>, slot: usize, number: i32)
 
 // Adds to the integer in a slot, and returns whether it holds one.
 #[inline(always)]
-fn add_integer(values: &mut Vec<Option<Value>>, slot: usize, number: i32) -> bool
+fn try_add_integer(values: &mut Vec<Option<Value>>, slot: usize, number: i32) -> bool
     requires { slot < length values.old.items }
     ensures added { IsTrue result → (i : ℤ) × (get_or values.old.items slot None ≡ Some (Int i)) × (values.new.items ≡ set values.old.items slot (Some (Int (int_wrap w32 (i +ℤ number))))) }
     ensures kept { IsFalse result → values.new.items ≡ values.old.items }

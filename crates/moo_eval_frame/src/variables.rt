@@ -96,7 +96,7 @@ impl Variables {
     /// Sets a variable to an integer, in place if it holds one, and returns true. False if the variable's slot isn't known;
     /// then nothing has changed.
     #[inline(always)]
-    pub fn put_integer(&mut self, name: &Name, number: i32) -> bool
+    pub fn try_put_integer(&mut self, name: &Name, number: i32) -> bool
         ensures put { IsTrue result → variables_of self.new ≡ with_variable (variables_of self.old) (bind name.now (integer number)) }
         ensures kept { IsFalse result → variables_of self.new ≡ variables_of self.old }
     {
@@ -111,12 +111,12 @@ impl Variables {
 
     /// Adds to the integer in a variable, and returns whether it holds one. It doesn't if the variable's slot isn't known.
     #[inline(always)]
-    pub fn add_integer(&mut self, name: &Name, number: i32) -> bool
+    pub fn try_add_integer(&mut self, name: &Name, number: i32) -> bool
         ensures added { IsTrue result → (i : ℤ) × (variables_of self.old (folded name.now) ≡ Some (integer i)) × (variables_of self.new ≡ with_variable (variables_of self.old) (bind name.now (integer (int_wrap w32 (i +ℤ number))))) }
         ensures kept { IsFalse result → variables_of self.new ≡ variables_of self.old }
     {
         match self.own.known_slot(name) {
-            Some(slot) => self.own.add_integer(slot, number),
+            Some(slot) => self.own.try_add_integer(slot, number),
             None => false,
         }
     }

@@ -107,7 +107,7 @@ pub(crate) fn integer_at(list: &MooList, place: i32) -> Option<i32>
 /// Sets `name[place]` to a value and returns true, and takes the ticks of place and value from `left`. The variable has
 /// to hold a list that nothing else shares, with an integer at the place; place and value have to be computed from
 /// integers alone. Else the variables stay, but `left` may have fallen.
-pub fn put_integer(
+pub fn try_put_integer(
     active: &mut Activation,
     left: &mut u32,
     name: &Name,

@@ -45,14 +45,14 @@ pub fn arithmetic_integer(
 /// variable has to hold an integer, and the node has to be computed from integers alone. Else the variables stay, but
 /// `left` may have fallen.
 #[inline(always)]
-pub fn add_integer(active: &mut Activation, left: &mut u32, name: &Name, node: &Node) -> bool
+pub fn try_add_integer(active: &mut Activation, left: &mut u32, name: &Name, node: &Node) -> bool
     ensures added { IsTrue result → (n : ℤ) × GivesInteger (variables_of active.old.variables) left.old (binary Add (variable name.now) (source node.now)) n left.new × (variables_of active.new.variables ≡ with_variable (variables_of active.old.variables) (bind name.now (integer n))) }
     ensures kept { IsFalse result → variables_of active.new.variables ≡ variables_of active.old.variables }
     ensures programmer { active.new.programmer ≡ active.old.programmer }
     ensures ticks { left.new ≤ left.old }
 {
     match addend(active, left, node) {
-        Some(number) => active.variables.add_integer(name, number),
+        Some(number) => active.variables.try_add_integer(name, number),
         None => false,
     }
 }
@@ -61,14 +61,14 @@ pub fn add_integer(active: &mut Activation, left: &mut u32, name: &Name, node: &
 /// has to be computed from integers alone, and the variable's slot has to be known. Else the variables stay, but `left`
 /// may have fallen.
 #[inline(always)]
-pub fn set_arithmetic(active: &mut Activation, left: &mut u32, name: &Name, node: &Node) -> bool
+pub fn try_set_arithmetic(active: &mut Activation, left: &mut u32, name: &Name, node: &Node) -> bool
     ensures set { IsTrue result → (n : ℤ) × GivesInteger (variables_of active.old.variables) left.old (source node.now) n left.new × (variables_of active.new.variables ≡ with_variable (variables_of active.old.variables) (bind name.now (integer n))) }
     ensures kept { IsFalse result → variables_of active.new.variables ≡ variables_of active.old.variables }
     ensures programmer { active.new.programmer ≡ active.old.programmer }
     ensures ticks { left.new ≤ left.old }
 {
     match operator_integer(active, left, node) {
-        Some(number) => active.variables.put_integer(name, number),
+        Some(number) => active.variables.try_put_integer(name, number),
         None => false,
     }
 }

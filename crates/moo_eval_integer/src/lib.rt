@@ -8,7 +8,7 @@ mod length;
 mod letters;
 mod ticks;
 
-pub use element::{element_of, put_integer};
-pub use integer::{add_integer, arithmetic_integer, counts_as_true, set_arithmetic};
+pub use element::{element_of, try_put_integer};
+pub use integer::{arithmetic_integer, counts_as_true, try_add_integer, try_set_arithmetic};
 pub use length::call_integer;
 pub use letters::Letters;

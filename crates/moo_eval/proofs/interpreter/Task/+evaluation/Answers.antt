@@ -443,13 +443,9 @@ pub find-returns-in-None-clause-meaning : goal.find-returns-in-None-clause-meani
 find-returns-in-None-clause-meaning t c =
     λ k. finds (rw c.in-None.ensures.none no_more) c.root_alone.ensures
 
-pub store-returns-in_ok-whole-in-Property-clause-meaning : goal.store-returns-in_ok-whole-in-Property-clause-meaning
-store-returns-in_ok-whole-in-Property-clause-meaning t c =
-    λ k. rw c.in-Property.is (stores (rw c.in_ok-value.ensures.value at (c.in_ok-whole-in-Property.ensures tt)) (let f : SFits w32 c.args.active.now.programmer = search rules in property_put _ (rw (to_z-of_z w32 c.args.active.now.programmer f) at c.write_property.ensures.world) c.write_property.ensures.kept))
-
-pub store-returns-in_err-whole-in-Property-clause-meaning : goal.store-returns-in_err-whole-in-Property-clause-meaning
-store-returns-in_err-whole-in-Property-clause-meaning t c =
-    let p = err_from_is_err_and c.from_residual-in_err-whole-in-Property.result c.from_residual-in_err-whole-in-Property.ensures.1 in rw (p.1, p.2) (λ k. no_store (rw c.in_ok-value.ensures.value at (c.in_err-whole-in-Property.ensures k)))
+pub store-returns-in-Property-clause-meaning : goal.store-returns-in-Property-clause-meaning
+store-returns-in-Property-clause-meaning t c =
+    λ k. rw c.in-Property.is (rw c.in_ok-value.ensures.value at (c.store_property.ensures (context_of c.args.stack.now c.args.indexed) k))
 
 pub store-returns-in_ok-whole-in-Scatter-clause-meaning : goal.store-returns-in_ok-whole-in-Scatter-clause-meaning
 store-returns-in_ok-whole-in-Scatter-clause-meaning t c =
@@ -784,8 +780,8 @@ pub put_updated-returns-in_err-values-clause-err : goal.put_updated-returns-in_e
 put_updated-returns-in_err-values-clause-err t c =
     let p = err_from_is_err_and c.from_residual.result c.from_residual.ensures.1 in rw (p.1, p.2) (λ k. operands_end (c.in_err-values.ensures.meaning k))
 
-pub put_updated-returns-then-makes_list-clause-ok : goal.put_updated-returns-then-makes_list-clause-ok
-put_updated-returns-then-makes_list-clause-ok t c =
+pub put_updated-returns-then-has_list-clause-ok : goal.put_updated-returns-then-has_list-clause-ok
+put_updated-returns-then-has_list-clause-ok t c =
     let h = c.in_ok-set_list.ensures in
     updated (c.in_ok-values.ensures.meaning tt) (ap trees c.deref_mut.ensures.value ∙ c.in_ok-args.ensures) (sym c.function.ensures ∙ c.in-Some.is) h.1 (same_state (sym h.2) refl)
 

@@ -12,8 +12,8 @@ returns-clause-assigned c = λ t w k.
     let fits : SFits w32 c.left.result = search rules in
     let ticks = ticks_seen c.left.result c.args.self.now.ticks_left fits c.left.ensures in
     let z : 0 < c.args.self.now.ticks_left = omega (arith, ticks, c.if-left-eq0.false) in
-    let p = rw ticks at (c.set_arithmetic.ensures.set c.if-not-set_arithmetic.false) in
-    rw c.leave.ensures (integer_set k (state_of c.args.self.now w c.args.active.now) (sym c.set_arithmetic.ensures.programmer) z p.1 p.2)
+    let p = rw ticks at (c.try_set_arithmetic.ensures.set c.if-not-try_set_arithmetic.false) in
+    rw c.leave.ensures (integer_set k (state_of c.args.self.now w c.args.active.now) (sym c.try_set_arithmetic.ensures.programmer) z p.1 p.2)
 
-pub returns-then-not-set_arithmetic-clause-kept : goal.returns-then-not-set_arithmetic-clause-kept
-returns-then-not-set_arithmetic-clause-kept c = λ f w. same_state (c.set_arithmetic.ensures.kept c.if-not-set_arithmetic.true) c.set_arithmetic.ensures.programmer
+pub returns-then-not-try_set_arithmetic-clause-kept : goal.returns-then-not-try_set_arithmetic-clause-kept
+returns-then-not-try_set_arithmetic-clause-kept c = λ f w. same_state (c.try_set_arithmetic.ensures.kept c.if-not-try_set_arithmetic.true) c.try_set_arithmetic.ensures.programmer

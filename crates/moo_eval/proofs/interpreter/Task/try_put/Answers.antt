@@ -12,8 +12,8 @@ returns-clause-put c = λ t w k.
     let fits : SFits w32 c.left.result = search rules in
     let ticks = ticks_seen c.left.result c.args.self.now.ticks_left fits c.left.ensures in
     let z : 0 < c.args.self.now.ticks_left = omega (arith, ticks, c.if-left-eq0.false) in
-    let puts = rw ticks at (c.put_integer.ensures.put c.if-not-put_integer.false) in
-    rw c.leave.ensures (put_alone z (integer_put k (state_of c.args.self.now w c.args.active.now) (sym c.put_integer.ensures.programmer) puts))
+    let puts = rw ticks at (c.try_put_integer.ensures.put c.if-not-try_put_integer.false) in
+    rw c.leave.ensures (put_alone z (integer_put k (state_of c.args.self.now w c.args.active.now) (sym c.try_put_integer.ensures.programmer) puts))
 
-pub returns-then-not-put_integer-clause-kept : goal.returns-then-not-put_integer-clause-kept
-returns-then-not-put_integer-clause-kept c = λ f w. same_state (c.put_integer.ensures.kept c.if-not-put_integer.true) c.put_integer.ensures.programmer
+pub returns-then-not-try_put_integer-clause-kept : goal.returns-then-not-try_put_integer-clause-kept
+returns-then-not-try_put_integer-clause-kept c = λ f w. same_state (c.try_put_integer.ensures.kept c.if-not-try_put_integer.true) c.try_put_integer.ensures.programmer

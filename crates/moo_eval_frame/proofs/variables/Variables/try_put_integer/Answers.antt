@@ -7,7 +7,7 @@ use Rattle.moo_eval_frame.specs.GivenValues.{given_values}
 use Rattle.moo_eval_frame.specs.Seen.{value_among, slot_value, own_variables, variables_of}
 use Rattle.moo_eval_frame.proofs.GivenNames.{other_set}
 use Rattle.moo_eval_frame.proofs.Stored.{set_slot}
-use Rattle.moo_eval_frame.proofs.variables.Variables.put_integer.Goals as goal
+use Rattle.moo_eval_frame.proofs.variables.Variables.try_put_integer.Goals as goal
 
 pub returns-in-Some-clause-put : goal.returns-in-Some-clause-put
 unfolding variables_of

@@ -3,7 +3,7 @@ use Rattle.std.proofs.lemmas.Int.{to_z-of_z}
 use mir.Val.{SFits}
 use Rattle.moo_value.specs.Tree.{integer, list_of}
 use Rattle.moo_eval_integer.proofs.Given.{list_takes}
-use Rattle.moo_eval_integer.proofs.element.put_integer.Goals as goal
+use Rattle.moo_eval_integer.proofs.element.try_put_integer.Goals as goal
 
 pub returns-clause-put : goal.returns-clause-put
 returns-clause-put c = λ t.

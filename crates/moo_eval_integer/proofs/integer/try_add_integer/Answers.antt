@@ -8,14 +8,14 @@ use Rattle.moo_value.specs.Tree.{integer}
 use Rattle.moo_eval_frame.specs.Seen.{variables_of}
 use Rattle.moo_eval_integer.specs.Integers.{GivesInteger}
 use Rattle.moo_eval_integer.proofs.Given.{operator_gives, variable_gives}
-use Rattle.moo_eval_integer.proofs.integer.add_integer.Goals as goal
+use Rattle.moo_eval_integer.proofs.integer.try_add_integer.Goals as goal
 
 pub returns-in-Some-clause-added : goal.returns-in-Some-clause-added
 returns-in-Some-clause-added c = λ t.
     let variables = variables_of c.args.active.now.variables in
     let left = c.args.left.now in
     let number : SFits w32 c.in-Some.number = search rules in
-    let p = simp (to_z-of_z w32 c.in-Some.number number) at (c.add_integer.ensures.added t) in
+    let p = simp (to_z-of_z w32 c.in-Some.number number) at (c.try_add_integer.ensures.added t) in
     let b = c.in-Some.ensures.value in
     let first : (0 < left) × (left - 1 ≡ left - 1) = (omega (arith, b.1), refl) in
     let second : (0 < left - 1) × (b.0 ≡ left - 1 - 1) = (omega (arith, b.1), omega (arith, b.1, b.2)) in

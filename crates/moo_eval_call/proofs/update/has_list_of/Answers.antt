@@ -1,6 +1,6 @@
 use Rattle.moo_value.specs.View.{tree}
 use Rattle.moo_eval_call.proofs.Updates.{append_has, insert_has, add_has, delete_has, remove_has}
-use Rattle.moo_eval_call.proofs.update.makes_list_of.Goals as goal
+use Rattle.moo_eval_call.proofs.update.has_list_of.Goals as goal
 
 pub returns-in-ListAppend : goal.returns-in-ListAppend
 returns-in-ListAppend c = λ h. rw c.in-ListAppend.is (append_has c.args.list.now (tree c.args.value.now) (c.has_room_for.ensures.last.0 h))
@@ -11,8 +11,8 @@ returns-in-ListInsert c = λ h. rw c.in-ListInsert.is (insert_has c.args.list.no
 pub returns-in-SetAdd : goal.returns-in-SetAdd
 returns-in-SetAdd c = λ h. rw c.in-SetAdd.is (add_has c.args.list.now (tree c.args.value.now) (c.has_room_for-in-SetAdd.ensures.last.0 h))
 
-pub returns-then-has_place : goal.returns-then-has_place
-returns-then-has_place c = λ h. rw c.in-ListDelete.is (delete_has c.args.list.now (tree c.args.value.now) (c.has_place.ensures c.if-has_place.true) (c.is_within_limits.ensures h))
+pub returns-in-ListDelete : goal.returns-in-ListDelete
+returns-in-ListDelete c = λ h. rw c.in-ListDelete.is (delete_has c.args.list.now (tree c.args.value.now) (c.has_place.ensures h) c.weight.ensures.limits)
 
 pub returns-in-SetRemove : goal.returns-in-SetRemove
-returns-in-SetRemove c = λ h. rw c.in-SetRemove.is (remove_has c.args.list.now (tree c.args.value.now) (c.is_within_limits-in-SetRemove.ensures h))
+returns-in-SetRemove c = λ h. rw c.in-SetRemove.is (remove_has c.args.list.now (tree c.args.value.now) c.weight.ensures.limits)

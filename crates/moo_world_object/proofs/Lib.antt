@@ -5,6 +5,7 @@ mod Fitting
 mod Patterns
 mod Letters
 mod VerbNumbers
+mod Filter
 mod Index
 mod Alone
 mod Verbs

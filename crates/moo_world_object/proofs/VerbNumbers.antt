@@ -1,5 +1,5 @@
 -- Numbers of the verbs that have one name alone.
-use Rattle.std.proofs.Common.{◌≡◌, ◌⊎◌, ℕ, zero, suc, ◌<◌, subst, List, [], ◌∷◌, ◌++◌, sym, ◌∙◌, inl, inr, arith, length, get_or}
+use Rattle.std.proofs.Common.{◌≡◌, ◌⊎◌, ℕ, zero, suc, ◌<◌, ◌≤◌, subst, List, [], ◌∷◌, ◌++◌, sym, ◌∙◌, inl, inr, arith, length, get_or}
 use Rattle.std.specs.List.{remove}
 use Rattle.moo_world_object.specs.Letters.{IsNumberOf, AreNumbers}
 use Rattle.moo_world_object.specs.Verbs.{changed_at}
@@ -53,6 +53,12 @@ same_numbers i f [] verbs keeps all = tt
 same_numbers i f (n ∷ numbers) [] keeps all = absurd all
 same_numbers zero f (n ∷ numbers) (w ∷ verbs) keeps all = (subst (λ names. IsNumberOf n names) (sym (keeps w)) all.0, all.1)
 same_numbers (suc i) f (n ∷ numbers) (w ∷ verbs) keeps all = (all.0, same_numbers i f numbers verbs keeps all.1)
+
+-- no more numbers than verbs
+pub fewer_numbers : (numbers : List ℕ) (verbs : List Verb) → AreNumbers numbers verbs → length numbers ≤ length verbs
+fewer_numbers [] verbs all = omega arith
+fewer_numbers (n ∷ numbers) [] all = absurd all
+fewer_numbers (n ∷ numbers) (w ∷ verbs) all = omega (arith, fewer_numbers numbers verbs all.1)
 
 -- the number of a verb
 pub number_there : (numbers : List ℕ) (verbs : List Verb) (i : ℕ) (number : ℕ) (v : Verb) → AreNumbers numbers verbs → i < length numbers → number ≡ get_or numbers i number → v ≡ get_or verbs i v → IsNumberOf number v.names

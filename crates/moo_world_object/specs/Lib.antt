@@ -6,6 +6,7 @@ pub mod BuiltIn
 pub mod Patterns
 pub mod Verbs
 pub mod Letters
+pub mod Filter
 pub mod Index
 pub mod Objects
 pub mod Rows

@@ -8,6 +8,7 @@ mod cell;
 mod flags;
 pub mod laws;
 mod name;
+mod name_filter;
 mod object;
 mod pattern;
 mod row;

@@ -1,10 +1,12 @@
-//! An index of the verbs of an object by the hash of a name.
+//! An index of the verbs of an object by the first letter and the hash of a name.
 ghost use Rattle.std.specs.Prelude.{◌≡◌, ◌<◌, ◌≤◌, ◌++◌, ◌∷◌, ℕ, List, [], false, length, IsTrue, OnOk, IfOk, min, max};
 ghost use Rattle.moo_world_object.specs.Patterns.{base, ends_in_star};
 ghost use Rattle.moo_world_object.specs.declared.verb.Verb.{Verb};
 ghost use Rattle.moo_syntax_ast.specs.NameHash.{class_of, hash_of};
-ghost use Rattle.moo_world_object.specs.Index.{bucket_of, Holds, IsListed, Grows, CoversPattern, Covers, AreIndexed};
+ghost use Rattle.moo_world_object.specs.Index.{bucket_of, Holds, IsInBucket, IsListed, Grows, CoversPattern, Covers, AreIndexed};
+ghost use Rattle.moo_world_object.specs.Filter.{passes};
 
+use crate::name_filter::NameFilter;
 use crate::pattern::{ends_in_star, is_blank, is_star, least_length};
 use crate::verb::Verb;
 use moo_syntax_ast::{class_of, first_letter, hash_of};
@@ -24,42 +26,56 @@ pub(crate) struct Bucket {
     last: u16,
 }
 
-/// An index by the hash of a name. Two buckets hold the verbs with long names or with an open pattern, which is one that
-/// ends in a star: the first is for names of class 0, as those of commands that begin with `@`, and the second for all
-/// others. Each bucket after them is for the names with some hashes. A name matches no verb outside its two buckets. If
-/// there are no buckets, it may match any verb.
+/// An index by the first letter and the hash of a name. A name that doesn't pass the filter matches no verb. Two buckets
+/// hold the verbs with long names or with an open pattern, which is one that ends in a star: the first is for names of
+/// class 0, as those of commands that begin with `@`, and the second for all others. Each bucket after them is for the
+/// names with some hashes. A name matches no verb outside its two buckets. If there are no buckets, a name that passes
+/// may match any verb.
 #[derive(Drop)]
 pub(crate) struct VerbIndex {
     buckets: Vec<Bucket>,
     mask: u16,
+    filter: NameFilter,
 }
 
 impl VerbIndex {
-    /// Makes an index without buckets.
+    /// Makes the index of no verbs.
     pub(crate) fn new(alloc: Global) -> VerbIndex
-        ensures { result.buckets.items ≡ [] }
+        ensures { AreIndexed result [] }
     {
         VerbIndex {
             buckets: Vec::new(alloc),
             mask: 0,
+            filter: NameFilter::empty(),
         }
     }
 
-    /// Makes the index of these verbs. Out of memory it has no buckets.
+    /// Makes the index of these verbs. Out of memory it lists each verb for all names.
     pub(crate) fn from_verbs(alloc: Global, verbs: &[Verb]) -> VerbIndex
-        ensures { AreIndexed result.buckets.items result.mask verbs.now }
+        ensures { AreIndexed result verbs.now }
     {
         match indexed(alloc, verbs) {
             Ok(index) => index,
-            Err(_) => VerbIndex::new(alloc),
+            Err(_) => VerbIndex::full(alloc),
         }
     }
 
-    /// Adds the last of these verbs to the index of the others. Makes the index anew if it has too few buckets, and has no
-    /// buckets after it ran out of memory.
+    // Makes an index that lists each verb for all names.
+    fn full(alloc: Global) -> VerbIndex
+        ensures { (verbs : List Verb) → AreIndexed result verbs }
+    {
+        VerbIndex {
+            buckets: Vec::new(alloc),
+            mask: 0,
+            filter: NameFilter::full(),
+        }
+    }
+
+    /// Adds the last of these verbs to the index of the others. Makes the index anew if it has too few buckets, and lists
+    /// each verb for all names after it ran out of memory.
     pub(crate) fn add_last(&mut self, alloc: Global, verbs: &[Verb])
         requires { 0 < length verbs.now }
-        ensures { (front : List Verb) (v : Verb) → verbs.now ≡ front ++ v ∷ [] → AreIndexed self.old.buckets.items self.old.mask front → AreIndexed self.new.buckets.items self.new.mask verbs.now }
+        ensures { (front : List Verb) (v : Verb) → verbs.now ≡ front ++ v ∷ [] → AreIndexed self.old front → AreIndexed self.new verbs.now }
     {
         if !self.has_room(verbs.len()) {
             *self = VerbIndex::from_verbs(alloc, verbs);
@@ -67,9 +83,9 @@ impl VerbIndex {
         }
         let place = verbs.len() - 1;
         let names = verbs[place].names.as_bytes();
-        match add_names(&mut self.buckets, alloc, self.mask, names, place as u16) {
+        match self.add_names(alloc, names, place as u16) {
             Ok(()) => {}
-            Err(_) => *self = VerbIndex::new(alloc),
+            Err(_) => *self = VerbIndex::full(alloc),
         }
     }
 
@@ -80,10 +96,18 @@ impl VerbIndex {
         !self.buckets.is_empty() && many <= MOST_INDEXED && mask_for(many) == self.mask
     }
 
+    /// Is true if a name with this first letter and this hash may match a verb.
+    #[inline(always)]
+    pub(crate) fn passes(&self, first: u8, hash: usize) -> bool
+        ensures { result ≡ passes self.now.filter.words first hash }
+    {
+        self.filter.passes(first, hash)
+    }
+
     /// Returns the first and the last place at which a name with this hash may match one of `many` verbs.
-    #[inline]
+    #[inline(always)]
     pub(crate) fn range(&self, hash: usize, many: usize) -> (usize, usize)
-        ensures { (i : ℕ) → i < many → IsListed self.now.buckets.items self.now.mask hash i → (result.0 ≤ i) × (i ≤ result.1) }
+        ensures { (i : ℕ) → i < many → IsInBucket self.now hash i → (result.0 ≤ i) × (i ≤ result.1) }
     {
         let own = self.range_at(bucket_of(self.mask, hash), many);
         let open = self.range_at(hash % 2, many);
@@ -93,12 +117,98 @@ impl VerbIndex {
     // Returns the range of a bucket, or that of `many` verbs if there is no such bucket.
     #[inline]
     fn range_at(&self, j: usize, many: usize) -> (usize, usize)
-        ensures { (i : ℕ) → i < many → Holds self.now.buckets.items j i → (result.0 ≤ i) × (i ≤ result.1) }
+        ensures { (i : ℕ) → i < many → Holds self.now j i → (result.0 ≤ i) × (i ≤ result.1) }
     {
         match self.buckets.get(j) {
             Some(bucket) => (usize::from(bucket.first), usize::from(bucket.last)),
             None => (0, many),
         }
+    }
+
+    // Lists a place for all names that a verb with these names has.
+    fn add_names(&mut self, alloc: Global, names: &[u8], place: u16) -> Result<(), AllocError>
+        ensures grows { Grows self.old self.new }
+        ensures covers { OnOk result (Covers self.new names.now place) }
+    {
+        if names.len() > LONGEST_INDEXED {
+            self.add_to_all(place);
+            return Ok(());
+        }
+        for pattern in names.split(|byte| is_blank(*byte)) {
+            self.add_pattern(alloc, pattern, place)?;
+        }
+        Ok(())
+    }
+
+    // Lists a place for all names that a pattern matches.
+    fn add_pattern(&mut self, alloc: Global, pattern: &[u8], place: u16) -> Result<(), AllocError>
+        ensures grows { Grows self.old self.new }
+        ensures covers { OnOk result (CoversPattern self.new pattern.now place) }
+    {
+        if ends_in_star(pattern) {
+            self.add_open(pattern, place);
+            return Ok(());
+        }
+        self.add_prefixes(alloc, pattern, place)?;
+        Ok(())
+    }
+
+    // Lists a place for all names with the first letter of an open pattern, or for all names if it begins with a star.
+    fn add_open(&mut self, pattern: &[u8], place: u16)
+        ensures grows { Grows self.old self.new }
+        ensures covers { CoversPattern self.new pattern.now place }
+    {
+        let first = first_letter(pattern);
+        if is_star(first) {
+            self.add_to_all(place);
+            return;
+        }
+        self.filter.add_letter(first);
+        self.add(class_of(first), place);
+    }
+
+    // Lists a place for all names.
+    fn add_to_all(&mut self, place: u16)
+        ensures grows { Grows self.old self.new }
+        ensures all { (name : List ℕ) → IsListed self.new name place }
+    {
+        self.filter = NameFilter::full();
+        self.add(0, place);
+        self.add(1, place);
+    }
+
+    // Lists a place for the names that match a pattern that doesn't end in a star. Such a name is a prefix of the base.
+    fn add_prefixes(&mut self, alloc: Global, pattern: &[u8], place: u16) -> Result<(), AllocError>
+        ensures grows { Grows self.old self.new }
+        ensures covers { OnOk result (ends_in_star pattern.now ≡ false → CoversPattern self.new pattern.now place) }
+    {
+        let base = base_of(alloc, pattern)?;
+        for end in least_length(pattern)..base.len() + 1 {
+            self.add_name(&base[..end], place);
+        }
+        Ok(())
+    }
+
+    // Lists a place for a name.
+    fn add_name(&mut self, name: &[u8], place: u16)
+        ensures grows { Grows self.old self.new }
+        ensures listed { IsListed self.new name.now place }
+    {
+        let hash = hash_of(name);
+        self.filter.add(first_letter(name), hash);
+        self.add(bucket_of(self.mask, hash), place);
+    }
+
+    // Adds a place to a bucket, if there is one at `j`.
+    fn add(&mut self, j: usize, place: u16)
+        ensures grows { Grows self.old self.new }
+        ensures holds { Holds self.new j place }
+        ensures filter { self.new.filter ≡ self.old.filter }
+    {
+        if j >= self.buckets.len() {
+            return;
+        }
+        self.buckets[j] = widened(self.buckets[j], place);
     }
 }
 
@@ -110,24 +220,37 @@ fn bucket_of(mask: u16, hash: usize) -> usize
     (hash / 2 & usize::from(mask)) * 2 + hash % 2 + 2
 }
 
-// Returns the index of verbs. It has no buckets if there are no verbs or too many.
+// Returns the index of verbs. It lists each verb for all names if there are too many.
 fn indexed(alloc: Global, verbs: &[Verb]) -> Result<VerbIndex, AllocError>
-    ensures { IfOk result (λ index. AreIndexed index.buckets.items index.mask verbs.now) }
+    ensures { IfOk result (λ index. AreIndexed index verbs.now) }
 {
-    if verbs.is_empty() || verbs.len() > MOST_INDEXED {
+    if verbs.is_empty() {
         return Ok(VerbIndex::new(alloc));
     }
-    let mask = mask_for(verbs.len());
+    if verbs.len() > MOST_INDEXED {
+        return Ok(VerbIndex::full(alloc));
+    }
+    let mut index = empty_index(alloc, mask_for(verbs.len()))?;
+    for i in 0..verbs.len() {
+        let names = verbs[i].names.as_bytes();
+        index.add_names(alloc, names, i as u16)?;
+    }
+    Ok(index)
+}
+
+// Returns an index of no verbs, with as many buckets as the mask needs.
+fn empty_index(alloc: Global, mask: u16) -> Result<VerbIndex, AllocError>
+    requires { mask < 4096 }
+{
     let empty = Bucket {
         first: u16::MAX,
         last: 0,
     };
-    let mut buckets = vec![in alloc; empty; usize::from(mask) * 2 + 4]?;
-    for i in 0..verbs.len() {
-        let names = verbs[i].names.as_bytes();
-        add_names(&mut buckets, alloc, mask, names, i as u16)?;
-    }
-    Ok(VerbIndex { buckets, mask })
+    Ok(VerbIndex {
+        buckets: vec![in alloc; empty; usize::from(mask) * 2 + 4]?,
+        mask,
+        filter: NameFilter::empty(),
+    })
 }
 
 // Returns the mask for a number of verbs. Each class has at least four buckets for each verb.
@@ -144,88 +267,6 @@ fn mask_for(many: usize) -> u16
     }
 }
 
-// Adds a place to the buckets of all names that a verb with these names has.
-fn add_names(
-    buckets: &mut [Bucket],
-    alloc: Global,
-    mask: u16,
-    names: &[u8],
-    place: u16,
-) -> Result<(), AllocError>
-    ensures grows { Grows buckets.old buckets.new }
-    ensures covers { OnOk result (Covers buckets.new mask names.now place) }
-{
-    if names.len() > LONGEST_INDEXED {
-        add_to_both(buckets, place);
-        return Ok(());
-    }
-    for pattern in names.split(|byte| is_blank(*byte)) {
-        add_pattern(buckets, alloc, mask, pattern, place)?;
-    }
-    Ok(())
-}
-
-// Adds a place to the buckets of all names that a pattern matches.
-fn add_pattern(
-    buckets: &mut [Bucket],
-    alloc: Global,
-    mask: u16,
-    pattern: &[u8],
-    place: u16,
-) -> Result<(), AllocError>
-    ensures grows { Grows buckets.old buckets.new }
-    ensures covers { OnOk result (CoversPattern buckets.new mask pattern.now place) }
-{
-    if ends_in_star(pattern) {
-        add_open(buckets, pattern, place);
-        return Ok(());
-    }
-    add_prefixes(buckets, alloc, mask, pattern, place)?;
-    Ok(())
-}
-
-// Adds a place to the bucket of open patterns for names of the class of this pattern's first letter, or to both if it
-// begins with a star.
-fn add_open(buckets: &mut [Bucket], pattern: &[u8], place: u16)
-    ensures grows { Grows buckets.old buckets.new }
-    ensures covers { (mask : ℕ) → CoversPattern buckets.new mask pattern.now place }
-{
-    let first = first_letter(pattern);
-    if is_star(first) {
-        add_to_both(buckets, place);
-        return;
-    }
-    add(buckets, class_of(first), place);
-}
-
-// Adds a place to both buckets of open patterns, so that it is listed for all names.
-fn add_to_both(buckets: &mut [Bucket], place: u16)
-    ensures grows { Grows buckets.old buckets.new }
-    ensures all { (mask : ℕ) (hash : ℕ) → IsListed buckets.new mask hash place }
-{
-    add(buckets, 0, place);
-    add(buckets, 1, place);
-}
-
-// Adds a place to the buckets of the names that match a pattern that doesn't end in a star. Such a name is a prefix of
-// the base.
-fn add_prefixes(
-    buckets: &mut [Bucket],
-    alloc: Global,
-    mask: u16,
-    pattern: &[u8],
-    place: u16,
-) -> Result<(), AllocError>
-    ensures grows { Grows buckets.old buckets.new }
-    ensures covers { OnOk result (ends_in_star pattern.now ≡ false → CoversPattern buckets.new mask pattern.now place) }
-{
-    let base = base_of(alloc, pattern)?;
-    for end in least_length(pattern)..base.len() + 1 {
-        add(buckets, bucket_of(mask, hash_of(&base[..end])), place);
-    }
-    Ok(())
-}
-
 // Returns a pattern without its stars.
 fn base_of(alloc: Global, pattern: &[u8]) -> Result<Vec<u8>, AllocError>
     ensures { IfOk result (λ letters. letters.items ≡ base pattern.now) }
@@ -237,17 +278,6 @@ fn base_of(alloc: Global, pattern: &[u8]) -> Result<Vec<u8>, AllocError>
         }
     }
     Ok(letters)
-}
-
-// Adds a place to a bucket, if there is one at `j`.
-fn add(buckets: &mut [Bucket], j: usize, place: u16)
-    ensures grows { Grows buckets.old buckets.new }
-    ensures holds { Holds buckets.new j place }
-{
-    if j >= buckets.len() {
-        return;
-    }
-    buckets[j] = widened(buckets[j], place);
 }
 
 // Returns the bucket with a place added.

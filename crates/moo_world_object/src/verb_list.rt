@@ -1,5 +1,5 @@
 //! The verbs of an object, in order, with a filter by the first letter of names.
-ghost use Rattle.std.specs.Prelude.{◌≡◌, ◌≢◌, ◌<◌, ℕ, false, get_or, OnOk, OnErr, IfOk, [], ◌⊎◌, ◌∷◌, ◌++◌, length, position, slice_index_or};
+ghost use Rattle.std.specs.Prelude.{◌≡◌, ◌≢◌, ◌<◌, ℕ, false, get_or, IsTrue, true, OnOk, OnErr, IfOk, [], ◌⊎◌, ◌∷◌, ◌++◌, length, position, slice_index_or};
 ghost use Rattle.std.specs.List.{list_any, remove, slice_split};
 ghost use Rattle.moo_world_object.specs.Patterns.{is_blank, fits_names};
 ghost use Rattle.moo_world_object.specs.Verbs.{fits_verb, changed_at, with_verb_info, with_args, with_program};
@@ -44,7 +44,7 @@ impl Model for VerbList {
 
     ghost view = { λ l. l.verbs.items };
 
-    ghost invariant = { λ l. AreLetters l.letters.items l.verbs.items × AreNumbers l.numbers.items l.verbs.items × AreIndexed l.index.buckets.items l.index.mask l.verbs.items };
+    ghost invariant = { λ l. AreLetters l.letters.items l.verbs.items × AreNumbers l.numbers.items l.verbs.items × AreIndexed l.index l.verbs.items };
 }
 
 impl VerbList {
@@ -95,11 +95,38 @@ impl VerbList {
     pub fn position_named(&self, need: Need, name: &NameKey<'_>) -> Option<usize>
         ensures { result ≡ position (fits_verb need name.now) self.now }
     {
+        if !self.index.passes(first_letter(name.bytes()), name.hash()) {
+            return None;
+        }
+        self.position_passed(need, name)
+    }
+
+    // Returns the place of the first verb that a name matches, which most often is the first one in its buckets.
+    #[inline(never)]
+    fn position_passed(&self, need: Need, name: &NameKey<'_>) -> Option<usize>
+        ensures { result ≡ position (fits_verb need name.now) self.now }
+    {
         let (first, last) = self.index.range(name.hash(), self.verbs.len());
         if first > last {
             return None;
         }
+        if self.is_known_at(first, need, name) {
+            return Some(first);
+        }
         self.position_between(first, last, need, name)
+    }
+
+    // Is true if there is a verb at a place and its number alone proves that the name matches it.
+    #[inline(always)]
+    fn is_known_at(&self, index: usize, need: Need, name: &NameKey<'_>) -> bool
+        ensures { IsTrue result → (index < length self.now) × ((v : Verb) → v ≡ slice_index_or self.now index v → fits_verb need name.now v ≡ true) }
+    {
+        match self.numbers.get(index) {
+            Some(number) if *number != 0 && *number == name.number() => {
+                self.verbs[index].is_needed(need)
+            }
+            _ => false,
+        }
     }
 
     // Returns the place of the first verb that a name matches, which matches none outside these places.

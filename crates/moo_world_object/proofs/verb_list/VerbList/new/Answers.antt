@@ -1,4 +1,4 @@
-use Rattle.std.proofs.Common.{arith, length, ap}
+use Rattle.std.proofs.Common.{arith}
 use Rattle.moo_world_object.proofs.verb_list.VerbList.new.Goals as goal
 
 pub invariant_of-result : goal.invariant_of-result

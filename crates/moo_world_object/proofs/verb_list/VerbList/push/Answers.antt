@@ -13,3 +13,6 @@ invariant_of-self-2 c =
     let numbers = number_pushed c.self.inside.numbers.items c.push_number.new.numbers.items c.self.inside.verbs.items c.len-many.result c.number_of-number.result c.args.verb c.self.invariant.1 same is c.push_number.ensures in
     let now = c.deref.ensures.value in
     (rw c.in_ok-push.ensures.items letters, rw c.in_ok-push.ensures.items numbers, rw now at (c.add_last.ensures c.self.inside.verbs.items c.args.verb (now ∙ c.in_ok-push.ensures.items) c.self.invariant.2))
+
+pub invariant_of-self : goal.invariant_of-self
+invariant_of-self c = rw c.in_err-push.ensures.items c.self.invariant

@@ -94,10 +94,13 @@ open_covers index i pattern plain passed holds = λ name fit.
 
 -- a place in both buckets of open patterns is listed for all names that pass
 pub both_list : (index : VerbIndex) (i : ℕ) → ((first : ℕ) → PassesLetter index first) → Holds index 0 i → Holds index 1 i → (name : List ℕ) → IsListed index name i
-both_list index i passed zeroth first name = (passed (first_letter name) (hash_of name), elim (cases_Bool (eqb (hash_of name % 2) 0)) [
-  | inl is ↦ inr (subst (λ j. Holds index j i) (sym (eqb-true (hash_of name % 2) 0 is)) zeroth)
-  | inr other ↦ let one : hash_of name % 2 ≡ 1 = omega (arith, eqb-false (hash_of name % 2) 0 other) in inr (subst (λ j. Holds index j i) (sym one) first)
-])
+both_list index i passed zeroth first name = (
+  passed (first_letter name) (hash_of name),
+  elim (cases_Bool (eqb (hash_of name % 2) 0)) [
+    | inl is ↦ inr (subst (λ j. Holds index j i) (sym (eqb-true (hash_of name % 2) 0 is)) zeroth)
+    | inr other ↦ let one : hash_of name % 2 ≡ 1 = omega (arith, eqb-false (hash_of name % 2) 0 other) in inr (subst (λ j. Holds index j i) (sym one) first)
+  ],
+)
 
 in_bucket_later : (index later : VerbIndex) (hash i : ℕ) → Grows index later → IsInBucket index hash i → IsInBucket later hash i
 in_bucket_later index later hash i grows (inl own) = inl (subst (λ m. Holds later (bucket_of m hash) i) (sym grows.0) (grows.2 (bucket_of index.mask hash) i own))

@@ -3,8 +3,8 @@ use Rattle.std.specs.Prelude.{◌≡◌, ◌≢◌, ⊤, ℕ, List, [], ◌∷�
 use Rattle.std.specs.Char.{to_ascii_lowercase}
 use Rattle.moo_syntax_ast.specs.NameHash.{first_letter}
 use Rattle.moo_value.specs.Compare.{folded}
-use Rattle.moo_syntax_ast.specs.NameNumber.{name_number, IsCode}
-use Rattle.moo_world_object.specs.Patterns.{is_star, fits_names}
+use Rattle.moo_syntax_ast.specs.NameNumber.{name_number}
+use Rattle.moo_world_object.specs.Patterns.{is_star, has_mark, fits_names}
 use Rattle.moo_world_object.specs.declared.verb.Verb.{Verb}
 
 -- whether a pattern does not begin with this letter
@@ -26,9 +26,9 @@ AreLetters [] verbs = ⊤
 AreLetters (letter ∷ letters) [] = ⊥
 AreLetters (letter ∷ letters) (v ∷ verbs) = IsLetter letter v.names × AreLetters letters verbs
 
--- the number of the only name of a verb, which is a code, or 0 if none is known
+-- the number of the only name of a verb, or 0 if none is known
 abbrev pub IsNumberOf : ℕ → List ℕ → Type 0
-IsNumberOf number names = number ≢ 0 → (number ≡ name_number (folded names)) × IsCode number
+IsNumberOf number names = number ≢ 0 → (number ≡ name_number (folded names)) × (has_mark names ≡ false)
 
 -- numbers for the first of these verbs
 abbrev pub AreNumbers : List ℕ → List Verb → Type 0

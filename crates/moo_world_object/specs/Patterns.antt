@@ -48,6 +48,13 @@ words names = filter is_word (slice_split is_blank names)
 abbrev pub has_word : List ℕ → Bool
 has_word names = list_any is_word (slice_split is_blank names)
 
+abbrev pub is_mark : ℕ → Bool
+is_mark b = is_blank b || is_star b
+
+-- whether there is a blank or a star among the names of a verb
+abbrev pub has_mark : List ℕ → Bool
+has_mark names = list_any is_mark names
+
 -- whether the name matches one of the words
 abbrev pub fits_names : List ℕ → List ℕ → Bool
 fits_names names name = list_any (λ pattern. fits pattern name) (words names)

@@ -1,7 +1,7 @@
 //! The match of a name against the names of a verb.
 ghost use Rattle.std.specs.Prelude.{◌≡◌, ◌↔◌, IsTrue, true, position, ◌&&◌};
 ghost use Rattle.std.specs.List.{list_any};
-ghost use Rattle.moo_world_object.specs.Patterns.{EndsInStar, is_star, least, fits, is_blank, is_word, has_word, fits_names};
+ghost use Rattle.moo_world_object.specs.Patterns.{EndsInStar, is_star, least, fits, is_blank, is_word, is_mark, has_mark, has_word, fits_names};
 
 const STAR: u8 = b'*';
 
@@ -61,6 +61,19 @@ pub(crate) fn is_blank(byte: u8) -> bool
     ensures { result ≡ is_blank byte }
 {
     byte == BLANK
+}
+
+/// Is true if there is a blank or a star among a verb's names. If not, there is at most one name.
+pub(crate) fn has_mark(names: &[u8]) -> bool
+    ensures { result ≡ has_mark names.now }
+{
+    names.iter().any(|byte| is_mark(*byte))
+}
+
+fn is_mark(byte: u8) -> bool
+    ensures { result ≡ is_mark byte }
+{
+    is_blank(byte) || is_star(byte)
 }
 
 fn is_word(part: &[u8]) -> bool

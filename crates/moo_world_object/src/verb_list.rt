@@ -8,12 +8,12 @@ ghost use Rattle.moo_syntax_ast.specs.NameHash.{first_letter};
 ghost use Rattle.moo_world_object.specs.Letters.{begins_otherwise, may_begin, IsLetter, AreLetters, IsNumberOf, AreNumbers};
 ghost use Rattle.moo_world_object.specs.Index.{AreIndexed};
 
-use crate::name::same_hashed_name;
-use crate::pattern::{is_blank, is_star};
+use crate::name::{has_same_bytes, same_hashed_name};
+use crate::pattern::{has_mark, is_blank, is_star};
 use crate::verb::{Need, Verb, VerbPerms, change_args, change_info, change_program};
 use crate::verb_args::VerbArgs;
 use crate::verb_index::VerbIndex;
-use moo_syntax_ast::{NameKey, first_letter, is_code, name_number};
+use moo_syntax_ast::{NameKey, first_letter, name_number};
 use moo_syntax_grammar::Program;
 use moo_value::MooStr;
 use std::alloc::{AllocError, Global};
@@ -25,7 +25,7 @@ use std::marker::Model;
 pub struct VerbList {
     verbs: Vec<Verb>,
     letters: Vec<u8>,
-    /// For each of the first ones, the number of its only name, if that has no star and its number is a code, or 0.
+    /// For each of the first ones, the number of its only name, if that has no star, or 0.
     numbers: Vec<u64>,
     index: VerbIndex,
 }
@@ -116,14 +116,15 @@ impl VerbList {
         self.position_between(first, last, need, name)
     }
 
-    // Is true if there is a verb at a place and its number alone proves that the name matches it.
+    // Is true if there is a verb at a place whose only name has the number or the bytes of the name.
     #[inline(always)]
     fn is_known_at(&self, index: usize, need: Need, name: &NameKey<'_>) -> bool
         ensures { IsTrue result → (index < length self.now) × ((v : Verb) → v ≡ slice_index_or self.now index v → fits_verb need name.now v ≡ true) }
     {
         match self.numbers.get(index) {
-            Some(number) if *number != 0 && *number == name.number() => {
-                self.verbs[index].is_needed(need)
+            Some(number) if *number != 0 => {
+                let verb = &self.verbs[index];
+                is_known_as(verb, *number, name) && verb.is_needed(need)
             }
             _ => false,
         }
@@ -268,6 +269,21 @@ fn has_name(verb: &Verb, number: u64, name: &NameKey<'_>) -> bool
     same_hashed_name(verb.names.as_bytes(), name.bytes())
 }
 
+// Is true if the numbers, or the bytes of a name whose number is not known, prove that a name is the only name of a verb,
+// which has this number.
+#[inline(always)]
+fn is_known_as(verb: &Verb, number: u64, name: &NameKey<'_>) -> bool
+    requires known { number ≢ 0 }
+    requires number { IsNumberOf number verb.now.names }
+    ensures { IsTrue result → fits_names verb.now.names name.now ≡ true }
+{
+    let sought = name.number();
+    if sought != 0 {
+        return number == sought;
+    }
+    has_same_bytes(verb.names.as_bytes(), name.bytes())
+}
+
 // Returns the numbers of the verbs. Out of memory there are none.
 fn numbers_of(alloc: Global, verbs: &[Verb]) -> Vec<u64>
     ensures { AreNumbers result.items verbs.now }
@@ -288,13 +304,15 @@ fn all_numbers(alloc: Global, verbs: &[Verb]) -> Result<Vec<u64>, AllocError>
     Ok(numbers)
 }
 
-// Returns the number of the only name among a verb's names, if it has no star and its number is a code, or 0. A code
-// has no blank and no star.
+// Returns the number of the only name among a verb's names, if it has no star, or 0.
 fn number_of(names: &[u8]) -> u64
     ensures { IsNumberOf result names.now }
 {
-    let number = name_number(names);
-    if is_code(number) { number } else { 0 }
+    if has_mark(names) {
+        0
+    } else {
+        name_number(names)
+    }
 }
 
 // Appends a number if there are `many` and there is memory for it.

@@ -5,7 +5,7 @@ use Rattle.moo_world_object.proofs.Numbered.{numbered_fits, both_numbered}
 use Rattle.moo_world_object.proofs.verb_list.has_name.Goals as goal
 
 pub returns-then-sought-ne0 : goal.returns-then-sought-ne0
-returns-then-sought-ne0 c = both_numbered c.args.number c.number-sought.result c.args.verb.now.names c.args.name.now c.requires.known c.requires.number (c.number-sought.ensures c.if-sought-ne0.true).0
+returns-then-sought-ne0 c = both_numbered c.args.number c.number-sought.result c.args.verb.now.names c.args.name.now c.requires.known c.requires.number (c.number-sought.ensures c.if-sought-ne0.true)
 
 pub returns : goal.returns
 returns c =

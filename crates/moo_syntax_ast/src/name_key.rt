@@ -2,31 +2,32 @@
 ghost use Rattle.std.specs.Prelude.{◌≡◌, ◌≢◌};
 ghost use Rattle.moo_value.specs.Compare.{folded};
 ghost use Rattle.moo_syntax_ast.specs.NameNumber.{name_number, IsCode};
-ghost use Rattle.moo_syntax_ast.specs.NameHash.{hash_of};
+ghost use Rattle.moo_syntax_ast.specs.NameHash.{first_letter, hash_of};
 
-use crate::name_hash::hash_of;
+use crate::name_hash::{first_letter, hash_of};
 use std::marker::Model;
 
-/// A name that is sought, with its hash, and with its number, if that is known to be a code.
+/// A name that is sought, with its first letter and its hash, and with its number, if that is known to be a code.
 #[derive(Drop)]
 pub struct NameKey<'a> {
     bytes: &'a [u8],
     hash: usize,
     /// The name's number if it is a code, or 0.
     number: u64,
+    first: u8,
 }
 
 impl<'a> Model for NameKey<'a> {
     ghost use Rattle.std.specs.Prelude.{◌≡◌, ◌≢◌, ℕ, List};
     ghost use Rattle.moo_value.specs.Compare.{folded};
     ghost use Rattle.moo_syntax_ast.specs.NameNumber.{name_number, IsCode};
-    ghost use Rattle.moo_syntax_ast.specs.NameHash.{hash_of};
+    ghost use Rattle.moo_syntax_ast.specs.NameHash.{first_letter, hash_of};
 
     ghost Value = { List ℕ };
 
     ghost view = { λ key. key.bytes.now };
 
-    ghost invariant = { λ key. (key.hash ≡ hash_of key.bytes.now) × (key.number ≢ 0 → (key.number ≡ name_number (folded key.bytes.now)) × IsCode key.number) };
+    ghost invariant = { λ key. (key.hash ≡ hash_of key.bytes.now) × (key.number ≢ 0 → (key.number ≡ name_number (folded key.bytes.now)) × IsCode key.number) × (key.first ≡ first_letter key.bytes.now) };
 }
 
 impl<'a> NameKey<'a> {
@@ -38,6 +39,7 @@ impl<'a> NameKey<'a> {
             bytes,
             hash: hash_of(bytes),
             number: 0,
+            first: first_letter(bytes),
         }
     }
 
@@ -52,6 +54,7 @@ impl<'a> NameKey<'a> {
             bytes,
             hash,
             number,
+            first: first_letter(bytes),
         }
     }
 
@@ -61,6 +64,14 @@ impl<'a> NameKey<'a> {
         ensures { result.now ≡ self.now }
     {
         self.bytes
+    }
+
+    /// Returns the first letter in lower case, or 0 if the name is empty.
+    #[inline(always)]
+    pub fn first_letter(&self) -> u8
+        ensures { result ≡ first_letter self.now }
+    {
+        self.first
     }
 
     /// Returns the hash.

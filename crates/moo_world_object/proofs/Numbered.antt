@@ -1,12 +1,11 @@
 -- The consequences of the numbers of names.
-use Rattle.std.proofs.Common.{◌≡◌, ◌≢◌, ℕ, zero, suc, ◌+◌, ◌^◌, ◌<◌, List, [], ◌∷◌, Bool, not, ◌||◌, true, false, eqb, length, get_or, inl, inr, refl, sym, ap, ◌∙◌, subst, arith}
-use Rattle.std.specs.List.{list_any}
+use Rattle.std.proofs.Common.{◌≡◌, ◌≢◌, ℕ, zero, suc, ◌<◌, List, [], ◌∷◌, Bool, ◌||◌, true, false, eqb, length, get_or, inl, inr, refl, sym, ap, ◌∙◌, subst, arith}
 use Rattle.std.proofs.lemmas.Bool.{cases_Bool, eqb-true, eqb-false, false≢true}
 use Rattle.moo_value.specs.Compare.{folded}
 use Rattle.moo_syntax_ast.specs.NameNumber.{name_number, IsCode}
 use Rattle.moo_syntax_ast.proofs.Numbered.{same_number}
 use Rattle.moo_world_object.specs.Names.{same_name}
-use Rattle.moo_world_object.specs.Patterns.{is_star, is_blank, is_mark, has_mark, fits_names}
+use Rattle.moo_world_object.specs.Patterns.{is_star, is_blank, has_mark, fits_names}
 use Rattle.moo_world_object.specs.Letters.{IsNumberOf}
 use Rattle.moo_world_object.proofs.Names.{eq-same_name, ne-same_name}
 use Rattle.moo_world_object.proofs.Alone.{fits_alone}
@@ -44,7 +43,3 @@ both_numbered number other names name known numbered sought =
           eq-same_name (folded names) (folded name) (same_number (folded names) (folded name) number (subst IsCode (sym one) sought.1) (sym is.0) (sym (one ∙ sought.0))) ∙ sym same
       | inr differ ↦ apart (folded names) (folded name) number other is.0 sought.0 (eqb-false number other differ) ∙ sym differ
     ])
-
--- a name with the same bytes
-pub same_bytes_fit : (number : ℕ) (names name : List ℕ) → number ≢ 0 → IsNumberOf number names → names ≡ name → fits_names names name ≡ true
-same_bytes_fit number names name known numbered same = numbered_fits number names name known numbered ∙ eq-same_name (folded names) (folded name) (ap folded same)

@@ -32,10 +32,10 @@ pub(crate) fn same_hashed_name(one: &[u8], other: &[u8]) -> bool
     same_name(one, other)
 }
 
-/// Is true if two names have the same bytes. Most names with a hash have from 13 to 32 bytes, of which it compares the
-/// first and the last 8 or 16: these meet or overlap, and their number is a constant, so no loop is needed.
+// Is true if two names have the same bytes. Most names with a hash have from 13 to 32 bytes, of which it compares the
+// first and the last 8 or 16: these meet or overlap, and their number is a constant, so no loop is needed.
 #[inline(always)]
-pub(crate) fn has_same_bytes(one: &[u8], other: &[u8]) -> bool
+fn has_same_bytes(one: &[u8], other: &[u8]) -> bool
     ensures { IsTrue result → one.now ≡ other.now }
 {
     let many = one.len();

@@ -8,7 +8,7 @@ ghost use Rattle.moo_syntax_ast.specs.NameHash.{first_letter};
 ghost use Rattle.moo_world_object.specs.Letters.{begins_otherwise, may_begin, IsLetter, AreLetters, IsNumberOf, AreNumbers};
 ghost use Rattle.moo_world_object.specs.Index.{AreIndexed};
 
-use crate::name::{has_same_bytes, same_hashed_name};
+use crate::name::same_hashed_name;
 use crate::pattern::{has_mark, is_blank, is_star};
 use crate::verb::{Need, Verb, VerbPerms, change_args, change_info, change_program};
 use crate::verb_args::VerbArgs;
@@ -95,7 +95,7 @@ impl VerbList {
     pub fn position_named(&self, need: Need, name: &NameKey<'_>) -> Option<usize>
         ensures { result ≡ position (fits_verb need name.now) self.now }
     {
-        if !self.index.passes(first_letter(name.bytes()), name.hash()) {
+        if !self.index.passes(name.first_letter(), name.hash()) {
             return None;
         }
         self.position_passed(need, name)
@@ -116,15 +116,14 @@ impl VerbList {
         self.position_between(first, last, need, name)
     }
 
-    // Is true if there is a verb at a place whose only name has the number or the bytes of the name.
+    // Is true if there is a verb at a place and its number alone proves that the name matches it.
     #[inline(always)]
     fn is_known_at(&self, index: usize, need: Need, name: &NameKey<'_>) -> bool
         ensures { IsTrue result → (index < length self.now) × ((v : Verb) → v ≡ slice_index_or self.now index v → fits_verb need name.now v ≡ true) }
     {
         match self.numbers.get(index) {
-            Some(number) if *number != 0 => {
-                let verb = &self.verbs[index];
-                is_known_as(verb, *number, name) && verb.is_needed(need)
+            Some(number) if *number != 0 && *number == name.number() => {
+                self.verbs[index].is_needed(need)
             }
             _ => false,
         }
@@ -267,21 +266,6 @@ fn has_name(verb: &Verb, number: u64, name: &NameKey<'_>) -> bool
         return number == sought;
     }
     same_hashed_name(verb.names.as_bytes(), name.bytes())
-}
-
-// Is true if the numbers, or the bytes of a name whose number is not known, prove that a name is the only name of a verb,
-// which has this number.
-#[inline(always)]
-fn is_known_as(verb: &Verb, number: u64, name: &NameKey<'_>) -> bool
-    requires known { number ≢ 0 }
-    requires number { IsNumberOf number verb.now.names }
-    ensures { IsTrue result → fits_names verb.now.names name.now ≡ true }
-{
-    let sought = name.number();
-    if sought != 0 {
-        return number == sought;
-    }
-    has_same_bytes(verb.names.as_bytes(), name.bytes())
 }
 
 // Returns the numbers of the verbs. Out of memory there are none.

@@ -13,4 +13,4 @@ returns-then-not-passes c =
     let indexed = subst (λ vs. AreIndexed c.self.inside.index vs) c.self.view_is c.self.invariant.2 in
     let words = c.self.inside.index.filter.words in
     none_at (fits_verb c.args.need c.args.name.now) c.args.self.now
-    (λ k d low. outside c.self.inside.index c.args.self.now c.args.need c.args.name.now k d indexed low (λ listed. false≢true (sym c.if-not-passes.true ∙ c.passes.ensures ∙ ap (λ l. passes words l c.hash.result) (c.first_letter.ensures ∙ ap first_letter c.bytes.ensures) ∙ ap (passes words (first_letter c.args.name.now)) c.hash.ensures ∙ listed.0)))
+    (λ k d low. outside c.self.inside.index c.args.self.now c.args.need c.args.name.now k d indexed low (λ listed. false≢true (sym c.if-not-passes.true ∙ c.passes.ensures ∙ ap (λ l. passes words l c.hash.result) c.first_letter.ensures ∙ ap (passes words (first_letter c.args.name.now)) c.hash.ensures ∙ listed.0)))

@@ -25,7 +25,7 @@ nil = All-nil IsTextByte
 cons : (b : ℕ) (s : List ℕ) → IsTextByte b → IsText s → IsText (b ∷ s)
 cons b s p h = All-cons IsTextByte b s p h
 
-both : (s t : List ℕ) → IsText s → IsText t → IsText (s ++ t)
+pub both : (s t : List ℕ) → IsText s → IsText t → IsText (s ++ t)
 both s t h k = All-append IsTextByte s t h k
 
 abbrev is_printable : ℕ → Bool

@@ -1,9 +1,10 @@
 -- How a result of the program relates to the value or the error that a function gives.
-use Rattle.std.specs.Prelude.{◌≡◌, Bool, false, Result, Ok, Err}
+use Rattle.std.specs.Prelude.{◌≡◌, ◌≤◌, ℕ, Bool, false, List, length, Result, Ok, Err}
 use Rattle.moo_value.specs.declared.error_code.ErrorCode.{ErrorCode}
 use Rattle.moo_value.specs.declared.error_code.ErrorCode.TheVariants.{Quota}
 use Rattle.moo_value.specs.declared.value.Value.{Value}
 use Rattle.moo_value.specs.Faults.{TakesMemory}
+use Rattle.moo_value.specs.Size.{weight_limit}
 use Rattle.moo_value.specs.Tree.{Tree}
 use Rattle.moo_value.specs.View.{tree}
 use Rattle.moo_builtin_operator.specs.declared.fault.OperationFault.{OperationFault}
@@ -27,3 +28,8 @@ Gives answer r = GivesUnless (IsMade r) answer r
 -- memory runs out only if letters are folded, which is done in copies
 abbrev pub Finds : Bool → Result Value OperationFault → Result Tree ErrorCode → Type 0
 Finds exact answer r = GivesUnless (exact ≡ false) answer r
+
+-- E_QUOTA comes for a text that is longer than a string may be; for any text memory may run out
+abbrev pub IsRefusedText : OperationFault → List ℕ → Type 0
+IsRefusedText (Raise e) text = (e ≡ Quota) × (weight_limit ≤ length text)
+IsRefusedText Memory text = Unit {0}

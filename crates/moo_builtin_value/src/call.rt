@@ -80,6 +80,7 @@ pub fn plain_answer(
 }
 
 /// Returns the outcome of a result: its value, or its error with the error's own message and the value 0.
+#[inline(always)]
 pub fn settled(alloc: Global, answer: Result<Value, OperationFault>) -> Outcome
     ensures { Tells result answer }
 {
@@ -112,6 +113,7 @@ fn raised_with(error: ErrorCode, message: &MooStr, value: &Value) -> Outcome
 }
 
 /// Returns an error with its own message and 0, or lack of memory for the message.
+#[inline(never)]
 pub fn raised(alloc: Global, error: ErrorCode) -> Outcome
     ensures { Raises result (plainly error) }
 {

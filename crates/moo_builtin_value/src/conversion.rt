@@ -1,12 +1,11 @@
 //! Functions that convert a value of one type to another.
-ghost use Rattle.std.specs.Prelude.{◌≡◌, ◌∷◌, [], ◌++◌, IfOk, IfSome, OnOk};
+ghost use Rattle.std.specs.Prelude.{◌≡◌, ◌∷◌, [], ◌++◌, IfErr, OnOk};
 ghost use Rattle.std.specs.List.{flat_map};
-ghost use Rattle.moo_value.specs.Text.{plain, literal};
-ghost use Rattle.moo_value.specs.Tree.{IsText};
+ghost use Rattle.moo_value.specs.Size.{IsString};
+ghost use Rattle.moo_value.specs.Text.{plain};
 ghost use Rattle.moo_value.specs.View.{tree, trees};
-ghost use Rattle.moo_builtin_value.specs.TextAnswers.{Gives};
+ghost use Rattle.moo_builtin_value.specs.TextAnswers.{Gives, IsRefusedText};
 ghost use Rattle.moo_builtin_value.specs.Conversions.{to_text, to_literal, to_integer, to_object};
-ghost use Rattle.moo_builtin_value.specs.Inner.{IsWritten};
 
 use crate::numeral::{integer_number, object_number};
 use crate::strings::{TYPE_MISMATCH, string_answer};
@@ -14,41 +13,58 @@ use moo_builtin_operator::OperationFault;
 use moo_value::{ErrorCode, Value, WEIGHT_LIMIT};
 use std::alloc::{AllocError, Global};
 
+/// The greatest length of the text of an object.
+const LENGTH_OF_NUMBER: usize = 12;
+
 /// Computes `tostr`: the texts of its arguments as a player sees them, joined.
-#[tactic(auto, using(crate::proofs::Making::limited_made))]
 pub fn to_text(alloc: Global, args: &[Value]) -> Result<Value, OperationFault>
     ensures { Gives result (to_text (trees args.now)) }
 {
-    match plain_texts(alloc, args) {
-        Ok(Some(text)) => string_answer(alloc, text),
-        Ok(None) => Err(OperationFault::Raise(ErrorCode::Quota)),
-        Err(AllocError) => Err(OperationFault::Memory),
-    }
-}
-
-// Returns the joined texts, or `None` as soon as they are past the limit of weight.
-fn plain_texts(alloc: Global, args: &[Value]) -> Result<Option<Vec<u8>>, AllocError>
-    ensures value { IfOk result (λ made. IsWritten made (flat_map plain (trees args.now))) }
-    ensures text { IfOk result (λ made. IfSome made (λ v. IsText v.items)) }
-{
     let mut text = Vec::new(alloc);
-    for value in args {
-        if text.len() >= WEIGHT_LIMIT as usize {
-            return Ok(None);
-        }
-        write_plain(alloc, value, &mut text)?;
-    }
-    Ok(Some(text))
+    append_texts(&mut text, args)?;
+    string_answer(alloc, text)
 }
 
-fn write_plain(alloc: Global, value: &Value, text: &mut Vec<u8>) -> Result<(), AllocError>
-    ensures value { OnOk result (text.new.items ≡ text.old.items ++ plain (tree value.now)) }
-    ensures text { OnOk result (IsText (plain (tree value.now))) }
+/// Appends the texts of values, as a player sees them, to the bytes of a string: E_QUOTA as soon as the whole is longer
+/// than a string may be. After an error the bytes may have some of the texts at their end.
+pub fn append_texts(text: &mut Vec<u8>, values: &[Value]) -> Result<(), OperationFault>
+    requires { IsString text.old.items }
+    ensures ok { OnOk result (text.new.items ≡ text.old.items ++ flat_map plain (trees values.now)) }
+    ensures string { OnOk result (IsString text.new.items) }
+    ensures err { IfErr result (λ fault. IsRefusedText fault (text.old.items ++ flat_map plain (trees values.now))) }
 {
-    let plain = value.to_plain(alloc)?;
-    text.extend_from_slice(&plain)?;
+    text.reserve(estimated_length(values))
+        .map_err(|_| OperationFault::Memory)?;
+    for value in values {
+        append_text(text, value)?;
+    }
+    Ok(())
+}
+
+// Returns about how many bytes the texts of values have together, at most the limit of weight.
+fn estimated_length(values: &[Value]) -> usize {
+    let mut length: usize = 0;
+    for value in values {
+        length = length.saturating_add(match value {
+            Value::Str(string) => string.len(),
+            _ => LENGTH_OF_NUMBER,
+        });
+    }
+    length.min(WEIGHT_LIMIT as usize)
+}
+
+fn append_text(text: &mut Vec<u8>, value: &Value) -> Result<(), OperationFault>
+    requires { IsString text.old.items }
+    ensures ok { OnOk result (text.new.items ≡ text.old.items ++ plain (tree value.now)) }
+    ensures string { OnOk result (IsString text.new.items) }
+    ensures err { IfErr result (λ fault. IsRefusedText fault (text.old.items ++ plain (tree value.now))) }
+{
+    value.write_plain(text).map_err(|_| OperationFault::Memory)?;
     // Read so that the proof knows that it is a value.
     let _weight = value.weight();
+    if text.len() >= WEIGHT_LIMIT as usize {
+        return Err(OperationFault::Raise(ErrorCode::Quota));
+    }
     Ok(())
 }
 

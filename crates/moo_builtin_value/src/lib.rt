@@ -15,6 +15,6 @@ mod strings;
 mod substitution;
 
 pub use call::{Outcome, answer, plain_answer, raised, settled};
-pub use conversion::{to_integer, to_literal, to_object, to_text};
+pub use conversion::{append_texts, to_integer, to_literal, to_object, to_text};
 pub use place::{compare, index, last_index};
 pub use substitution::substitute;

@@ -4,8 +4,8 @@ ghost use Rattle.moo_builtin_operator.specs.Answer.{limited};
 ghost use Rattle.moo_builtin_value.specs.TextAnswers.{Gives};
 
 use moo_builtin_operator::OperationFault;
-use moo_value::{ErrorCode, MooStr, Value, ValueFault};
-use std::alloc::Global;
+use moo_value::{ErrorCode, MooStr, Value, WEIGHT_LIMIT};
+use std::alloc::{AllocError, Global};
 
 /// The fault that raises E_TYPE.
 pub const TYPE_MISMATCH: OperationFault = OperationFault::Raise(ErrorCode::TypeMismatch);
@@ -16,9 +16,11 @@ pub fn string_answer(alloc: Global, bytes: Vec<u8>) -> Result<Value, OperationFa
     requires { IsText bytes.items }
     ensures { Gives result (limited (string bytes.items)) }
 {
-    match MooStr::try_from_vec(alloc, bytes) {
+    if bytes.len() >= WEIGHT_LIMIT as usize {
+        return Err(OperationFault::Raise(ErrorCode::Quota));
+    }
+    match MooStr::from_text(alloc, bytes) {
         Ok(string) => Ok(Value::Str(string)),
-        Err(ValueFault::Memory) => Err(OperationFault::Memory),
-        Err(_) => Err(OperationFault::Raise(ErrorCode::Quota)),
+        Err(AllocError) => Err(OperationFault::Memory),
     }
 }

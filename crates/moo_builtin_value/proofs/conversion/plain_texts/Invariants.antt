@@ -1,9 +1,0 @@
-use Rattle.std.proofs.Common.{◌≡◌, take}
-use Rattle.std.specs.List.{flat_map}
-use Rattle.moo_value.specs.Text.{plain}
-use Rattle.moo_value.specs.Tree.{IsText}
-use Rattle.moo_value.specs.View.{trees}
-use Rattle.moo_builtin_value.proofs.conversion.plain_texts.Given as goal
-
-abbrev pub invariant-loop-value : goal.invariant-loop-value
-invariant-loop-value l = (l.text.items ≡ flat_map plain (trees (take l.value-index l.args))) × IsText l.text.items

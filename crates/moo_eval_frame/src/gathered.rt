@@ -112,6 +112,7 @@ impl Gathered {
     }
 
     /// Returns the values.
+    #[inline(always)]
     pub fn into_values(self, alloc: Global) -> Result<Vec<Value>, AllocError>
         ensures { IfOk result (λ values. trees values.items ≡ self) }
     {
@@ -213,16 +214,25 @@ fn are_too_heavy(stretches: &[Stretch]) -> bool
 }
 
 // Returns the values of stretches, and those after them.
-fn joined(
+#[inline(always)]
+fn joined(alloc: Global, stretches: &[Stretch], last: Vec<Value>) -> Result<Vec<Value>, AllocError>
+    ensures { IfOk result (λ values. trees values.items ≡ in_a_row stretches.now ++ trees last.items) }
+{
+    if stretches.is_empty() {
+        return Ok(last);
+    }
+    copied(alloc, stretches, last)
+}
+
+// Returns copies of the values of stretches, and the values after them.
+#[inline(never)]
+fn copied(
     alloc: Global,
     stretches: &[Stretch],
     mut last: Vec<Value>,
 ) -> Result<Vec<Value>, AllocError>
     ensures { IfOk result (λ values. trees values.items ≡ in_a_row stretches.now ++ trees last.items) }
 {
-    if stretches.is_empty() {
-        return Ok(last);
-    }
     let count = count(stretches).saturating_add(last.len());
     let mut values = Vec::with_capacity(alloc, count)?;
     for stretch in stretches {

@@ -9,6 +9,7 @@ use moo_syntax_function::Function;
 
 /// Returns whether there are more values than the function takes; a call with them raises E_ARGS whatever they are.
 #[tactic(auto, using(crate::proofs::Counted::too_many))]
+#[inline(always)]
 pub fn are_too_many(function: Function, values: &Gathered) -> bool
     ensures { IsTrue result → mismatch (row function) values.now ≡ Some Arguments }
 {

@@ -67,6 +67,7 @@ fn task_function(function: Option<Function>) -> Option<Function>
     }
 }
 
+#[inline(never)]
 fn unless_too_many(
     alloc: Global,
     world: &mut World,
@@ -105,6 +106,7 @@ fn unless_refused(
 }
 
 // Calls a plain function, for the programmer of the running frame.
+#[inline(always)]
 fn plain(
     alloc: Global,
     world: &mut World,
@@ -130,6 +132,7 @@ fn plain(
 }
 
 // Converts the outcome of a plain call to a result.
+#[inline(always)]
 fn outcome(
     alloc: Global,
     function: Option<Function>,
@@ -143,13 +146,10 @@ fn outcome(
     let Some(found) = function else {
         return raised(alloc, ErrorCode::InvalidArgument);
     };
-    if are_too_many(found, &values) {
-        return raised(alloc, ErrorCode::Arguments);
-    }
     match found {
-        Function::Tostr => settled(alloc, joined_text(alloc, values)),
-        Function::Min => settled(alloc, extreme_number(Extreme::Least, values)),
-        Function::Max => settled(alloc, extreme_number(Extreme::Greatest, values)),
+        Function::Tostr => settled(alloc, joined_text(alloc, values, room)),
+        Function::Min => settled(alloc, extreme_number(Extreme::Least, values, room)),
+        Function::Max => settled(alloc, extreme_number(Extreme::Greatest, values, room)),
         _ => called(alloc, found, values, world, caller, room),
     }
 }
@@ -165,6 +165,9 @@ fn called(
 ) -> Outcome
     ensures { (name : List ℕ) → function_of name ≡ Some function → IsReply result world.old world.new (CallsPlain Faults name values world.old caller) }
 {
+    if are_too_many(function, &values) {
+        return raised(alloc, ErrorCode::Arguments);
+    }
     match values.into_values(alloc) {
         Ok(mut args) => {
             let outcome = call_found(alloc, Some(function), &mut args, world, caller);

@@ -9,6 +9,7 @@ use moo_value::{ErrorCode, MooStr, Value};
 use std::alloc::Global;
 
 /// Raises an error of a call. Without the d bit the error is the value of the call.
+#[inline(never)]
 pub(crate) fn raised_here(
     alloc: Global,
     stack: &CallStack<'_>,

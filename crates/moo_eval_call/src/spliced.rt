@@ -1,16 +1,16 @@
 //! The functions that take any number of values. They read spliced lists in place, so no list is copied.
-ghost use Rattle.std.specs.Prelude.{◌≡◌, ◌++◌, None, IfOk, IfErr, OnOk};
-ghost use Rattle.moo_value.specs.Size.{IsString};
+ghost use Rattle.std.specs.Prelude.{◌≡◌, ◌++◌, None, IfOk, IfErr};
 ghost use Rattle.moo_value.specs.View.{trees};
 ghost use Rattle.moo_builtin_value.specs.TextAnswers.{Gives};
 ghost use Rattle.moo_builtin_value.specs.Conversions.{to_text};
-ghost use Rattle.moo_eval_call.specs.Spliced.{text_from, better, extreme_from, GoesOn, Ends};
+ghost use Rattle.moo_eval_frame.specs.Gathered.{in_a_row};
+ghost use Rattle.moo_eval_call.specs.Spliced.{better, extreme_from, GoesOn, Ends};
 
 use moo_builtin_operator::OperationFault;
-use moo_builtin_value::to_text;
-use moo_eval_frame::Gathered;
-use moo_value::{ErrorCode, MooStr, Value, WEIGHT_LIMIT};
-use std::alloc::Global;
+use moo_builtin_value::{append_texts, to_text};
+use moo_eval_frame::{Gathered, Stretch};
+use moo_value::{ErrorCode, MooStr, Value};
+use std::alloc::{AllocError, Global};
 
 /// The least number, or the greatest.
 #[derive(Clone, Copy)]
@@ -19,8 +19,14 @@ pub enum Extreme {
     Greatest,
 }
 
-/// Computes `min` or `max` of values: E_ARGS if there are none, E_TYPE if one is no integer.
-pub fn extreme_number(extreme: Extreme, values: Gathered) -> Result<Value, OperationFault>
+/// Computes `min` or `max` of values: E_ARGS if there are none, E_TYPE if one is no integer. The memory of the values
+/// comes into `room`.
+#[inline(never)]
+pub fn extreme_number(
+    extreme: Extreme,
+    values: Gathered,
+    room: &mut Vec<Value>,
+) -> Result<Value, OperationFault>
     ensures { Gives result (extreme_from extreme None values) }
 {
     let (stretches, last) = values.into_stretches();
@@ -29,7 +35,9 @@ pub fn extreme_number(extreme: Extreme, values: Gathered) -> Result<Value, Opera
         so_far = extreme_so_far(extreme, so_far, &stretch.values)?;
         so_far = extreme_so_far(extreme, so_far, stretch.list.elements())?;
     }
-    match extreme_so_far(extreme, so_far, &last)? {
+    let found = extreme_so_far(extreme, so_far, &last);
+    *room = last;
+    match found? {
         Some(number) => Ok(Value::Int(number)),
         None => Err(OperationFault::Raise(ErrorCode::Arguments)),
     }
@@ -67,39 +75,42 @@ fn better(extreme: Extreme, so_far: Option<i32>, number: i32) -> i32
     }
 }
 
-/// Computes `tostr` of values: E_QUOTA as soon as their texts are longer than a string may be.
-pub fn joined_text(alloc: Global, values: Gathered) -> Result<Value, OperationFault>
+/// Computes `tostr` of values: E_QUOTA as soon as their texts are longer than a string may be. The memory of the values
+/// comes into `room`, if no list was spliced in.
+#[inline(always)]
+pub fn joined_text(
+    alloc: Global,
+    values: Gathered,
+    room: &mut Vec<Value>,
+) -> Result<Value, OperationFault>
     ensures { Gives result (to_text values) }
 {
     let (stretches, last) = values.into_stretches();
-    if stretches.is_empty() {
-        return to_text(alloc, &last);
+    if !stretches.is_empty() {
+        return spliced_text(alloc, &stretches, &last);
     }
-    let mut text = Vec::new(alloc);
-    for stretch in &stretches {
-        append_texts(alloc, &mut text, &stretch.values)?;
-        append_texts(alloc, &mut text, stretch.list.elements())?;
-    }
-    append_texts(alloc, &mut text, &last)?;
-    match MooStr::try_from_vec(alloc, text) {
-        Ok(text) => Ok(Value::Str(text)),
-        Err(_) => Err(OperationFault::Memory),
-    }
+    let answer = to_text(alloc, &last);
+    *room = last;
+    answer
 }
 
-// Appends the texts of values to a text; E_QUOTA as soon as the whole is longer than a string may be.
-fn append_texts(alloc: Global, text: &mut Vec<u8>, values: &[Value]) -> Result<(), OperationFault>
-    requires { IsString text.old.items }
-    ensures ok { OnOk result (GoesOn (text_from text.old.items) (trees values.now) (text_from text.new.items)) }
-    ensures string { OnOk result (IsString text.new.items) }
-    ensures err { IfErr result (λ fault. Ends fault (text_from text.old.items) (trees values.now)) }
+// Computes `tostr` of the values of stretches and of those after them.
+#[inline(never)]
+fn spliced_text(
+    alloc: Global,
+    stretches: &[Stretch],
+    last: &[Value],
+) -> Result<Value, OperationFault>
+    ensures { Gives result (to_text (in_a_row stretches.now ++ trees last.now)) }
 {
-    let Value::Str(more) = to_text(alloc, values)? else {
-        return Err(OperationFault::Memory);
-    };
-    if text.len() + more.len() >= WEIGHT_LIMIT as usize {
-        return Err(OperationFault::Raise(ErrorCode::Quota));
+    let mut text = Vec::new(alloc);
+    for stretch in stretches {
+        append_texts(&mut text, &stretch.values)?;
+        append_texts(&mut text, stretch.list.elements())?;
     }
-    text.extend_from_slice(more.as_bytes())
-        .map_err(|_| OperationFault::Memory)
+    append_texts(&mut text, last)?;
+    match MooStr::from_text(alloc, text) {
+        Ok(text) => Ok(Value::Str(text)),
+        Err(AllocError) => Err(OperationFault::Memory),
+    }
 }

@@ -1,24 +1,17 @@
 use Rattle.std.proofs.Common.{None, Some, ap, ◌∙◌}
-use Rattle.moo_value.specs.declared.error_code.ErrorCode.TheVariants.{InvalidArgument, Arguments}
+use Rattle.moo_value.specs.declared.error_code.ErrorCode.TheVariants.{InvalidArgument}
 use Rattle.moo_builtin_value.specs.Conversions.{to_text}
-use Rattle.moo_syntax_function.specs.Table.{row}
 use Rattle.moo_builtin_value.specs.Calls.{plainly}
-use Rattle.moo_builtin_world.specs.Objects.{is_valid}
 use Rattle.moo_builtin.specs.Telling.{Faults}
-use Rattle.moo_builtin.specs.Calls.{CallsPlain, unknown, refused}
+use Rattle.moo_builtin.specs.Calls.{CallsPlain, unknown}
 use Rattle.moo_eval_call.specs.declared.spliced.Extreme.TheVariants.{Least, Greatest}
 use Rattle.moo_eval_call.specs.Spliced.{extreme_from}
 use Rattle.moo_eval_call.proofs.AnyNumber.{settles, calls_text, calls_least, calls_greatest}
-use Rattle.moo_eval_call.proofs.Counted.{refused_for_number, raises_reply}
+use Rattle.moo_eval_call.proofs.Counted.{raises_reply}
 use Rattle.moo_eval_call.proofs.call.outcome.Goals as goal
 
 pub returns-in_default : goal.returns-in_default
 returns-in_default c = λ name named. raises_reply c.raised.result (plainly InvalidArgument) c.args.world.now (CallsPlain Faults name c.args.values c.args.world.now c.args.caller) c.raised.ensures (unknown (named ∙ c.in_default.is))
-
-pub returns-then-are_too_many : goal.returns-then-are_too_many
-returns-then-are_too_many c =
-    λ name named. raises_reply c.raised-then-are_too_many.result (plainly Arguments) c.args.world.now (CallsPlain Faults name c.args.values c.args.world.now c.args.caller) c.raised-then-are_too_many.ensures
-    (refused (named ∙ c.in-Some.is) (refused_for_number (is_valid c.args.world.now) (row c.in-Some.found) c.args.values (c.are_too_many.ensures c.if-are_too_many.true)))
 
 pub returns-in-Tostr : goal.returns-in-Tostr
 returns-in-Tostr c =

@@ -18,6 +18,7 @@ use std::alloc::Global;
 /// A missing verb raises E_VERBNF; the programmer's right comes last. After an error or lack of memory the world is
 /// as it was. Memory is needed only for a listing, or for a text once its verb may be set. `None`, with nothing
 /// changed, for any other function.
+#[inline(always)]
 pub fn call_code(
     alloc: Global,
     function: Function,
@@ -40,6 +41,7 @@ fn is_of_code(function: Function) -> bool
     matches!(function, Function::VerbCode | Function::SetVerbCode)
 }
 
+#[inline(never)]
 fn answer(
     alloc: Global,
     function: Function,

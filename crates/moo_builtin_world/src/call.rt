@@ -21,6 +21,7 @@ use std::alloc::Global;
 /// Calls a function that reads or changes the world, for a programmer. The arguments fit its row of the table
 /// (`refusal`). The function's own tests come first, and the programmer's right last. After an error or lack of
 /// memory the world is as it was. `None`, with nothing changed, for any other function.
+#[inline(always)]
 pub fn call_world(
     alloc: Global,
     function: Function,
@@ -66,6 +67,7 @@ fn is_of_world(function: Function) -> bool
     }
 }
 
+#[inline(never)]
 fn answer(
     alloc: Global,
     function: Function,

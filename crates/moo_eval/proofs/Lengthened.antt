@@ -19,20 +19,23 @@ use Rattle.moo_eval_semantics.specs.Meaning.{Evaluates, Computes, Does, begins, 
 use Rattle.moo_eval.proofs.Direct.{assigned, unassigned, performed, unperformed}
 
 -- the elements of a list with one more after them
+pub longer : {T : Telling} {c : Context} {a e : Expr} {s s1 s2 : State} {v w : Tree} (vs : List Tree) → Evaluates T c a s (Ok (list_of vs)) s1 → Evaluates T c e s1 (Ok v) s2 → made_list (vs ++ v ∷ []) ≡ Ok w → Computes T c (program.list (splice a (element e no_items))) s (Ok w) s2
+longer vs d g made = applies (splice_then d (ap Ok (trees_of-elements_of vs)) (element_then g no_more refl) refl) no_more (list_is (ap answers made))
+
 pub lengthened : {T : Telling} {c : Context} {x : List ℕ} {e : Expr} {s s1 s2 t : State} {v w : Tree} (vs : List Tree) → Evaluates T c (variable x) s (Ok (list_of vs)) s1 → Evaluates T c e s1 (Ok v) s2 → made_list (vs ++ v ∷ []) ≡ Ok w → bound (bind x w ∷ []) s2 ≡ t → IsLengthened T c x (program.list (splice (variable x) (element e no_items))) s t
 lengthened {s2 = s2} {w = w} vs d g made sets = record {
   value = w;
   between = s2;
-  computes = applies (splice_then d (ap Ok (trees_of-elements_of vs)) (element_then g no_more refl) refl) no_more (list_is (ap answers made));
+  computes = longer vs d g made;
   sets = sets;
 }
 
 -- past the limits
-pub too_long : {T : Telling} {c : Context} {x : List ℕ} {e : Expr} {s s1 s2 : State} {v : Tree} {failure : Failure} (vs : List Tree) → Evaluates T c (variable x) s (Ok (list_of vs)) s1 → Evaluates T c e s1 (Ok v) s2 → answers (made_list (vs ++ v ∷ [])) ≡ Err failure → Computes T c (program.list (splice (variable x) (element e no_items))) s (Err failure) s2
+pub too_long : {T : Telling} {c : Context} {a e : Expr} {s s1 s2 : State} {v : Tree} {failure : Failure} (vs : List Tree) → Evaluates T c a s (Ok (list_of vs)) s1 → Evaluates T c e s1 (Ok v) s2 → answers (made_list (vs ++ v ∷ [])) ≡ Err failure → Computes T c (program.list (splice a (element e no_items))) s (Err failure) s2
 too_long vs d g made = applies (splice_then d (ap Ok (trees_of-elements_of vs)) (element_then g no_more refl) refl) no_more (list_is made)
 
 -- the first part stops
-pub first_stops : {T : Telling} {c : Context} {x : List ℕ} {e : Expr} {s s' : State} {stop : Stop} → Evaluates T c (variable x) s (Err stop) s' → Computes T c (program.list (splice (variable x) (element e no_items))) s (Err (stops stop)) s'
+pub first_stops : {T : Telling} {c : Context} {a e : Expr} {s s' : State} {stop : Stop} → Evaluates T c a s (Err stop) s' → Computes T c (program.list (splice a (element e no_items))) s (Err (stops stop)) s'
 first_stops d = operands_end (splice_stops d)
 
 -- the first part is no list
@@ -43,11 +46,11 @@ unspliced (ErrorOf e) h = refl
 unspliced (Str s) h = refl
 unspliced (ListOf l) h = absurd (h l refl)
 
-pub first_fails : {T : Telling} {c : Context} {x : List ℕ} {e : Expr} {s s' : State} {v : Tree} {failure : Failure} → Evaluates T c (variable x) s (Ok v) s' → answers (spliced_of v) ≡ Err failure → Computes T c (program.list (splice (variable x) (element e no_items))) s (Err failure) s'
+pub first_fails : {T : Telling} {c : Context} {a e : Expr} {s s' : State} {v : Tree} {failure : Failure} → Evaluates T c a s (Ok v) s' → answers (spliced_of v) ≡ Err failure → Computes T c (program.list (splice a (element e no_items))) s (Err failure) s'
 first_fails d f = operands_end (splice_fails d f)
 
 -- the second part stops
-pub second_stops : {T : Telling} {c : Context} {x : List ℕ} {e : Expr} {s s1 s' : State} {stop : Stop} (vs : List Tree) → Evaluates T c (variable x) s (Ok (list_of vs)) s1 → Evaluates T c e s1 (Err stop) s' → Computes T c (program.list (splice (variable x) (element e no_items))) s (Err (stops stop)) s'
+pub second_stops : {T : Telling} {c : Context} {a e : Expr} {s s1 s' : State} {stop : Stop} (vs : List Tree) → Evaluates T c a s (Ok (list_of vs)) s1 → Evaluates T c e s1 (Err stop) s' → Computes T c (program.list (splice a (element e no_items))) s (Err (stops stop)) s'
 second_stops vs d g = operands_end (splice_then d (ap Ok (trees_of-elements_of vs)) (element_stops g) refl)
 
 -- as a statement, after a tick for the assignment and one for the list or the call

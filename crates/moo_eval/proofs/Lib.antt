@@ -13,6 +13,6 @@ mod Lengthened
 mod Placed
 mod Prepended
 mod Properties
-mod Stored
+mod Reached
 mod Ticks
 mod Updated

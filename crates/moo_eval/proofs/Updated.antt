@@ -11,7 +11,7 @@ use Rattle.moo_eval_access.specs.State.{State, bound}
 use Rattle.moo_eval_call.specs.VerbCalls.{verb_caller}
 use Rattle.moo_eval_call.specs.Updates.{MakesList, appends, inserts, adds, deletes, removes}
 use Rattle.moo_eval_call.proofs.Updates.{list_calls}
-use Rattle.moo_eval_semantics.specs.Meaning.{EvaluatesAll, applies, no_more, call_is}
+use Rattle.moo_eval_semantics.specs.Meaning.{EvaluatesAll, Computes, applies, no_more, call_is}
 use Rattle.moo_eval.specs.Growth.{IsLengthened}
 
 -- such a function calls no verb
@@ -22,11 +22,15 @@ calls_none (adds e) = refl
 calls_none (deletes e) = refl
 calls_none (removes e) = refl
 
--- the arguments are evaluated, and the variable is set to the list that is made of them
+-- the arguments are evaluated, and a list is made of them
+pub list_called : {c : Context} {name : List ℕ} {items : Items} {f : Function} {s s1 : State} {vs args : List Tree} {w : Tree} → EvaluatesAll Faults c items s (Ok vs) s1 → args ≡ vs → function_of name ≡ Some f → MakesList f args w → Computes Faults c (call name items) s (Ok w) s1
+list_called {name = name} d same f h = applies d no_more (call_is (ap verb_caller f ∙ calls_none h) (list_calls name _ _ f (rw same at h)))
+
+-- then the variable is set to it
 pub updated : {c : Context} {x name : List ℕ} {items : Items} {f : Function} {s s1 t : State} {vs args : List Tree} {w : Tree} → EvaluatesAll Faults c items s (Ok vs) s1 → args ≡ vs → function_of name ≡ Some f → MakesList f args w → bound (bind x w ∷ []) s1 ≡ t → IsLengthened Faults c x (call name items) s t
-updated {name = name} {s1 = s1} {w = w} d same f h sets = record {
+updated {s1 = s1} {w = w} d same f h sets = record {
   value = w;
   between = s1;
-  computes = applies d no_more (call_is (ap verb_caller f ∙ calls_none h) (list_calls name _ _ f (rw same at h)));
+  computes = list_called d same f h;
   sets = sets;
 }

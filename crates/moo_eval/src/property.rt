@@ -167,7 +167,7 @@ impl Task {
         let base = self.evaluate(world, active, stack, None, base)?;
         if let Some(name) = as_text(name) {
             self.take_tick(active, stack)?;
-            let value = self.evaluate(world, active, stack, None, value)?;
+            let value = self.evaluate_to_set(world, active, stack, &base, name, value)?;
             return write_written(world, active.programmer, &base, name, value);
         }
         let name = self.evaluate(world, active, stack, None, name)?;

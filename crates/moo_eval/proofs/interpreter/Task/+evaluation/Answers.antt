@@ -1,4 +1,4 @@
-use Rattle.std.proofs.Common.{not, ⊎_elim, ◌∷◌, [], Ok, Err, refl, sym, ap, subst, ◌∙◌, arith, rules, Some, None, ◌+◌, drop, map}
+use Rattle.std.proofs.Common.{not, ⊎_elim, ◌∷◌, ◌++◌, [], Ok, Err, refl, sym, ap, subst, ◌∙◌, arith, rules, Some, None, ◌+◌, drop, map}
 use Rattle.std.proofs.lemmas.Result.{IfOk-weaker, err_from_is_err_and, on_ok_weaker}
 use Rattle.std.proofs.lemmas.List.{append-nil}
 use Rattle.std.proofs.lemmas.Int.{to_z-of_z}
@@ -21,13 +21,18 @@ use Rattle.moo_eval.proofs.Caught.{guards_end, attempt_stops, attempt_gives, att
 use Rattle.moo_syntax_ast.specs.Tree as program
 use Rattle.moo_syntax_ast.specs.declared.operator.BinaryOperator.TheVariants.{Add}
 use Rattle.moo_syntax_ast.specs.Tree.{variable, binary, splice, element, no_items}
-use Rattle.moo_eval.proofs.Lengthened.{lengthened, too_long, first_stops, first_fails, unspliced, second_stops, set_longer, set_error, not_set}
+use Rattle.moo_eval.proofs.Lengthened.{lengthened, longer, too_long, first_stops, first_fails, unspliced, second_stops, set_longer, set_error, not_set}
 use Rattle.moo_eval.proofs.Prepended as front
 use Rattle.moo_eval.specs.Element.{sets_place}
 use Rattle.moo_eval.proofs.Placed.{put, does_from, not_put, unheld, place_ends, value_ends, put_alone, passed_over, stopped}
 use Rattle.moo_eval.proofs.Direct.{assigned, unassigned, performed, unperformed, literal_read}
 use Rattle.moo_eval.proofs.Extended.{extended, unextended}
-use Rattle.moo_eval.proofs.Updated.{updated}
+use Rattle.moo_eval.proofs.Updated.{updated, list_called}
+use Rattle.moo_eval.proofs.Reached.{reached_by, value_reached, value_stopped, answer_reached, answer_failed, put_reached, known_put, known_refused, part_stored, object_stops_part, name_stops_part, unread_part, place_stops_part, value_stops_part, part_put}
+use Rattle.moo_builtin_operator.proofs.Lawful.{limited_within}
+use Rattle.moo_eval_access.proofs.Longer.{is_quota}
+use Rattle.moo_value.specs.Tree.{list_of}
+use Rattle.std.proofs.lemmas.Bool.{false≢true}
 use Rattle.moo_eval.proofs.Properties as property
 use Rattle.moo_builtin_operator.specs.Truth.{is_true, truth_value}
 use Rattle.moo_eval.proofs.Passing.{undecided, decided, operand_stops, negated, not_stops, truth_of, if_err}
@@ -1085,15 +1090,15 @@ put_property-returns-in_err-take_tick-clause-err t c =
 
 pub put_property-returns-in_err-value-clause-err : goal.put_property-returns-in_err-value-clause-err
 put_property-returns-in_err-value-clause-err t c =
-    let p = err_from_is_err_and c.from_residual-in_err-value.result c.from_residual-in_err-value.ensures.1 in rw (p.1, p.2) (λ k. rw c.in-Some.ensures (property.value_stops_put (c.in_ok-base.ensures.meaning tt) (literal_read c.in_ok-take_tick.ensures.taken) (rw c.in_ok-take_tick.ensures.left at (c.in_err-value.ensures.meaning k))))
+    let p = err_from_is_err_and c.from_residual-in_err-value.result c.from_residual-in_err-value.ensures.1 in rw (p.1, p.2) (λ k. rw c.in-Some.ensures (property.value_stops_put (c.in_ok-base.ensures.meaning tt) (literal_read c.in_ok-take_tick.ensures.taken) (rw c.in_ok-take_tick.ensures.left at (c.in_err-value.ensures.err k))))
 
 pub put_property-returns-in-Some-clause-ok : goal.put_property-returns-in-Some-clause-ok
 put_property-returns-in-Some-clause-ok t c =
-    rw c.in-Some.ensures (property.value_put _ c.write_written.result (property.put (c.in_ok-base.ensures.meaning tt) (literal_read c.in_ok-take_tick.ensures.taken) (rw c.in_ok-take_tick.ensures.left at (c.in_ok-value.ensures.meaning tt)) (let f : SFits w32 c.evaluate-in-Some.new.active.programmer = search rules in property_put _ (rw (to_z-of_z w32 c.evaluate-in-Some.new.active.programmer f) at c.write_written.ensures.world) c.write_written.ensures.kept) refl))
+    rw c.in-Some.ensures (property.value_put _ c.write_written.result (let f : SFits w32 c.evaluate_to_set.new.active.programmer = search rules in put_reached c.write_written.result (c.in_ok-base.ensures.meaning tt) (literal_read c.in_ok-take_tick.ensures.taken) (rw c.in_ok-take_tick.ensures.left at c.in_ok-value.ensures.ok) (rw (to_z-of_z w32 c.evaluate_to_set.new.active.programmer f) at c.write_written.ensures.world) c.write_written.ensures.kept))
 
 pub put_property-returns-in-Some-clause-err : goal.put_property-returns-in-Some-clause-err
 put_property-returns-in-Some-clause-err t c =
-    rw c.in-Some.ensures (property.value_refused _ c.write_written.result (property.put (c.in_ok-base.ensures.meaning tt) (literal_read c.in_ok-take_tick.ensures.taken) (rw c.in_ok-take_tick.ensures.left at (c.in_ok-value.ensures.meaning tt)) (let f : SFits w32 c.evaluate-in-Some.new.active.programmer = search rules in property_put _ (rw (to_z-of_z w32 c.evaluate-in-Some.new.active.programmer f) at c.write_written.ensures.world) c.write_written.ensures.kept) refl))
+    rw c.in-Some.ensures (property.value_refused _ c.write_written.result (let f : SFits w32 c.evaluate_to_set.new.active.programmer = search rules in put_reached c.write_written.result (c.in_ok-base.ensures.meaning tt) (literal_read c.in_ok-take_tick.ensures.taken) (rw c.in_ok-take_tick.ensures.left at c.in_ok-value.ensures.ok) (rw (to_z-of_z w32 c.evaluate_to_set.new.active.programmer f) at c.write_written.ensures.world) c.write_written.ensures.kept))
 
 pub put_property-returns-in_err-name-clause-err : goal.put_property-returns-in_err-name-clause-err
 put_property-returns-in_err-name-clause-err t c =
@@ -1268,3 +1273,146 @@ attempt-returns-in-Err-clause-meaning t c =
 pub attempt-returns-in_err-take_tick-clause-meaning : goal.attempt-returns-in_err-take_tick-clause-meaning
 attempt-returns-in_err-take_tick-clause-meaning t c =
     let p = err_from_is_err_and c.from_residual.result c.from_residual.ensures.1 in rw (p.1, p.2) (λ k. let h = c.in_err-take_tick.ensures.spent k in rw (c.in_err-take_tick.ensures.kept, ← c.in_default.ensures.none) (attempt_spent h.1 h.0))
+
+pub set_property_element-returns-in_ok-_error-in-Err-clause-meaning : goal.set_property_element-returns-in_ok-_error-in-Err-clause-meaning
+set_property_element-returns-in_ok-_error-in-Err-clause-meaning t c =
+    λ k. passed_over c.in_ok-take_tick.ensures.taken (rw c.in_ok-take_tick.ensures.left at (c.in-Err.ensures.err (c.in_ok-_error-in-Err.ensures.known tt))) (c.in_ok-_error-in-Err.ensures.outcome tt)
+
+pub set_property_element-returns-in_err-_error-in-Err-clause-meaning : goal.set_property_element-returns-in_err-_error-in-Err-clause-meaning
+set_property_element-returns-in_err-_error-in-Err-clause-meaning t c =
+    let p = err_from_is_err_and c.from_residual-in_err-_error-in-Err.result c.from_residual-in_err-_error-in-Err.ensures.1 in rw (p.1, p.2) (λ k. stopped c.in_ok-take_tick.ensures.taken (rw c.in_ok-take_tick.ensures.left at (c.in-Err.ensures.err (c.in_err-_error-in-Err.ensures.known k))) (c.in_err-_error-in-Err.ensures.outcome k))
+
+pub set_property_element-returns-in_err-take_tick-clause-meaning : goal.set_property_element-returns-in_err-take_tick-clause-meaning
+set_property_element-returns-in_err-take_tick-clause-meaning t c =
+    let p = err_from_is_err_and c.from_residual.result c.from_residual.ensures.1 in rw (p.1, p.2) (λ k. let h = c.in_err-take_tick.ensures.spent k in rw (c.in_err-take_tick.ensures.kept, h.1) (evaluates (spent h.0) refl))
+
+pub set_property_element-returns-in-Ok-clause-meaning : goal.set_property_element-returns-in-Ok-clause-meaning
+set_property_element-returns-in-Ok-clause-meaning t c =
+    λ k. performed c.in_ok-take_tick.ensures.taken (rw c.in_ok-take_tick.ensures.left at c.in-Ok.ensures.ok.1)
+
+pub put_property_element-returns-in_err-base-clause-err : goal.put_property_element-returns-in_err-base-clause-err
+put_property_element-returns-in_err-base-clause-err t c =
+    let p = err_from_is_err_and c.from_residual.result c.from_residual.ensures.1 in rw (p.1, p.2) (λ k. object_stops_part (c.in_err-base.ensures.meaning k))
+
+pub put_property_element-returns-in_err-take_tick-clause-err : goal.put_property_element-returns-in_err-take_tick-clause-err
+put_property_element-returns-in_err-take_tick-clause-err t c =
+    let p = err_from_is_err_and c.from_residual-in_err-take_tick.result c.from_residual-in_err-take_tick.ensures.1 in rw (p.1, p.2) (λ k. let h = c.in_err-take_tick.ensures.spent k in rw (c.in_err-take_tick.ensures.kept, h.1) (name_stops_part (c.in_ok-base.ensures.meaning tt) (spent h.0)))
+
+pub put_property_element-returns-in_err-container-clause-err : goal.put_property_element-returns-in_err-container-clause-err
+put_property_element-returns-in_err-container-clause-err t c =
+    let p = err_from_is_err_and c.from_residual-in_err-container.result c.from_residual-in_err-container.ensures.1 in rw (p.1, p.2) (λ k. let f : SFits w32 c.evaluate.new.active.programmer = search rules in rw c.in_ok-take_tick.ensures.left (unread_part (c.in_ok-base.ensures.meaning tt) (literal_read c.in_ok-take_tick.ensures.taken) (rw (to_z-of_z w32 c.evaluate.new.active.programmer f) at (c.in_err-container.ensures.value k))))
+
+pub put_property_element-returns-in_err-place-clause-err : goal.put_property_element-returns-in_err-place-clause-err
+put_property_element-returns-in_err-place-clause-err t c =
+    let p = err_from_is_err_and c.from_residual-in_err-place.result c.from_residual-in_err-place.ensures.1 in rw (p.1, p.2) (λ k. let f : SFits w32 c.evaluate.new.active.programmer = search rules in place_stops_part (c.in_ok-base.ensures.meaning tt) (literal_read c.in_ok-take_tick.ensures.taken) (rw (to_z-of_z w32 c.evaluate.new.active.programmer f) at (c.in_ok-container.ensures.value tt)) (rw c.in_ok-take_tick.ensures.left at (c.in_err-place.ensures.meaning k)))
+
+pub put_property_element-returns-in_err-value-clause-err : goal.put_property_element-returns-in_err-value-clause-err
+put_property_element-returns-in_err-value-clause-err t c =
+    let p = err_from_is_err_and c.from_residual-in_err-value.result c.from_residual-in_err-value.ensures.1 in rw (p.1, p.2) (λ k. let f : SFits w32 c.evaluate.new.active.programmer = search rules in value_stops_part (c.in_ok-base.ensures.meaning tt) (literal_read c.in_ok-take_tick.ensures.taken) (rw (to_z-of_z w32 c.evaluate.new.active.programmer f) at (c.in_ok-container.ensures.value tt)) (rw c.in_ok-take_tick.ensures.left at (c.in_ok-place.ensures.meaning tt)) (c.in_err-value.ensures.meaning k))
+
+pub put_property_element-returns-clause-ok : goal.put_property_element-returns-clause-ok
+put_property_element-returns-clause-ok t c =
+    known_put (tree c.in_ok-value.value) c.set_property_at.result (λ k. let f : SFits w32 c.evaluate.new.active.programmer = search rules in let g : SFits w32 c.evaluate-3.new.active.programmer = search rules in part_put (c.in_ok-base.ensures.meaning tt) (literal_read c.in_ok-take_tick.ensures.taken) (rw (to_z-of_z w32 c.evaluate.new.active.programmer f) at (c.in_ok-container.ensures.value tt)) (rw c.in_ok-take_tick.ensures.left at (c.in_ok-place.ensures.meaning tt)) (c.in_ok-value.ensures.meaning tt) (part_stored _ c.set_property_at.result refl (rw (to_z-of_z w32 c.evaluate-3.new.active.programmer g) at (c.set_property_at.ensures.world k)) c.set_property_at.ensures.kept k))
+
+pub put_property_element-returns-clause-err : goal.put_property_element-returns-clause-err
+put_property_element-returns-clause-err t c =
+    known_refused (tree c.in_ok-value.value) c.set_property_at.result (λ k. let f : SFits w32 c.evaluate.new.active.programmer = search rules in let g : SFits w32 c.evaluate-3.new.active.programmer = search rules in part_put (c.in_ok-base.ensures.meaning tt) (literal_read c.in_ok-take_tick.ensures.taken) (rw (to_z-of_z w32 c.evaluate.new.active.programmer f) at (c.in_ok-container.ensures.value tt)) (rw c.in_ok-take_tick.ensures.left at (c.in_ok-place.ensures.meaning tt)) (c.in_ok-value.ensures.meaning tt) (part_stored _ c.set_property_at.result refl (rw (to_z-of_z w32 c.evaluate-3.new.active.programmer g) at (c.set_property_at.ensures.world k)) c.set_property_at.ensures.kept k))
+
+pub evaluate_to_set-returns-clause-ok : goal.evaluate_to_set-returns-clause-ok
+evaluate_to_set-returns-clause-ok t c =
+    value_reached _ _ c.evaluate.result c.evaluate.ensures.meaning
+
+pub evaluate_to_set-returns-clause-err : goal.evaluate_to_set-returns-clause-err
+evaluate_to_set-returns-clause-err t c =
+    value_stopped c.evaluate.result c.evaluate.ensures.meaning
+
+pub evaluate_changed-returns-in-Ok-clause-ok : goal.evaluate_changed-returns-in-Ok-clause-ok
+evaluate_changed-returns-in-Ok-clause-ok t c =
+    reached_by (λ u h. begins c.in_ok-take_tick.ensures.taken h refl) (rw c.in_ok-take_tick.ensures.left at c.in-Ok.ensures.ok)
+
+pub evaluate_changed-returns-in-Err-clause-ok : goal.evaluate_changed-returns-in-Err-clause-ok
+evaluate_changed-returns-in-Err-clause-ok t c =
+    value_reached _ _ c.settled.result (λ k. begins c.in_ok-take_tick.ensures.taken (rw c.in_ok-take_tick.ensures.left at (c.in-Err.ensures.err (c.settled.ensures.known k))) (c.settled.ensures.outcome k))
+
+pub evaluate_changed-returns-in-Err-clause-err : goal.evaluate_changed-returns-in-Err-clause-err
+evaluate_changed-returns-in-Err-clause-err t c =
+    value_stopped c.settled.result (λ k. begins c.in_ok-take_tick.ensures.taken (rw c.in_ok-take_tick.ensures.left at (c.in-Err.ensures.err (c.settled.ensures.known k))) (c.settled.ensures.outcome k))
+
+pub evaluate_changed-returns-in_err-take_tick-clause-err : goal.evaluate_changed-returns-in_err-take_tick-clause-err
+evaluate_changed-returns-in_err-take_tick-clause-err t c =
+    let p = err_from_is_err_and c.from_residual.result c.from_residual.ensures.1 in rw (p.1, p.2) (λ k. let h = c.in_err-take_tick.ensures.spent k in rw (c.in_err-take_tick.ensures.kept, h.1) (spent h.0))
+
+pub compute_changed-returns-clause-ok : goal.compute_changed-returns-clause-ok
+compute_changed-returns-clause-ok t c =
+    answer_reached _ _ c.compute.result c.compute.ensures.meaning
+
+pub compute_changed-returns-clause-err : goal.compute_changed-returns-clause-err
+compute_changed-returns-clause-err t c =
+    answer_failed c.compute.result c.compute.ensures.meaning
+
+pub compute_longer-returns-in_err-found-clause-err : goal.compute_longer-returns-in_err-found-clause-err
+compute_longer-returns-in_err-found-clause-err t c =
+    let p = err_from_is_err_and c.from_residual.result c.from_residual.ensures.1 in rw (p.1, p.2) (λ k. first_stops (c.in_err-found.ensures.meaning k))
+
+pub compute_longer-returns-in_default-clause-err : goal.compute_longer-returns-in_default-clause-err
+compute_longer-returns-in_default-clause-err t c =
+    λ k. first_fails (c.in_ok-found.ensures.meaning tt) (unspliced _ c.in_default.not-List)
+
+pub compute_longer-returns-in_err-last-clause-err : goal.compute_longer-returns-in_err-last-clause-err
+compute_longer-returns-in_err-last-clause-err t c =
+    let p = err_from_is_err_and c.from_residual-in_err-last.result c.from_residual-in_err-last.ensures.1 in rw (p.1, p.2) (λ k. second_stops c.in-List.list (rw c.in-List.is at (c.in_ok-found.ensures.meaning tt)) (c.in_err-last.ensures.meaning k))
+
+pub compute_longer-returns-then-not-has_room_for-clause-err : goal.compute_longer-returns-then-not-has_room_for-clause-err
+compute_longer-returns-then-not-has_room_for-clause-err t c =
+    λ k. too_long c.in-List.list (rw c.in-List.is at (c.in_ok-found.ensures.meaning tt)) (c.in_ok-last.ensures.meaning tt) (is_quota _ (λ limits. false≢true (sym c.if-not-has_room_for.true ∙ c.has_room_for.ensures.last.1 limits)))
+
+pub compute_longer-returns-clause-ok : goal.compute_longer-returns-clause-ok
+compute_longer-returns-clause-ok t c =
+    let all = list_of (c.in-List.list ++ tree c.in_ok-last.last ∷ []) in
+    let made = limited_within all (c.has_room_for.ensures.last.0 c.if-not-has_room_for.false) in
+    let f : SFits w32 c.evaluate-2.new.active.programmer = search rules in
+    rw c.in_ok-longer.ensures (record { between = c.evaluate-2.new.world; holds = longer c.in-List.list (rw c.in-List.is at (c.in_ok-found.ensures.meaning tt)) (c.in_ok-last.ensures.meaning tt) made; alike = rw (to_z-of_z w32 c.evaluate-2.new.active.programmer f) at c.drop_written.ensures })
+
+pub compute_prepended-returns-in_err-first-clause-err : goal.compute_prepended-returns-in_err-first-clause-err
+compute_prepended-returns-in_err-first-clause-err t c =
+    let p = err_from_is_err_and c.from_residual.result c.from_residual.ensures.1 in rw (p.1, p.2) (λ k. front.first_stops (c.in_err-first.ensures.meaning k))
+
+pub compute_prepended-returns-in_err-found-clause-err : goal.compute_prepended-returns-in_err-found-clause-err
+compute_prepended-returns-in_err-found-clause-err t c =
+    let p = err_from_is_err_and c.from_residual-in_err-found.result c.from_residual-in_err-found.ensures.1 in rw (p.1, p.2) (λ k. front.second_stops (c.in_ok-first.ensures.meaning tt) (c.in_err-found.ensures.meaning k))
+
+pub compute_prepended-returns-in_default-clause-err : goal.compute_prepended-returns-in_default-clause-err
+compute_prepended-returns-in_default-clause-err t c =
+    λ k. front.second_fails (c.in_ok-first.ensures.meaning tt) (c.in_ok-found.ensures.meaning tt) (unspliced _ c.in_default.not-List)
+
+pub compute_prepended-returns-then-not-has_room_for-clause-err : goal.compute_prepended-returns-then-not-has_room_for-clause-err
+compute_prepended-returns-then-not-has_room_for-clause-err t c =
+    λ k. front.too_long c.in-List.list (c.in_ok-first.ensures.meaning tt) (rw c.in-List.is at (c.in_ok-found.ensures.meaning tt)) (is_quota (tree c.in_ok-first.first ∷ c.in-List.list) (λ limits. false≢true (sym c.if-not-has_room_for.true ∙ c.has_room_for.ensures.first.1 limits)))
+
+pub compute_prepended-returns-clause-ok : goal.compute_prepended-returns-clause-ok
+compute_prepended-returns-clause-ok t c =
+    let all = list_of (tree c.in_ok-first.first ∷ c.in-List.list) in
+    let made = limited_within all (c.has_room_for.ensures.first.0 c.if-not-has_room_for.false) in
+    let f : SFits w32 c.evaluate-2.new.active.programmer = search rules in
+    rw c.in_ok-longer.ensures (record { between = c.evaluate-2.new.world; holds = front.longer c.in-List.list (c.in_ok-first.ensures.meaning tt) (rw c.in-List.is at (c.in_ok-found.ensures.meaning tt)) made; alike = rw (to_z-of_z w32 c.evaluate-2.new.active.programmer f) at c.drop_written.ensures })
+
+pub compute_call-returns-in_err-values-clause-err : goal.compute_call-returns-in_err-values-clause-err
+compute_call-returns-in_err-values-clause-err t c =
+    let p = err_from_is_err_and c.from_residual.result c.from_residual.ensures.1 in rw (p.1, p.2) (λ k. operands_end (c.in_err-values.ensures.meaning k))
+
+pub compute_call-returns-then-has_list-clause-ok : goal.compute_call-returns-then-has_list-clause-ok
+compute_call-returns-then-has_list-clause-ok t c =
+    let f : SFits w32 c.evaluate_all.new.active.programmer = search rules in
+    record {
+      between = c.evaluate_all.new.world;
+      holds = list_called (c.in_ok-values.ensures.meaning tt) (ap trees c.deref_mut.ensures.value ∙ c.in_ok-args.ensures) (sym c.function.ensures ∙ c.in-Some.is) c.in_ok-made.ensures;
+      alike = rw (to_z-of_z w32 c.evaluate_all.new.active.programmer f) at c.drop_written.ensures;
+    }
+
+pub compute_call-returns-clause-ok : goal.compute_call-returns-clause-ok
+compute_call-returns-clause-ok t c =
+    answer_reached _ _ c.call_with.result (λ k. applies (c.in_ok-values.ensures.meaning tt) no_more (rw (c.of-values.ensures, c.in_ok-args.ensures) at (c.call_with.ensures.meaning None (source_items c.args.items.now) k)))
+
+pub compute_call-returns-clause-err : goal.compute_call-returns-clause-err
+compute_call-returns-clause-err t c =
+    answer_failed c.call_with.result (λ k. applies (c.in_ok-values.ensures.meaning tt) no_more (rw (c.of-values.ensures, c.in_ok-args.ensures) at (c.call_with.ensures.meaning None (source_items c.args.items.now) k)))

@@ -253,11 +253,38 @@ decreases-set_property l = 16 * l.self.now.ticks_left
 abbrev pub decreases-put_property : goal.decreases-put_property
 decreases-put_property l = 16 * l.self.now.ticks_left + 4
 
+abbrev pub decreases-set_property_element : goal.decreases-set_property_element
+decreases-set_property_element l = 16 * l.self.now.ticks_left
+
+abbrev pub decreases-put_property_element : goal.decreases-put_property_element
+decreases-put_property_element l = 16 * l.self.now.ticks_left + 4
+
+abbrev pub decreases-evaluate_to_set : goal.decreases-evaluate_to_set
+decreases-evaluate_to_set l = 16 * l.self.now.ticks_left + 5
+
+abbrev pub decreases-evaluate_changed : goal.decreases-evaluate_changed
+decreases-evaluate_changed l = 16 * l.self.now.ticks_left + 4
+
+abbrev pub decreases-compute_changed : goal.decreases-compute_changed
+decreases-compute_changed l = 16 * l.self.now.ticks_left + 13
+
+abbrev pub decreases-compute_longer : goal.decreases-compute_longer
+decreases-compute_longer l = 16 * l.self.now.ticks_left + 4
+
+abbrev pub decreases-compute_prepended : goal.decreases-compute_prepended
+decreases-compute_prepended l = 16 * l.self.now.ticks_left + 4
+
+abbrev pub decreases-compute_call : goal.decreases-compute_call
+decreases-compute_call l = 16 * l.self.now.ticks_left + 11
+
 abbrev pub decreases-scatter_alone : goal.decreases-scatter_alone
 decreases-scatter_alone l = 16 * l.self.now.ticks_left
 
 abbrev pub decreases-drop_value : goal.decreases-drop_value
 decreases-drop_value l = 16 * l.self.now.ticks_left + 4
+
+abbrev pub decreases-evaluate_or_put : goal.decreases-evaluate_or_put
+decreases-evaluate_or_put l = 16 * l.self.now.ticks_left + 6
 
 abbrev pub decreases-evaluate_alone : goal.decreases-evaluate_alone
 decreases-evaluate_alone l = 16 * l.self.now.ticks_left + 7

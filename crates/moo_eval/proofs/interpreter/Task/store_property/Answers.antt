@@ -1,11 +1,11 @@
-use Rattle.std.proofs.Common.{Ok, Err, sym, refl, w32, rules}
+use Rattle.std.proofs.Common.{w32, rules}
 use Rattle.std.proofs.lemmas.Int.{to_z-of_z}
 use Rattle.std.proofs.lemmas.Result.{err_from_is_err_and}
 use mir.Val.{SFits}
 use Rattle.moo_value.specs.View.{tree}
 use Rattle.moo_eval_access.proofs.Written.{unchanged_alike}
 use Rattle.moo_eval_semantics.specs.Meaning.{no_store}
-use Rattle.moo_eval.proofs.Stored.{taken_rebuilt, whole_stored}
+use Rattle.moo_eval.proofs.Reached.{taken_rebuilt, whole_stored}
 use Rattle.moo_eval.proofs.interpreter.Task.store_property.Goals as goal
 use Rattle.moo_eval.proofs.interpreter.Task.store_property.Goals.{then-takes_value, else-takes_value}
 

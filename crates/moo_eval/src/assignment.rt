@@ -15,8 +15,8 @@ ghost use Rattle.moo_eval_access.specs.SeenTarget.{root_seen, step_of, steps_of,
 
 use crate::interpreter::Task;
 use moo_eval_access::{
-    Path, Places, Root, Spot, Step, as_property, drop_property, push_step, rebuilt, root_alone,
-    set_variable, taken_apart, takes_value, write_property,
+    Path, Places, Root, Spot, Step, as_property, drop_property, is_taken, push_step, rebuilt,
+    root_alone, set_variable, taken_apart, write_property,
 };
 use moo_eval_frame::{Activation, CallStack, Failure, Flow, Stop};
 use moo_eval_integer::try_set_arithmetic;
@@ -275,7 +275,7 @@ impl Task {
     ) -> Result<(), Failure>
         ensures { (c : Context) → IsKnownFailure result → Stores Faults c (owned (value_tree base.now) (value_tree name.now)) (steps_of steps.items) (value_tree value) (state_of self.now world.old active.now) (seen_done result) (state_of self.now world.new active.now) }
     {
-        if takes_value(&steps, &value) {
+        if is_taken(&steps, &value) {
             drop_property(world, active.programmer, base, name);
         }
         let whole = rebuilt(self.alloc(), steps, value)?;

@@ -13,7 +13,7 @@ ghost use Rattle.moo_eval.specs.Seen.{state_of};
 
 use crate::interpreter::Task;
 use moo_eval_access::{drop_written, has_room_for, prepended, pushed};
-use moo_eval_call::{has_list, list_made};
+use moo_eval_call::{has_list, make_list};
 use moo_eval_frame::{Activation, CallStack, Failure, Gathered, Stop};
 use moo_syntax_ast::Text;
 use moo_syntax_lower::{FunctionName, Node, NodeItem};
@@ -178,7 +178,7 @@ impl Task {
         if let Some(function) = called.function() {
             if has_list(function, &args) {
                 drop_written(world, active.programmer, base, name);
-                let made = list_made(self.alloc(), function, &mut args)?;
+                let made = make_list(self.alloc(), function, &mut args)?;
                 self.spare.keep_values(args);
                 return Ok(made);
             }

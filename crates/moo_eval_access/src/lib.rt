@@ -23,7 +23,7 @@ pub use object::{
 };
 pub use place::{set_at, set_property_at};
 pub use target::{
-    Path, Places, Root, Spot, Step, Target, as_property, push_step, rebuilt, root_alone,
-    set_variable, taken_apart, takes_value,
+    Path, Places, Root, Spot, Step, Target, as_property, is_taken, push_step, rebuilt, root_alone,
+    set_variable, taken_apart,
 };
 pub use verb_name::VerbName;

@@ -181,7 +181,7 @@ pub fn rebuilt(alloc: Global, steps: Vec<Step>, value: Value) -> Result<Value, F
 }
 
 /// Is true if `rebuilt` raises nothing for the value at the end of one step to an element. False for other steps.
-pub fn takes_value(steps: &[Step], value: &Value) -> bool
+pub fn is_taken(steps: &[Step], value: &Value) -> bool
     ensures { IsTrue result → IsTrue (is_ok (rebuilt (steps_of steps.now) (Ok (tree value.now)))) }
 {
     let [step] = steps else {

@@ -30,5 +30,5 @@ pub use evaluating::typed_frame;
 pub use progress::{Progress, Stage};
 pub use stages::resume_call;
 pub use ticks::{MOST_TICKS, Ticks};
-pub use update::{has_list, list_made, set_list};
+pub use update::{has_list, make_list, set_list};
 pub use verb_call::{start_call, verb_caller};

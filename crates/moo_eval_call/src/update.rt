@@ -29,14 +29,14 @@ pub fn set_list(
     ensures { OnOk result ((w : Tree) × MakesList function (trees args.old) w × (variables_of variables.new ≡ with_variable (variables_of variables.old) (bind name.now w))) }
 {
     variables.set(name, Value::Int(0))?;
-    let list = list_made(alloc, function, args)?;
+    let list = make_list(alloc, function, args)?;
     variables.set(name, list)?;
     Ok(())
 }
 
 /// Returns the list that a function makes of these arguments, of which `has_list` holds. A first argument that nothing
 /// else shares is changed in place. Err is out of memory.
-pub fn list_made(alloc: Global, function: Function, args: &mut [Value]) -> Result<Value, AllocError>
+pub fn make_list(alloc: Global, function: Function, args: &mut [Value]) -> Result<Value, AllocError>
     requires { HasList function (trees args.old) }
     ensures { IfOk result (λ v. MakesList function (trees args.old) (tree v)) }
 {

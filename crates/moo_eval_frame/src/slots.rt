@@ -126,12 +126,12 @@ impl Slots {
 
     /// Replaces an integer in the list in a slot by another if nothing else shares the list, and returns whether it did.
     #[inline(always)]
-    pub(crate) fn put_element(&mut self, slot: usize, index: usize, number: i32) -> bool
+    pub(crate) fn try_put_element(&mut self, slot: usize, index: usize, number: i32) -> bool
         requires { IsSlot self.old slot }
         ensures put { IsTrue result → (ts : List Tree) × (get_or self.old.values slot None ≡ Some (ListOf ts)) × (index < length ts) × IsWithinLimits (list_of (set ts index (integer number))) × (self.new ≡ with_held self.old slot (ListOf (set ts index (integer number)))) }
         ensures kept { IsFalse result → self.new ≡ self.old }
     {
-        put_element(&mut self.values, slot, index, number)
+        try_put_element(&mut self.values, slot, index, number)
     }
 }
 
@@ -178,7 +178,7 @@ fn sum(a: i32, b: i32) -> i32
 
 // Replaces an integer in the list in a slot by another if nothing else shares the list, and returns whether it did.
 #[inline(always)]
-fn put_element(values: &mut Vec<Option<Value>>, slot: usize, index: usize, number: i32) -> bool
+fn try_put_element(values: &mut Vec<Option<Value>>, slot: usize, index: usize, number: i32) -> bool
     requires { slot < length values.old.items }
     ensures put { IsTrue result → (ts : List Tree) × (get_or values.old.items slot None ≡ Some (ListOf ts)) × (index < length ts) × IsWithinLimits (list_of (set ts index (integer number))) × (values.new.items ≡ set values.old.items slot (Some (ListOf (set ts index (integer number))))) }
     ensures kept { IsFalse result → values.new.items ≡ values.old.items }

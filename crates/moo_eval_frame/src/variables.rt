@@ -124,12 +124,12 @@ impl Variables {
     /// Replaces an integer in the list in a variable by another if nothing else shares the list, and returns whether it
     /// did. It doesn't if the variable's slot isn't known.
     #[inline(always)]
-    pub fn put_element(&mut self, name: &Name, index: usize, number: i32) -> bool
+    pub fn try_put_element(&mut self, name: &Name, index: usize, number: i32) -> bool
         ensures put { IsTrue result → (ts : List Tree) × (variables_of self.old (folded name.now) ≡ Some (list_of ts)) × (index < length ts) × IsWithinLimits (list_of (set ts index (integer number))) × (variables_of self.new ≡ with_variable (variables_of self.old) (bind name.now (list_of (set ts index (integer number))))) }
         ensures kept { IsFalse result → variables_of self.new ≡ variables_of self.old }
     {
         match self.own.known_slot(name) {
-            Some(slot) => self.own.put_element(slot, index, number),
+            Some(slot) => self.own.try_put_element(slot, index, number),
             None => false,
         }
     }

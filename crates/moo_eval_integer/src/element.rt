@@ -128,7 +128,7 @@ pub fn try_put_integer(
     let Some(index) = elements_before(place) else {
         return false;
     };
-    active.variables.put_element(name, index, number)
+    active.variables.try_put_element(name, index, number)
 }
 
 // Returns how many elements come before a place. `None` if the place is below 1.

@@ -10,7 +10,7 @@ returns-clause-put c = λ t.
     let place : SFits w32 c.in-Some.place = search rules in
     let number : SFits w32 c.in-Some-integer_of.number = search rules in
     let index : c.in-Some.place ≡ pos (suc c.in-Some-elements_before.index) = rw (to_z-of_z w32 c.in-Some.place place) at c.in-Some-elements_before.ensures in
-    let p = simp (to_z-of_z w32 c.in-Some-integer_of.number number) at (c.put_element.ensures.put t) in
+    let p = simp (to_z-of_z w32 c.in-Some-integer_of.number number) at (c.try_put_element.ensures.put t) in
     let new = list_of (set p.0 c.in-Some-elements_before.index (integer c.in-Some-integer_of.number)) in
     let made = list_takes p.0 c.in-Some.place c.in-Some-integer_of.number c.in-Some-elements_before.index index p.2 p.3 in
     record {

@@ -7,20 +7,20 @@ use Rattle.moo_eval_access.proofs.Written.{unchanged_alike}
 use Rattle.moo_eval_semantics.specs.Meaning.{no_store}
 use Rattle.moo_eval.proofs.Reached.{taken_rebuilt, whole_stored}
 use Rattle.moo_eval.proofs.interpreter.Task.store_property.Goals as goal
-use Rattle.moo_eval.proofs.interpreter.Task.store_property.Goals.{then-takes_value, else-takes_value}
+use Rattle.moo_eval.proofs.interpreter.Task.store_property.Goals.{then-is_taken, else-is_taken}
 
 pub returns-in_err-whole : goal.returns-in_err-whole
 returns-in_err-whole c =
     let p = err_from_is_err_and c.from_residual.result c.from_residual.ensures.1 in
-    rw (p.1, p.2) (elim c.if-takes_value.branch [
-      | then-takes_value w ↦ λ k m. taken_rebuilt _ (rw c.deref.ensures.value at (c.takes_value.ensures w.if-takes_value.true)) (c.in_err-whole.ensures m)
-      | else-takes_value w ↦ λ k m. rw w.world-is (no_store (c.in_err-whole.ensures m))
+    rw (p.1, p.2) (elim c.if-is_taken.branch [
+      | then-is_taken w ↦ λ k m. taken_rebuilt _ (rw c.deref.ensures.value at (c.is_taken.ensures w.if-is_taken.true)) (c.in_err-whole.ensures m)
+      | else-is_taken w ↦ λ k m. rw w.world-is (no_store (c.in_err-whole.ensures m))
     ])
 
 pub returns : goal.returns
 returns c =
     let f : SFits w32 c.args.active.now.programmer = search rules in
-    elim c.if-takes_value.branch [
-      | then-takes_value w ↦ λ k m. whole_stored (tree c.in_ok-whole.whole) c.write_property.result (rw (← w.world-is, to_z-of_z w32 c.args.active.now.programmer f) at w.drop_property.ensures) (c.in_ok-whole.ensures tt) (rw (to_z-of_z w32 c.args.active.now.programmer f) at c.write_property.ensures.world) c.write_property.ensures.kept m
-      | else-takes_value w ↦ λ k m. whole_stored (tree c.in_ok-whole.whole) c.write_property.result (unchanged_alike _ _ _ _ _ w.world-is) (c.in_ok-whole.ensures tt) (rw (to_z-of_z w32 c.args.active.now.programmer f) at c.write_property.ensures.world) c.write_property.ensures.kept m
+    elim c.if-is_taken.branch [
+      | then-is_taken w ↦ λ k m. whole_stored (tree c.in_ok-whole.whole) c.write_property.result (rw (← w.world-is, to_z-of_z w32 c.args.active.now.programmer f) at w.drop_property.ensures) (c.in_ok-whole.ensures tt) (rw (to_z-of_z w32 c.args.active.now.programmer f) at c.write_property.ensures.world) c.write_property.ensures.kept m
+      | else-is_taken w ↦ λ k m. whole_stored (tree c.in_ok-whole.whole) c.write_property.result (unchanged_alike _ _ _ _ _ w.world-is) (c.in_ok-whole.ensures tt) (rw (to_z-of_z w32 c.args.active.now.programmer f) at c.write_property.ensures.world) c.write_property.ensures.kept m
     ]

@@ -1,5 +1,5 @@
 use Rattle.moo_eval_call.proofs.Updates.{made_is, lacks_memory}
-use Rattle.moo_eval_call.proofs.update.list_made.Goals as goal
+use Rattle.moo_eval_call.proofs.update.make_list.Goals as goal
 
 pub returns-in-Ok : goal.returns-in-Ok
 returns-in-Ok c = made_is c.in-Ok.list c.requires c.in-Some.ensures.value c.in-Ok.is

@@ -11,7 +11,7 @@ use Rattle.moo_eval_frame.specs.Seen.{value_among, slot_value, own_variables, va
 use Rattle.moo_eval_frame.proofs.GivenNames.{other_at, other_set}
 use Rattle.moo_eval_frame.proofs.Names.{slot_at}
 use Rattle.moo_eval_frame.proofs.Stored.{set_slot}
-use Rattle.moo_eval_frame.proofs.variables.Variables.put_element.Goals as goal
+use Rattle.moo_eval_frame.proofs.variables.Variables.try_put_element.Goals as goal
 
 pub returns-in-Some-clause-put : goal.returns-in-Some-clause-put
 unfolding variables_of
@@ -22,7 +22,7 @@ returns-in-Some-clause-put c = λ t.
     let slot = c.in-Some.slot in
     let elsewhere = value_among old.others.items in
     let n = to_z-of_z w32 c.args.number c.ranges.number in
-    let p = simp n at (c.put_element.ensures.put t) in
+    let p = simp n at (c.try_put_element.ensures.put t) in
     let new = set p.0 c.args.index (integer c.args.number) in (
       p.0,
       sym (other_at old.given (own_variables old) name found.own) ∙ slot_at name old.own.names old.own.values elsewhere None slot found.there found.within ∙ ap (option_map (λ v. tree v)) p.1,
@@ -36,4 +36,4 @@ pub returns-in-Some-clause-kept : goal.returns-in-Some-clause-kept
 unfolding variables_of
 returns-in-Some-clause-kept c = λ f.
     let old = c.args.self.now in
-    ap (λ own. slot_value given_names (given_values old.given) (slot_value own.names own.values (value_among old.others.items))) (c.put_element.ensures.kept f)
+    ap (λ own. slot_value given_names (given_values old.given) (slot_value own.names own.values (value_among old.others.items))) (c.try_put_element.ensures.kept f)

@@ -11,12 +11,12 @@ use Rattle.moo_value.specs.View.{tree}
 use Rattle.moo_syntax_ast.specs.Given.{given_names}
 use Rattle.moo_eval_frame.specs.declared.frame.Frame.{Frame}
 use Rattle.moo_eval_frame.specs.declared.frame.Running.{Running}
-use Rattle.moo_eval_frame.specs.declared.shared_values.SharedValues.{SharedValues}
+use Rattle.moo_eval_frame.specs.Shared.{Shared, types_of, types}
 use Rattle.moo_eval_frame.specs.declared.variables.Variables.{Variables}
 use Rattle.moo_eval_frame.specs.State.{running_of}
 use Rattle.moo_eval_frame.specs.Variables.{Binding, bind, type_bindings, first_bindings, own_bindings, value_of_name, with_variable, called_variables}
 use Rattle.moo_eval_frame.specs.declared.given_values.GivenValues.{GivenValues}
-use Rattle.moo_eval_frame.specs.GivenValues.{given_values, values_with, types_of, types, command_of, command_in}
+use Rattle.moo_eval_frame.specs.GivenValues.{given_values, values_with, command_of, command_in}
 use Rattle.moo_eval_frame.specs.Seen.{slot_value, seen_values, bound_values, variables_of}
 use Rattle.moo_eval_frame.proofs.Names.{split, nothing_set}
 use Rattle.moo_eval_frame.proofs.Newest.{first}
@@ -62,10 +62,10 @@ told f caller args dobj iobj argstr dobjstr prepstr iobjstr =
     ∷ bind (codes "args") (list_of args)
     ∷ []
 
-first_values : (f : Frame) (s : SharedValues) → types_of s ≡ types → command_of s ≡ command_in f → values_with (running_of f) f.caller f.args s ≡ bound_values (first_bindings f)
+first_values : (f : Frame) (s : Shared) → types_of s ≡ types → command_of s ≡ command_in f → values_with (running_of f) f.caller f.args s ≡ bound_values (first_bindings f)
 first_values f s t c = ap (λ ts. laid (running_of f) f.caller f.args ts (command_of s)) t ∙ ap (laid (running_of f) f.caller f.args types) c
 
-handed_values : (f : Running) (caller : ℤ) (args : List Tree) (s t : SharedValues) → types_of s ≡ types → command_of s ≡ command_of t → values_with f caller args s ≡ bound_values (told f caller args (tree t.dobj) (tree t.iobj) (tree t.argstr) (tree t.dobjstr) (tree t.prepstr) (tree t.iobjstr))
+handed_values : (f : Running) (caller : ℤ) (args : List Tree) (s t : Shared) → types_of s ≡ types → command_of s ≡ command_of t → values_with f caller args s ≡ bound_values (told f caller args (tree t.dobj) (tree t.iobj) (tree t.argstr) (tree t.dobjstr) (tree t.prepstr) (tree t.iobjstr))
 handed_values f caller args s t e c = ap (λ ts. laid f caller args ts (command_of s)) e ∙ ap (laid f caller args types) c
 
 -- Values by the names of bindings bind them.
@@ -80,7 +80,7 @@ bound (b ∷ bs) (x ∷ values) n e =
     ∙ ap (cond (bytes_eq (folded b.name) n) (Some b.value)) (bound bs values n others)
     ∙ sym (split (bytes_eq (folded b.name) n) b (find (λ y. bytes_eq (folded y.name) n) bs))
 
-first_bound : (f : Frame) (s : SharedValues) (values : List (Option Value)) → seen_values values ≡ values_with (running_of f) f.caller f.args s → types_of s ≡ types → command_of s ≡ command_in f → slot_value given_names values (value_of_name []) ≡ value_of_name (first_bindings f)
+first_bound : (f : Frame) (s : Shared) (values : List (Option Value)) → seen_values values ≡ values_with (running_of f) f.caller f.args s → types_of s ≡ types → command_of s ≡ command_in f → slot_value given_names values (value_of_name []) ≡ value_of_name (first_bindings f)
 unfolding given_names
 first_bound f s values e t c = λ j n. bound (first_bindings f) values n (e ∙ first_values f s t c) j
 
@@ -102,7 +102,7 @@ commanded f caller args dobj iobj argstr dobjstr prepstr iobjstr =
     ∙ ap (λ v. with_variable v (bind (codes "dobjstr") dobjstr)) (first (codes "dobj") dobj (take 10 two) (drop 11 two) refl
     ∙ ap (λ v. with_variable v (bind (codes "dobj") dobj)) (first (codes "argstr") argstr (take 11 one) (drop 12 one) refl)))))
 
-handed_bound : (f : Running) (caller : ℤ) (args : List Tree) (s : SharedValues) (variables : Variables) (values : List (Option Value)) → seen_values values ≡ values_with f caller args s → types_of s ≡ types → command_of s ≡ command_of variables.given.shared.value → slot_value given_names values (value_of_name []) ≡ called_variables f caller args (variables_of variables)
+handed_bound : (f : Running) (caller : ℤ) (args : List Tree) (s : Shared) (variables : Variables) (values : List (Option Value)) → seen_values values ≡ values_with f caller args s → types_of s ≡ types → command_of s ≡ command_of variables.given.shared.value → slot_value given_names values (value_of_name []) ≡ called_variables f caller args (variables_of variables)
 unfolding given_names variables_of
 handed_bound f caller args s variables values e t c =
     let shared = variables.given.shared.value in

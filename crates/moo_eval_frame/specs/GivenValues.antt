@@ -1,13 +1,13 @@
 -- The values of the names that every frame has, as a frame keeps them.
-use Rattle.std.specs.Prelude.{ℤ, pos, List, [], ◌∷◌, Option, Some}
+use Rattle.std.specs.Prelude.{ℤ, List, [], ◌∷◌, Option, Some, Bool, true, false}
 use Rattle.moo_value.specs.declared.value.Value.{Value}
-use Rattle.moo_value.specs.Tree.{Tree, integer, object, string, list_of}
+use Rattle.moo_value.specs.Tree.{Tree, object, string, list_of}
 use Rattle.moo_value.specs.View.{tree}
 use Rattle.moo_syntax_ast.specs.declared.given.Given.{Given}
 use Rattle.moo_syntax_ast.specs.declared.given.Given.TheVariants as given
 use Rattle.moo_eval_frame.specs.declared.frame.Frame.{Frame}
 use Rattle.moo_eval_frame.specs.declared.frame.Running.{Running}
-use Rattle.moo_eval_frame.specs.declared.shared_values.SharedValues.{SharedValues}
+use Rattle.moo_eval_frame.specs.Shared.{Shared}
 use Rattle.moo_eval_frame.specs.declared.given_values.GivenValues.{GivenValues}
 
 -- in the order of the names
@@ -33,8 +33,29 @@ given_values v =
     ∷ Some v.args
     ∷ []
 
+-- whether a name is that of a type
+abbrev pub names_type : Given → Bool
+names_type given.Num = true
+names_type given.Int = true
+names_type given.Obj = true
+names_type given.Str = true
+names_type given.Err = true
+names_type given.List = true
+names_type given.Float = true
+names_type given.Player = false
+names_type given.This = false
+names_type given.Caller = false
+names_type given.Dobj = false
+names_type given.Iobj = false
+names_type given.Verb = false
+names_type given.Argstr = false
+names_type given.Dobjstr = false
+names_type given.Prepstr = false
+names_type given.Iobjstr = false
+names_type given.Args = false
+
 -- with one of the shared ones set
-abbrev pub with_shared : SharedValues → Given → Value → SharedValues
+abbrev pub with_shared : Shared → Given → Value → Shared
 with_shared s given.Num v = record s { num = v }
 with_shared s given.Int v = record s { int = v }
 with_shared s given.Obj v = record s { obj = v }
@@ -54,24 +75,8 @@ with_shared s given.Prepstr v = record s { prepstr = v }
 with_shared s given.Iobjstr v = record s { iobjstr = v }
 with_shared s given.Args v = s
 
--- what the names of types have
-abbrev pub types_of : SharedValues → List Tree
-types_of s = tree s.num ∷ tree s.int ∷ tree s.obj ∷ tree s.str ∷ tree s.err ∷ tree s.list ∷ tree s.float ∷ []
-
--- and have at first
-abbrev pub types : List Tree
-types =
-    integer (pos 0)
-    ∷ integer (pos 0)
-    ∷ integer (pos 1)
-    ∷ integer (pos 2)
-    ∷ integer (pos 3)
-    ∷ integer (pos 4)
-    ∷ integer (pos 9)
-    ∷ []
-
 -- the values of the variables of the command
-abbrev pub command_of : SharedValues → List Tree
+abbrev pub command_of : Shared → List Tree
 command_of s = tree s.dobj ∷ tree s.iobj ∷ tree s.argstr ∷ tree s.dobjstr ∷ tree s.prepstr ∷ tree s.iobjstr ∷ []
 
 -- the values of these variables from a frame
@@ -80,7 +85,7 @@ command_in f = object f.dobj ∷ object f.iobj ∷ string f.argstr ∷ string f.
 
 -- the values of a frame that has these shared ones, in the order of the names: of its code, its caller's `this` and its
 -- arguments
-abbrev pub values_with : Running → ℤ → List Tree → SharedValues → List (Option Tree)
+abbrev pub values_with : Running → ℤ → List Tree → Shared → List (Option Tree)
 values_with f caller args s =
     Some (tree s.num)
     ∷ Some (tree s.int)

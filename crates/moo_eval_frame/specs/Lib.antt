@@ -1,4 +1,5 @@
 pub mod Variables
+pub mod Shared
 pub mod GivenValues
 pub mod Held
 pub mod Surroundings

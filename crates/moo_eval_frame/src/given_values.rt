@@ -1,7 +1,8 @@
 //! The values of the variables that every frame has.
 ghost use Rattle.std.specs.Prelude.{◌≡◌, [], Some, None, get_or, set, IfOk, OnOk};
 ghost use Rattle.moo_syntax_ast.specs.Given.{given_slot, given_names};
-ghost use Rattle.moo_eval_frame.specs.GivenValues.{given_values, values_with, types_of, types, command_of, command_in};
+ghost use Rattle.moo_eval_frame.specs.Shared.{types_of, types};
+ghost use Rattle.moo_eval_frame.specs.GivenValues.{given_values, values_with, command_of, command_in};
 ghost use Rattle.moo_eval_frame.specs.State.{running_of};
 ghost use Rattle.moo_eval_frame.specs.Variables.{first_bindings, value_of_name};
 ghost use Rattle.moo_eval_frame.specs.Seen.{seen_values, slot_value};

@@ -1,16 +1,20 @@
 //! The values of variables that a called verb has from its caller: the names of types, and the parts of the command.
 ghost use Rattle.std.specs.Prelude.{◌≡◌, IsTrue, IfOk, OnOk};
-ghost use Rattle.moo_eval_frame.specs.GivenValues.{with_shared, types_of, types, command_of, command_in};
+ghost use Rattle.moo_eval_frame.specs.Shared.{types_of, types};
+ghost use Rattle.moo_eval_frame.specs.GivenValues.{with_shared, names_type, command_of, command_in};
 
 use crate::frame::Frame;
 use moo_syntax_ast::Given;
 use moo_value::Value;
 use std::alloc::{AllocError, Global};
+use std::marker::Model;
 use std::rc::Rc;
 
 /// Holds the values of the names of types, and the parts of the command.
 #[derive(Drop)]
 pub(crate) struct SharedValues {
+    /// Is true only if the names of types have the values that a frame begins with.
+    has_first_types: bool,
     pub(crate) num: Value,
     pub(crate) int: Value,
     pub(crate) obj: Value,
@@ -26,6 +30,19 @@ pub(crate) struct SharedValues {
     pub(crate) iobjstr: Value,
 }
 
+impl Model for SharedValues {
+    ghost use Rattle.std.specs.Prelude.{◌≡◌, IsTrue};
+    ghost use Rattle.moo_eval_frame.specs.Shared.{Shared, shared_code, types_of, types};
+
+    ghost Value = { Shared };
+
+    ghost coded = { shared_code };
+
+    ghost view = { λ s. record { num = s.num; int = s.int; obj = s.obj; str = s.str; err = s.err; list = s.list; float = s.float; dobj = s.dobj; iobj = s.iobj; argstr = s.argstr; dobjstr = s.dobjstr; prepstr = s.prepstr; iobjstr = s.iobjstr } };
+
+    ghost invariant = { λ s. IsTrue s.has_first_types → types_of (record { num = s.num; int = s.int; obj = s.obj; str = s.str; err = s.err; list = s.list; float = s.float; dobj = s.dobj; iobj = s.iobj; argstr = s.argstr; dobjstr = s.dobjstr; prepstr = s.prepstr; iobjstr = s.iobjstr }) ≡ types };
+}
+
 impl SharedValues {
     /// Returns the values that the first frame of a task begins with.
     pub(crate) fn first(frame: &Frame) -> Result<SharedValues, AllocError>
@@ -33,6 +50,7 @@ impl SharedValues {
         ensures command { IfOk result (λ shared. command_of shared ≡ command_in frame.now) }
     {
         Ok(SharedValues {
+            has_first_types: true,
             num: Value::Int(0),
             int: Value::Int(0),
             obj: Value::Int(1),
@@ -55,6 +73,7 @@ impl SharedValues {
         ensures command { IfOk result (λ shared. command_of shared ≡ command_of self.now) }
     {
         Ok(SharedValues {
+            has_first_types: true,
             num: Value::Int(0),
             int: Value::Int(0),
             obj: Value::Int(1),
@@ -76,6 +95,7 @@ impl SharedValues {
         ensures { IfOk result (λ copy. copy ≡ self.now) }
     {
         Ok(SharedValues {
+            has_first_types: self.has_first_types,
             num: self.num.try_clone()?,
             int: self.int.try_clone()?,
             obj: self.obj.try_clone()?,
@@ -97,19 +117,16 @@ impl SharedValues {
     pub(crate) fn has_types(&self) -> bool
         ensures { IsTrue result → types_of self.now ≡ types }
     {
-        is_number(&self.num, 0)
-            && is_number(&self.int, 0)
-            && is_number(&self.obj, 1)
-            && is_number(&self.str, 2)
-            && is_number(&self.err, 3)
-            && is_number(&self.list, 4)
-            && is_number(&self.float, 9)
+        self.has_first_types
     }
 
     // Sets a shared value.
     fn set(&mut self, given: Given, value: Value)
         ensures { self.new ≡ with_shared self.old given value }
     {
+        if names_type(given) {
+            self.has_first_types = false;
+        }
         match given {
             Given::Num => self.num = value,
             Given::Int => self.int = value,
@@ -148,10 +165,12 @@ pub(crate) fn set_shared(
     Ok(())
 }
 
-// Returns whether a value is this integer.
-#[inline(always)]
-fn is_number(value: &Value, number: i32) -> bool
-    ensures { IsTrue result → value.now ≡ Value.Int number }
+// Returns whether a name is that of a type.
+fn names_type(given: Given) -> bool
+    ensures { result ≡ names_type given }
 {
-    matches!(value, Value::Int(own) if *own == number)
+    matches!(
+        given,
+        Given::Num | Given::Int | Given::Obj | Given::Str | Given::Err | Given::List | Given::Float
+    )
 }

@@ -1,10 +1,9 @@
 //! Evaluates catches.
 ghost use Rattle.std.specs.Prelude.{◌≤◌, Err};
-ghost use Rattle.moo_value.specs.View.{trees};
-ghost use Rattle.moo_syntax_lower.specs.Source.{source, source_codes};
+ghost use Rattle.moo_syntax_lower.specs.Source.{source, source_codes, source_items};
 ghost use Rattle.moo_eval_frame.specs.Catching.{guards};
 ghost use Rattle.moo_eval_frame.specs.Outcome.{settled};
-ghost use Rattle.moo_eval_frame.specs.Seen.{context_of, trace_of, failure_of, seen_answer, seen_answers, seen_value, catch_of, HadMemoryIn, IsKnown, IsKnownFailure};
+ghost use Rattle.moo_eval_frame.specs.Seen.{context_of, trace_of, failure_of, seen_answer, seen_answers, seen_by, seen_value, code_values, catch_of, HadMemoryIn, IsKnown, IsKnownFailure};
 ghost use Rattle.moo_builtin.specs.Telling.{Faults};
 ghost use Rattle.moo_eval_semantics.specs.Meaning.{Computes, EvaluatesAll};
 ghost use Rattle.moo_eval.specs.Attempts.{Attempts, IsSeen};
@@ -12,7 +11,7 @@ ghost use Rattle.moo_eval.specs.Seen.{state_of};
 
 use crate::interpreter::Task;
 use moo_eval_frame::{Activation, CallStack, Failure, Stop, caught, is_caught};
-use moo_syntax_lower::{Node, NodeCodes};
+use moo_syntax_lower::{Node, NodeCodes, NodeItem};
 use moo_value::{ErrorCode, Value};
 use moo_world::World;
 
@@ -53,9 +52,10 @@ impl Task {
         }
     }
 
-    /// Returns the values of the codes of a catch or of a handler.
+    // Returns the values of the codes of a catch. Literal errors take their ticks alone.
     #[cycle(evaluation)]
-    pub(crate) fn guards(
+    #[inline(always)]
+    fn guards(
         &mut self,
         world: &mut World,
         active: &mut Activation,
@@ -63,17 +63,37 @@ impl Task {
         indexed: Option<&Value>,
         codes: &NodeCodes,
     ) -> Result<Vec<Value>, Failure>
-        ensures meaning { IsKnownFailure result → EvaluatesAll Faults (context_of stack.now indexed.entry) (guards (source_codes codes.now)) (state_of self.old world.old active.old) (seen_answers result) (state_of self.new world.new active.new) }
+        ensures meaning { IsKnownFailure result → EvaluatesAll Faults (context_of stack.now indexed.entry) (guards (source_codes codes.now)) (state_of self.old world.old active.old) (seen_by (λ vs. code_values codes.now vs.items) result) (state_of self.new world.new active.new) }
         ensures ticks { self.new.ticks_left ≤ self.old.ticks_left }
     {
         match codes {
             NodeCodes::Any => Ok(Vec::new(self.alloc())),
-            NodeCodes::Listed(items) => {
-                let room = self.spare.take_values();
-                let values = self.evaluate_all(world, active, stack, indexed, items, room)?;
-                Ok(values.into_values(self.alloc())?)
+            NodeCodes::Known(errors) => {
+                self.take_ticks(active, stack, errors.len())?;
+                Ok(Vec::new(self.alloc()))
             }
+            NodeCodes::Listed(items) => self.evaluate_codes(world, active, stack, indexed, items),
         }
+    }
+
+    /// Returns the values of codes that are not all literal errors. Not inlined, so that nested catches need no stack space
+    /// for it.
+    #[cycle(evaluation)]
+    #[inline(never)]
+    pub(crate) fn evaluate_codes(
+        &mut self,
+        world: &mut World,
+        active: &mut Activation,
+        stack: &CallStack<'_>,
+        indexed: Option<&Value>,
+        items: &[NodeItem],
+    ) -> Result<Vec<Value>, Failure>
+        ensures meaning { IsKnownFailure result → EvaluatesAll Faults (context_of stack.now indexed.entry) (source_items items.now) (state_of self.old world.old active.old) (seen_answers result) (state_of self.new world.new active.new) }
+        ensures ticks { self.new.ticks_left ≤ self.old.ticks_left }
+    {
+        let room = self.spare.take_values();
+        let values = self.evaluate_all(world, active, stack, indexed, items, room)?;
+        Ok(values.into_values(self.alloc())?)
     }
 
     // Evaluates the body of a catch. An error of its own that the codes name isn't raised first.
@@ -89,7 +109,7 @@ impl Task {
         codes: &NodeCodes,
         values: &[Value],
     ) -> Result<Attempt, Failure>
-        ensures meaning { IsKnownFailure result → Attempts Faults (context_of stack.now indexed.entry) (source_codes codes.now) (trees values.now) (source body.now) (state_of self.old world.old active.old) result (state_of self.new world.new active.new) }
+        ensures meaning { IsKnownFailure result → Attempts Faults (context_of stack.now indexed.entry) (source_codes codes.now) (code_values codes.now values.now) (source body.now) (state_of self.old world.old active.old) result (state_of self.new world.new active.new) }
         ensures ticks { self.new.ticks_left ≤ self.old.ticks_left }
     {
         if let Some(value) = self.try_node(active, body) {
@@ -103,8 +123,8 @@ impl Task {
     }
 
     // Returns what a failure of the body comes to. With the d bit an error that the codes name is caught at once: it needs
-    // no traceback.
-    #[inline(never)]
+    // no traceback. Inlined, so that it needs no call.
+    #[inline(always)]
     fn settle_attempt(
         &self,
         active: &Activation,
@@ -114,14 +134,30 @@ impl Task {
         failure: Failure,
     ) -> Result<Attempt, Failure>
         ensures known { IsKnownFailure result → HadMemoryIn failure }
-        ensures seen { IsKnownFailure result → IsSeen (source_codes codes.now) (trees values.now) (settled stack.now.running.d (trace_of stack.now active.now) (Err (failure_of failure))) result }
+        ensures seen { IsKnownFailure result → IsSeen (source_codes codes.now) (code_values codes.now values.now) (settled stack.now.running.d (trace_of stack.now active.now) (Err (failure_of failure))) result }
     {
         match failure {
             Failure::Fails(code) if stack.running.d && is_caught(codes, values, code) => {
                 Ok(Attempt::Caught(code))
             }
-            failure => attempted(codes, values, self.settled(active, stack, failure)),
+            failure => self.settle_uncaught(active, stack, codes, values, failure),
         }
+    }
+
+    // Returns what another failure of the body comes to. Not inlined, so that nested catches need no stack space for it.
+    #[inline(never)]
+    fn settle_uncaught(
+        &self,
+        active: &Activation,
+        stack: &CallStack<'_>,
+        codes: &NodeCodes,
+        values: &[Value],
+        failure: Failure,
+    ) -> Result<Attempt, Failure>
+        ensures known { IsKnownFailure result → HadMemoryIn failure }
+        ensures seen { IsKnownFailure result → IsSeen (source_codes codes.now) (code_values codes.now values.now) (settled stack.now.running.d (trace_of stack.now active.now) (Err (failure_of failure))) result }
+    {
+        attempted(codes, values, self.settled(active, stack, failure))
     }
 }
 
@@ -132,7 +168,7 @@ fn attempted(
     outcome: Result<Value, Stop>,
 ) -> Result<Attempt, Failure>
     ensures known { IsKnownFailure result → IsKnown outcome }
-    ensures seen { IsSeen (source_codes codes.now) (trees values.now) (seen_value outcome) result }
+    ensures seen { IsSeen (source_codes codes.now) (code_values codes.now values.now) (seen_value outcome) result }
 {
     match caught(codes, values, &outcome) {
         Some(code) => Ok(Attempt::Caught(code)),

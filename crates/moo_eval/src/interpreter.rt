@@ -72,6 +72,28 @@ impl Task {
         Ok(())
     }
 
+    /// Takes the ticks of so many literals. If too few are left, all are taken, since the last one's tick was missing.
+    #[inline(always)]
+    pub(crate) fn take_ticks(
+        &mut self,
+        active: &Activation,
+        stack: &CallStack<'_>,
+        count: usize,
+    ) -> Result<(), Stop>
+        ensures taken { OnOk result (count ≤ self.old.ticks_left) }
+        ensures left { OnOk result (self.new ≡ record self.old { ticks_left = self.old.ticks_left - count }) }
+        ensures spent { IfErr result (λ stop. HadMemory stop → (self.old.ticks_left < count) × (stop_of stop ≡ out_of_ticks (trace_of stack.now active.now))) }
+        ensures emptied { IfErr result (λ _. self.new ≡ record self.old { ticks_left = 0 }) }
+    {
+        let left = self.ticks_left.left() as u32;
+        if (left as usize) < count {
+            self.ticks_left.leave(0);
+            return Err(self.spent(active, stack));
+        }
+        self.ticks_left.leave(left - count as u32);
+        Ok(())
+    }
+
     // Returns the end of a task that has no tick left. Not inlined, so that taking a tick needs no stack space for
     // it.
     #[cold]

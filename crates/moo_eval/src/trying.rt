@@ -17,7 +17,7 @@ use moo_eval_frame::{
     Activation, CallStack, Flow, Guarded, Raise, Stop, after_finally, chosen, handler_parts,
     push_guarded, runs_finally, set_caught, settle_codes,
 };
-use moo_syntax_lower::{NodeHandler, NodeStmt};
+use moo_syntax_lower::{NodeCodes, NodeHandler, NodeStmt};
 use moo_world::World;
 
 impl Task {
@@ -60,8 +60,17 @@ impl Task {
         let mut guarded = Vec::new(self.alloc());
         for handler in handlers {
             let parts = handler_parts(handler);
-            let outcome = self.guards(world, active, stack, None, parts.codes);
-            let values = settle_codes(self.alloc(), stack, active, outcome)?;
+            let values = match parts.codes {
+                NodeCodes::Any => Vec::new(self.alloc()),
+                NodeCodes::Known(errors) => {
+                    self.take_ticks(active, stack, errors.len())?;
+                    Vec::new(self.alloc())
+                }
+                NodeCodes::Listed(items) => {
+                    let outcome = self.evaluate_codes(world, active, stack, None, items);
+                    settle_codes(self.alloc(), stack, active, outcome)?
+                }
+            };
             push_guarded(&mut guarded, parts, values)?;
         }
         Ok(guarded)

@@ -2,11 +2,11 @@
 ghost use Rattle.std.specs.Prelude.{◌≡◌, IfErr, IsErrAnd};
 ghost use Rattle.std.specs.List.{list_any};
 ghost use Rattle.moo_value.specs.Tree.{error};
-ghost use Rattle.moo_value.specs.View.{tree, trees};
+ghost use Rattle.moo_value.specs.View.{tree};
 ghost use Rattle.moo_builtin_operator.specs.Truth.{same_tree};
 ghost use Rattle.moo_syntax_lower.specs.Source.{source_codes};
 ghost use Rattle.moo_eval_frame.specs.Catching.{is_caught, caught, coded};
-ghost use Rattle.moo_eval_frame.specs.Seen.{seen_value, seen_answers, seen_codes, trace_of, IsKnown, IsKnownFailure, LacksOnlyWhere, MayLack};
+ghost use Rattle.moo_eval_frame.specs.Seen.{seen_value, seen_answers, seen_codes, code_values, trace_of, IsKnown, IsKnownFailure, LacksOnlyWhere, MayLack};
 
 use crate::frame::{Activation, CallStack};
 use crate::outcome::{Failure, Stop, raised};
@@ -32,13 +32,14 @@ pub fn settle_codes(
     }
 }
 
-/// Returns the error that a catch of these codes handles, if one was raised. `values` are the values of the codes.
+/// Returns the error that a catch of these codes handles, if one was raised. `values` are the values of codes that are not
+/// all literal errors.
 pub fn caught(
     codes: &NodeCodes,
     values: &[Value],
     outcome: &Result<Value, Stop>,
 ) -> Option<ErrorCode>
-    ensures { result ≡ caught (source_codes codes.now) (trees values.now) (seen_value outcome.now) }
+    ensures { result ≡ caught (source_codes codes.now) (code_values codes.now values.now) (seen_value outcome.now) }
 {
     match outcome {
         Err(Stop::Raised(raise)) if is_caught(codes, values, raise.account.code) => {
@@ -48,14 +49,21 @@ pub fn caught(
     }
 }
 
-/// Is true if a catch of these codes handles an error. `values` are the values of the codes.
+/// Is true if a catch of these codes handles an error. `values` are the values of codes that are not all literal errors.
 pub fn is_caught(codes: &NodeCodes, values: &[Value], code: ErrorCode) -> bool
-    ensures { result ≡ is_caught (source_codes codes.now) (trees values.now) code }
+    ensures { result ≡ is_caught (source_codes codes.now) (code_values codes.now values.now) code }
 {
     match codes {
         NodeCodes::Any => true,
+        NodeCodes::Known(errors) => is_named(code, errors),
         NodeCodes::Listed(_) => is_among(code, values),
     }
+}
+
+fn is_named(code: ErrorCode, errors: &[ErrorCode]) -> bool
+    ensures { result ≡ list_any (λ e. same_tree (error code) (error e)) errors.now }
+{
+    errors.iter().any(|error| *error == code)
 }
 
 fn is_among(code: ErrorCode, values: &[Value]) -> bool

@@ -10,7 +10,7 @@ ghost use Rattle.moo_eval_frame.specs.Outcome.{answers, raised_by};
 ghost use Rattle.moo_eval_frame.specs.Variables.{Binding, with_all};
 ghost use Rattle.moo_eval_frame.specs.Handling.{guarded, chosen, frame_list, entry_lists, frame_lists, above, told, told_as};
 ghost use Rattle.moo_eval_frame.specs.Catching.{is_caught};
-ghost use Rattle.moo_eval_frame.specs.Seen.{variables_of, raise_of, stop_of, failure_of, trace_of, seen_answer, seen_answers, HadMemory, HadMemoryIn, IsKnownFailure, LacksOnlyWhere};
+ghost use Rattle.moo_eval_frame.specs.Seen.{variables_of, raise_of, stop_of, failure_of, trace_of, seen_answer, seen_answers, code_values, HadMemory, HadMemoryIn, IsKnownFailure, LacksOnlyWhere};
 ghost use Rattle.moo_eval_frame.specs.SeenHandling.{guarded_of};
 
 use crate::access::push;
@@ -65,7 +65,7 @@ pub fn push_guarded<'a>(
     parts: HandlerParts<'a>,
     values: Vec<Value>,
 ) -> Result<(), AllocError>
-    ensures { OnOk result (map guarded_of all.new.items ≡ map guarded_of all.old.items ++ guarded (option_copied parts.entry.name) (source_codes parts.entry.codes.now) (source_block parts.entry.body.now) (trees values.items) ∷ []) }
+    ensures { OnOk result (map guarded_of all.new.items ≡ map guarded_of all.old.items ++ guarded (option_copied parts.entry.name) (source_codes parts.entry.codes.now) (source_block parts.entry.body.now) (code_values parts.entry.codes.now values.items) ∷ []) }
 {
     all.push(Guarded {
         name: parts.name,
@@ -78,7 +78,7 @@ pub fn push_guarded<'a>(
 
 impl Guarded<'_> {
     fn takes(&self, code: ErrorCode) -> bool
-        ensures { result ≡ is_caught (source_codes self.now.codes.now) (trees self.now.values.items) code }
+        ensures { result ≡ is_caught (source_codes self.now.codes.now) (code_values self.now.codes.now self.now.values.items) code }
     {
         is_caught(self.codes, &self.values, code)
     }

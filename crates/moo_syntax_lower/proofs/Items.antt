@@ -2,10 +2,12 @@
 use Rattle.std.proofs.Common.{◌≡◌, refl, ap, sym, ◌∙◌, ℕ, ◌+◌, ◌<◌, List, [], ◌∷◌, ◌++◌, length, get_or, drop, Option, Some, None, IfSome}
 use Rattle.std.proofs.lemmas.List.{drop_more}
 use Rattle.moo_syntax_ast.specs.declared.tree.Item.{Item}
-use Rattle.moo_syntax_ast.specs.Tree.{Items, no_items, element, variable}
+use Rattle.moo_value.specs.declared.error_code.ErrorCode.{ErrorCode}
+use Rattle.moo_syntax_ast.specs.declared.tree.Literal.TheVariants.{Error}
+use Rattle.moo_syntax_ast.specs.Tree.{Items, no_items, element, literal, variable}
 use Rattle.moo_syntax_ast.specs.View.{with_item, items_of}
 use Rattle.moo_syntax_lower.specs.declared.node.NodeItem.{NodeItem}
-use Rattle.moo_syntax_lower.specs.Source.{with_source, sources_before}
+use Rattle.moo_syntax_lower.specs.Source.{error_items, with_source, sources_before}
 use Rattle.moo_syntax_lower.specs.Blocks.{named_items}
 
 -- one item more before the others
@@ -36,3 +38,18 @@ named_alone (y ∷ ys) = ap (element (variable y)) (named_alone ys)
 pub map_some : {A : Type 0} {P Q : A → Type 0} (r : Option A) → ((x : A) → P x → Q x) → IfSome r P → IfSome r Q
 map_some None f h = tt
 map_some (Some x) f h = f x h
+
+-- the items that are these literal errors, before others
+abbrev pub errors_before : List ErrorCode → Items → Items
+errors_before [] rest = rest
+errors_before (e ∷ es) rest = element (literal (Error e)) (errors_before es rest)
+
+-- one error more before the others
+pub errors_last : (xs : List ErrorCode) (x : ErrorCode) (rest : Items) → errors_before (xs ++ x ∷ []) rest ≡ errors_before xs (element (literal (Error x)) rest)
+errors_last [] x rest = refl
+errors_last (y ∷ ys) x rest = ap (element (literal (Error y))) (errors_last ys x rest)
+
+-- errors before no others
+pub errors_alone : (xs : List ErrorCode) → errors_before xs no_items ≡ error_items xs
+errors_alone [] = refl
+errors_alone (y ∷ ys) = ap (element (literal (Error y))) (errors_alone ys)

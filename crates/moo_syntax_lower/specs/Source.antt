@@ -5,7 +5,13 @@ use Rattle.moo_syntax_ast.specs.Tree.{Items}
 use Rattle.moo_syntax_ast.specs.declared.tree.Literal.TheVariants as literal
 use Rattle.moo_syntax_lower.specs.declared.node.Node.{Node, Integer, Object, Error, Str, Variable, Length, Unary', Binary', Arithmetic', Logic', Conditional', Index', Range', List', Property', VerbCall', Call', Assign', Catch', Row_of-NodeItem, end_of-NodeItem, more_of-NodeItem, None', Some'}
 use Rattle.moo_syntax_lower.specs.declared.node.NodeItem.{NodeItem, Element', Splice', Optional, Defaulted'}
-use Rattle.moo_syntax_lower.specs.declared.node.NodeCodes.{NodeCodes, Any, Listed'}
+use Rattle.moo_syntax_lower.specs.declared.node.NodeCodes.{NodeCodes, Any, Known, Listed'}
+use Rattle.moo_value.specs.declared.error_code.ErrorCode.{ErrorCode}
+
+-- the items that are these literal errors
+abbrev pub error_items : List ErrorCode → Items
+error_items [] = Tree.no_items
+error_items (e ∷ es) = Tree.element (Tree.literal (literal.Error e)) (error_items es)
 
 abbrev mutual
   -- the expression that a node comes from
@@ -33,6 +39,7 @@ abbrev mutual
 
   pub source_codes : NodeCodes → Tree.Codes
   source_codes Any = Tree.any_error
+  source_codes (Known es) = Tree.listed_errors (error_items es.items)
   source_codes (Listed' shape xs) = Tree.listed_errors (source_row xs)
 
   pub source_row : {m : _} → Row_of-NodeItem m → Items

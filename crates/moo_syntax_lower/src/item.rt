@@ -1,12 +1,15 @@
 //! Lowers the items of lists and of calls, and the errors of catches.
-ghost use Rattle.std.specs.Prelude.{◌≡◌, IfOk};
+ghost use Rattle.std.specs.Prelude.{◌≡◌, IfOk, IfSome};
+ghost use Rattle.moo_syntax_ast.specs.declared.tree.Literal.TheVariants.{Error};
+ghost use Rattle.moo_syntax_ast.specs.Tree as source_tree;
 ghost use Rattle.moo_syntax_ast.specs.Tree.{Items};
-ghost use Rattle.moo_syntax_ast.specs.View.{items_of, codes_of, with_item};
-ghost use Rattle.moo_syntax_lower.specs.Source.{source_codes, source_items, with_source};
+ghost use Rattle.moo_syntax_ast.specs.View.{tree, items_of, codes_of, with_item};
+ghost use Rattle.moo_syntax_lower.specs.Source.{source_codes, source_items, with_source, error_items};
 
 use crate::expression::{copied_name, lower_boxed};
 use crate::node::{NodeCodes, NodeItem};
-use moo_syntax_ast::{Codes, Item};
+use moo_syntax_ast::{Codes, Expr, Item, Literal};
+use moo_value::ErrorCode;
 use std::alloc::{AllocError, Global};
 
 /// Returns the node of the errors of a catch.
@@ -16,7 +19,42 @@ pub(crate) fn lower_codes(alloc: Global, codes: &Codes) -> Result<NodeCodes, All
 {
     match codes {
         Codes::Any => Ok(NodeCodes::Any),
-        Codes::Listed(items) => Ok(NodeCodes::Listed(lower_items(alloc, items)?)),
+        Codes::Listed(items) => match literal_errors(alloc, items)? {
+            Some(errors) => Ok(NodeCodes::Known(errors)),
+            None => Ok(NodeCodes::Listed(lower_items(alloc, items)?)),
+        },
+    }
+}
+
+// Returns the errors, if each item is a literal one.
+fn literal_errors(alloc: Global, items: &[Item]) -> Result<Option<Vec<ErrorCode>>, AllocError>
+    ensures { IfOk result (λ found. IfSome found (λ errors. items_of items.now ≡ error_items errors.items)) }
+{
+    let mut errors = Vec::with_capacity(alloc, items.len())?;
+    for item in items {
+        let Some(error) = as_literal_error(item) else {
+            return Ok(None);
+        };
+        errors.push(error)?;
+    }
+    Ok(Some(errors))
+}
+
+fn as_literal_error(item: &Item) -> Option<ErrorCode>
+    ensures { IfSome result (λ e. (rest : Items) → with_item item.now rest ≡ source_tree.element (source_tree.literal (Error e)) rest) }
+{
+    let Item::Element(expr) = item else {
+        return None;
+    };
+    as_error(expr)
+}
+
+fn as_error(expr: &Expr) -> Option<ErrorCode>
+    ensures { IfSome result (λ e. tree expr.now ≡ source_tree.literal (Error e)) }
+{
+    match expr {
+        Expr::Literal(Literal::Error(error)) => Some(*error),
+        _ => None,
     }
 }
 

@@ -61,5 +61,7 @@ pub enum NodeItem {
 pub enum NodeCodes {
     /// `ANY`
     Any,
+    /// Literal errors, as in `E_DIV, E_RANGE`.
+    Known(Vec<ErrorCode>),
     Listed(Vec<NodeItem>),
 }

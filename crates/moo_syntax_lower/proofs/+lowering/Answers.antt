@@ -44,12 +44,16 @@ expression::lower_verb_call-returns t c =
 
 pub item::lower_codes-lower_items-requires : goal.item::lower_codes-lower_items-requires
 item::lower_codes-lower_items-requires t c =
-    let same : codes_size (codes_of c.args.codes.now) ≡ 1 + items_size (items_of c.deref.result.now) = rw (c.in-Listed.is, given.row_items, c.deref.ensures.value) refl in
+    let same : codes_size (codes_of c.args.codes.now) ≡ 1 + items_size (items_of c.deref-in-None.result.now) = rw (c.in-Listed.is, given.row_items, c.deref-in-None.ensures.value) refl in
     (omega (arith, same), tt)
 
-pub item::lower_codes-returns-in_ok-lower_items-in-Listed : goal.item::lower_codes-returns-in_ok-lower_items-in-Listed
-item::lower_codes-returns-in_ok-lower_items-in-Listed t c =
-    rw (c.in-Listed.is, given.row_items, row_items, c.in_ok-lower_items-in-Listed.ensures, c.deref.ensures.value) refl
+pub item::lower_codes-returns-in-Some : goal.item::lower_codes-returns-in-Some
+item::lower_codes-returns-in-Some t c =
+    rw (c.in-Listed.is, given.row_items, ← c.deref.ensures.value, ← (rw c.in-Some.is at c.in_ok-errors-in-Listed.ensures)) refl
+
+pub item::lower_codes-returns-in_ok-lower_items-in-None : goal.item::lower_codes-returns-in_ok-lower_items-in-None
+item::lower_codes-returns-in_ok-lower_items-in-None t c =
+    rw (c.in-Listed.is, given.row_items, row_items, c.in_ok-lower_items-in-None.ensures, c.deref-in-None.ensures.value) refl
 
 pub item::lower_items-lower_item-requires : goal.item::lower_items-lower_item-requires
 item::lower_items-lower_item-requires t c = (omega (arith, size_within c.args.items.now c.loop-item.item-index c.item-item.result c.loop-item-test.true c.item-item.is), tt)

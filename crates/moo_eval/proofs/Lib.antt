@@ -9,6 +9,7 @@ pub mod Texts
 mod Passing
 mod Direct
 mod Extended
+mod Known
 mod Lengthened
 mod Placed
 mod Prepended
@@ -16,3 +17,4 @@ mod Properties
 mod Reached
 mod Ticks
 mod Updated
+mod Spliced

@@ -6,3 +6,4 @@ pub mod Reached
 pub mod Element
 pub mod Leaves
 pub mod Attempts
+pub mod Arguments

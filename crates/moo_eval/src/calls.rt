@@ -3,7 +3,7 @@ ghost use Rattle.std.specs.Prelude.{◌≡◌, ◌≢◌, ◌≤◌, ◌<◌, �
 ghost use Rattle.std.specs.Borrow.{Bor};
 ghost use Rattle.moo_value.specs.declared.value.Value.{Value as ValueModel};
 ghost use Rattle.moo_value.specs.Tree.{string};
-ghost use Rattle.moo_value.specs.View.{tree as tree_of};
+ghost use Rattle.moo_value.specs.View.{tree as tree_of, trees};
 ghost use Rattle.moo_syntax_ast.specs.declared.tree.Literal.TheVariants.{Str};
 ghost use Rattle.moo_syntax_ast.specs.Tree.{Expr, Items, no_statement, literal, verb_call, call};
 ghost use Rattle.moo_syntax_lower.specs.Source.{source, source_items};
@@ -73,9 +73,9 @@ impl Task {
     {
         let base = self.evaluate(world, active, stack, indexed, base)?;
         self.take_tick(active, stack)?;
-        let room = self.spare.take_values();
-        let values = self.evaluate_all(world, active, stack, indexed, items, room)?;
-        self.call_written(world, active, stack, &base, name, values)
+        let mut args = self.spare.take_values();
+        self.evaluate_arguments(world, active, stack, indexed, items, &mut args)?;
+        self.call_written(world, active, stack, &base, name, args)
     }
 
     // Calls a verb whose name is computed: evaluates its operands first.
@@ -96,9 +96,9 @@ impl Task {
     {
         let base = self.evaluate(world, active, stack, indexed, base)?;
         let name = self.evaluate(world, active, stack, indexed, name)?;
-        let room = self.spare.take_values();
-        let values = self.evaluate_all(world, active, stack, indexed, items, room)?;
-        self.call_verb(world, active, stack, &base, &name, values)
+        let mut args = self.spare.take_values();
+        self.evaluate_arguments(world, active, stack, indexed, items, &mut args)?;
+        self.call_verb(world, active, stack, &base, &name, args)
     }
 
     // Calls a verb whose name is a literal, its operands evaluated. Not inlined, so that calls in the arguments of calls
@@ -112,13 +112,12 @@ impl Task {
         stack: &CallStack<'_>,
         base: &Value,
         name: &Text,
-        values: Gathered,
+        args: Vec<Value>,
     ) -> Result<Value, Failure>
-        ensures meaning { (indexed : Option (Bor ValueModel)) (a b : Expr) (items : Items) → IsKnownFailure result → Applies Faults (context_of stack.now indexed) (verb_call a b items) (tree_of base.now ∷ string name.now ∷ values) [] (state_of self.old world.old active.now) (seen_answer result) (state_of self.new world.new active.now) }
+        ensures meaning { (indexed : Option (Bor ValueModel)) (a b : Expr) (items : Items) → IsKnownFailure result → Applies Faults (context_of stack.now indexed) (verb_call a b items) (tree_of base.now ∷ string name.now ∷ trees args.items) [] (state_of self.old world.old active.now) (seen_answer result) (state_of self.new world.new active.now) }
         ensures ticks { self.new.ticks_left ≤ self.old.ticks_left }
     {
         let mut memory = self.spare.take();
-        let args = values.into_arguments(self.alloc())?;
         let called = enter_written(
             self.alloc(),
             world,
@@ -143,13 +142,12 @@ impl Task {
         stack: &CallStack<'_>,
         base: &Value,
         name: &Value,
-        values: Gathered,
+        args: Vec<Value>,
     ) -> Result<Value, Failure>
-        ensures meaning { (indexed : Option (Bor ValueModel)) (a b : Expr) (items : Items) → IsKnownFailure result → Applies Faults (context_of stack.now indexed) (verb_call a b items) (tree_of base.now ∷ tree_of name.now ∷ values) [] (state_of self.old world.old active.now) (seen_answer result) (state_of self.new world.new active.now) }
+        ensures meaning { (indexed : Option (Bor ValueModel)) (a b : Expr) (items : Items) → IsKnownFailure result → Applies Faults (context_of stack.now indexed) (verb_call a b items) (tree_of base.now ∷ tree_of name.now ∷ trees args.items) [] (state_of self.old world.old active.now) (seen_answer result) (state_of self.new world.new active.now) }
         ensures ticks { self.new.ticks_left ≤ self.old.ticks_left }
     {
         let mut memory = self.spare.take();
-        let args = values.into_arguments(self.alloc())?;
         let called = enter_verb(
             self.alloc(),
             world,

@@ -1,6 +1,7 @@
 //! Runs programs: their expressions and statements, and their budget of ticks.
 #![tactic(auto)]
 
+mod arguments;
 mod arithmetic;
 mod assignment;
 mod calls;

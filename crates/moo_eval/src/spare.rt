@@ -41,9 +41,21 @@ impl SpareMemory {
     pub(crate) fn keep(&mut self, memory: FrameMemory) {
         let mut memory = memory;
         self.keep_values(memory.take_values(self.alloc));
-        if self.frames.len() < MOST_FRAMES {
-            let _kept = self.frames.push(memory);
+        if self.frames.len() >= MOST_FRAMES {
+            return;
         }
+        if self.frames.len() < self.frames.capacity() {
+            self.frames.push_reserved(memory);
+        } else {
+            self.push_frame(memory);
+        }
+    }
+
+    // Keeps the memory of a frame if the list of such memory has to grow.
+    #[cold]
+    #[inline(never)]
+    fn push_frame(&mut self, memory: FrameMemory) {
+        let _kept = self.frames.push(memory);
     }
 
     /// Takes out memory for values: that of the arguments of a call, or of the codes of a catch, that has ended.
@@ -60,8 +72,20 @@ impl SpareMemory {
     pub(crate) fn keep_values(&mut self, values: Vec<Value>) {
         let mut memory = values;
         memory.clear();
-        if memory.capacity() > 0 && self.values.len() < MOST_FRAMES {
-            let _kept = self.values.push(memory);
+        if memory.capacity() == 0 || self.values.len() >= MOST_FRAMES {
+            return;
         }
+        if self.values.len() < self.values.capacity() {
+            self.values.push_reserved(memory);
+        } else {
+            self.push_values(memory);
+        }
+    }
+
+    // Keeps memory for values if the list of such memory has to grow.
+    #[cold]
+    #[inline(never)]
+    fn push_values(&mut self, memory: Vec<Value>) {
+        let _kept = self.values.push(memory);
     }
 }

@@ -1,4 +1,4 @@
-use Rattle.std.proofs.Common.{not, ⊎_elim, ◌∷◌, ◌++◌, [], Ok, Err, refl, sym, ap, subst, ◌∙◌, arith, rules, Some, None, ◌+◌, drop, map}
+use Rattle.std.proofs.Common.{not, ⊎_elim, ◌-◌, ◌∷◌, ◌++◌, [], Ok, Err, refl, sym, ap, subst, ◌∙◌, arith, rules, Some, None, ◌+◌, drop, map}
 use Rattle.std.proofs.lemmas.Result.{IfOk-weaker, err_from_is_err_and, on_ok_weaker}
 use Rattle.std.proofs.lemmas.List.{append-nil}
 use Rattle.std.proofs.lemmas.Int.{to_z-of_z}
@@ -36,6 +36,14 @@ use Rattle.std.proofs.lemmas.Bool.{false≢true}
 use Rattle.moo_eval.proofs.Properties as property
 use Rattle.moo_builtin_operator.specs.Truth.{is_true, truth_value}
 use Rattle.moo_eval.proofs.Passing.{undecided, decided, operand_stops, negated, not_stops, truth_of, if_err}
+use Rattle.moo_eval.proofs.Spliced.{plain_rest, not_spliced}
+use Rattle.moo_eval.proofs.Known.{errors_given, errors_end, seen_listed, HasValues}
+use Rattle.moo_eval_frame.specs.Seen.{code_values, seen_answers, trace_of}
+use Rattle.moo_eval_frame.specs.Catching.{guards}
+use Rattle.moo_eval_frame.specs.Outcome.{out_of_ticks}
+use Rattle.moo_value.specs.Tree.{error}
+use Rattle.moo_eval.proofs.interpreter.Task.+evaluation.Goals.{prepare-in-Any, prepare-in-Known+in_ok-take_ticks-in-Known, prepare-in-Listed+in_ok-values-in-Listed}
+use Rattle.moo_eval.specs.Arguments.{is_splice}
 use Rattle.moo_eval.proofs.Exits.{none_left, refused, gathered, unlisted, same_state, optional_ends, goes_on-not, state_at, guarded_on, property_put, runs_from}
 use Rattle.moo_eval_frame.proofs.Rest.{drop_next}
 use Rattle.moo_syntax_lower.proofs.Rows.{row_items}
@@ -244,6 +252,51 @@ pub evaluate_all-returns-in_err-splice-in-Splice-clause-meaning : goal.evaluate_
 evaluate_all-returns-in_err-splice-in-Splice-clause-meaning t c =
     let p = err_from_is_err_and c.from_residual-in_err-splice-in-Splice.result c.from_residual-in_err-splice-in-Splice.ensures.1 in rw (p.1, p.2) (λ k. c.loop-item.invariant.rest (Err (failure_of c.in_err-splice-in-Splice.field-0.0)) _ (rw (drop_next c.args.items.now c.loop-item.item-index c.item-item.result c.loop-item-test.true c.item-item.is, c.in-Splice.is, ← c.deref-in-Splice.ensures) (splice_fails (c.in_ok-value-in-Splice.ensures.meaning tt) (c.in_err-splice-in-Splice.ensures.err k))))
 
+pub evaluate_elements-loop-item-preserved : goal.evaluate_elements-loop-item-preserved
+evaluate_elements-loop-item-preserved t c =
+    let here = drop_next c.args.items.now c.loop-item.item-index c.item-item.result c.loop-item-test.true c.item-item.is in
+    let more = tree c.in_ok-value-in-Element.value ∷ [] in
+    record {
+      ticks = omega (arith, c.loop-item.invariant.ticks, c.in_ok-value-in-Element.ensures.ticks);
+      plain = plain_rest c.item-item.result (drop (c.loop-item.item-index + 1) c.args.items.now) (rw here at c.loop-item.invariant.plain);
+      rest = λ o s d.
+          subst (λ r. EvaluatesAll Faults (context_of c.args.stack.now c.args.indexed) (source_items c.args.items.now) (state_of c.args.self.now c.args.world.now c.args.active.now) r s)
+          (gathered (trees c.loop-item.values.items) (trees c.push.new.values.items) more o c.in_ok-push-in-Element.ensures)
+          (c.loop-item.invariant.rest (before more o) s (rw (here, c.in-Element.is, ← c.deref.ensures) (element_then (c.in_ok-value-in-Element.ensures.meaning tt) d refl)));
+    }
+
+pub evaluate_elements-returns-clause-meaning : goal.evaluate_elements-returns-clause-meaning
+evaluate_elements-returns-clause-meaning t c =
+    λ k. rw append-nil at (c.loop-item.invariant.rest (Ok []) (state_of c.loop-item.self c.loop-item.world c.loop-item.active) (rw (drop_of_length-le c.args.items.now c.loop-item-test.false) no_more))
+
+pub evaluate_elements-returns-in_err-value-in-Element-clause-meaning : goal.evaluate_elements-returns-in_err-value-in-Element-clause-meaning
+evaluate_elements-returns-in_err-value-in-Element-clause-meaning t c =
+    let p = err_from_is_err_and c.from_residual-in_err-value-in-Element.result c.from_residual-in_err-value-in-Element.ensures.1 in rw (p.1, p.2) (λ k. c.loop-item.invariant.rest (Err (stops (stop_of c.in_err-value-in-Element.field-0.0))) _ (rw (drop_next c.args.items.now c.loop-item.item-index c.item-item.result c.loop-item-test.true c.item-item.is, c.in-Element.is, ← c.deref.ensures) (element_stops (c.in_err-value-in-Element.ensures.meaning k))))
+
+pub evaluate_elements-returns-in-Splice-clause-meaning : goal.evaluate_elements-returns-in-Splice-clause-meaning
+evaluate_elements-returns-in-Splice-clause-meaning t c =
+    λ k. absurd (not_spliced c.item-item.result (drop (c.loop-item.item-index + 1) c.args.items.now) (ap is_splice c.in-Splice.is) (rw (drop_next c.args.items.now c.loop-item.item-index c.item-item.result c.loop-item-test.true c.item-item.is) at c.loop-item.invariant.plain))
+
+pub evaluate_elements-returns-in-Optional-clause-meaning : goal.evaluate_elements-returns-in-Optional-clause-meaning
+evaluate_elements-returns-in-Optional-clause-meaning t c =
+    λ k. c.loop-item.invariant.rest (Err (fails TypeMismatch)) _ (rw (drop_next c.args.items.now c.loop-item.item-index c.item-item.result c.loop-item-test.true c.item-item.is) (optional_ends c.item-item.result _ (⊎_elim (λ p. rw p.1 tt) (λ p. rw p.2 tt) c.in-Optional.is)))
+
+pub call_literal-returns-in_err-evaluate_arguments-clause-meaning : goal.call_literal-returns-in_err-evaluate_arguments-clause-meaning
+call_literal-returns-in_err-evaluate_arguments-clause-meaning t c =
+    let p = err_from_is_err_and c.from_residual-in_err-evaluate_arguments.result c.from_residual-in_err-evaluate_arguments.ensures.1 in
+    rw (p.1, p.2) (λ k. ⊎_elim
+    (λ e. operands_end (element_then (c.in_ok-base.ensures.meaning tt) (element_then (literal_read c.in_ok-take_tick.ensures.taken) (rw c.in_ok-take_tick.ensures.left at e) refl) refl))
+    (λ h. applies (element_then (c.in_ok-base.ensures.meaning tt) (element_then (literal_read c.in_ok-take_tick.ensures.taken) (rw c.in_ok-take_tick.ensures.left at h.1) refl) refl) no_more (verb_fails (unlisted _ _ h.2)))
+    (c.in_err-evaluate_arguments.ensures.meaning k))
+
+pub call_computed-returns-in_err-evaluate_arguments-clause-meaning : goal.call_computed-returns-in_err-evaluate_arguments-clause-meaning
+call_computed-returns-in_err-evaluate_arguments-clause-meaning t c =
+    let p = err_from_is_err_and c.from_residual-in_err-evaluate_arguments.result c.from_residual-in_err-evaluate_arguments.ensures.1 in
+    rw (p.1, p.2) (λ k. ⊎_elim
+    (λ e. operands_end (element_then (c.in_ok-base.ensures.meaning tt) (element_then (c.in_ok-name.ensures.meaning tt) e refl) refl))
+    (λ h. applies (element_then (c.in_ok-base.ensures.meaning tt) (element_then (c.in_ok-name.ensures.meaning tt) h.1 refl) refl) no_more (verb_fails (unlisted _ _ h.2)))
+    (c.in_err-evaluate_arguments.ensures.meaning k))
+
 pub conditional-returns-in_err-evaluate-2-clause-meaning : goal.conditional-returns-in_err-evaluate-2-clause-meaning
 conditional-returns-in_err-evaluate-2-clause-meaning t c =
     let p = err_from_is_err_and c.from_residual-in_err-evaluate-2.result c.from_residual-in_err-evaluate-2.ensures.1 in rw (p.1, p.2) (λ k. applies (element_then c.in_ok-passes.ensures.ok.1 no_more refl) no_more (conditional_false (c.in_ok-passes.ensures.ok.2 ∙ c.if-passes.false) (c.in_err-evaluate-2.ensures.meaning k) refl))
@@ -314,27 +367,19 @@ computed_property-returns-clause-meaning t c =
 
 pub call_verb-returns-clause-meaning : goal.call_verb-returns-clause-meaning
 call_verb-returns-clause-meaning t c =
-    λ indexed a b items k. let h = c.run_called.ensures.meaning c.args.active.now k in verb_runs (rw c.in_ok-args.ensures.ok at (c.in_ok-called.ensures tt)) h.runs h.leaves h.gives
-
-pub call_verb-returns-in_err-args-clause-meaning : goal.call_verb-returns-in_err-args-clause-meaning
-call_verb-returns-in_err-args-clause-meaning t c =
-    let p = err_from_is_err_and c.from_residual.result c.from_residual.ensures.1 in rw (p.1, p.2) (λ indexed a b items k. verb_fails (unlisted _ _ (c.in_err-args.ensures.err k)))
+    λ indexed a b items k. let h = c.run_called.ensures.meaning c.args.active.now k in verb_runs (c.in_ok-called.ensures tt) h.runs h.leaves h.gives
 
 pub call_verb-returns-in_err-called-clause-meaning : goal.call_verb-returns-in_err-called-clause-meaning
 call_verb-returns-in_err-called-clause-meaning t c =
-    let p = err_from_is_err_and c.from_residual-in_err-called.result c.from_residual-in_err-called.ensures.1 in rw (p.1, p.2) (λ indexed a b items k. verb_fails (rw c.in_ok-args.ensures.ok at (c.in_err-called.ensures k)))
+    let p = err_from_is_err_and c.from_residual.result c.from_residual.ensures.1 in rw (p.1, p.2) (λ indexed a b items k. verb_fails (c.in_err-called.ensures k))
 
 pub call_written-returns-clause-meaning : goal.call_written-returns-clause-meaning
 call_written-returns-clause-meaning t c =
-    λ indexed a b items k. let h = c.run_called.ensures.meaning c.args.active.now k in verb_runs (rw c.in_ok-args.ensures.ok at (c.in_ok-called.ensures tt)) h.runs h.leaves h.gives
-
-pub call_written-returns-in_err-args-clause-meaning : goal.call_written-returns-in_err-args-clause-meaning
-call_written-returns-in_err-args-clause-meaning t c =
-    let p = err_from_is_err_and c.from_residual.result c.from_residual.ensures.1 in rw (p.1, p.2) (λ indexed a b items k. verb_fails (unlisted _ _ (c.in_err-args.ensures.err k)))
+    λ indexed a b items k. let h = c.run_called.ensures.meaning c.args.active.now k in verb_runs (c.in_ok-called.ensures tt) h.runs h.leaves h.gives
 
 pub call_written-returns-in_err-called-clause-meaning : goal.call_written-returns-in_err-called-clause-meaning
 call_written-returns-in_err-called-clause-meaning t c =
-    let p = err_from_is_err_and c.from_residual-in_err-called.result c.from_residual-in_err-called.ensures.1 in rw (p.1, p.2) (λ indexed a b items k. verb_fails (rw c.in_ok-args.ensures.ok at (c.in_err-called.ensures k)))
+    let p = err_from_is_err_and c.from_residual.result c.from_residual.ensures.1 in rw (p.1, p.2) (λ indexed a b items k. verb_fails (c.in_err-called.ensures k))
 
 pub catch-returns-in_err-values-clause-meaning : goal.catch-returns-in_err-values-clause-meaning
 catch-returns-in_err-values-clause-meaning t c =
@@ -368,13 +413,29 @@ pub guards-returns-in-Any-clause-meaning : goal.guards-returns-in-Any-clause-mea
 guards-returns-in-Any-clause-meaning t c =
     λ k. rw (c.in-Any.is, c.new.ensures.items) no_more
 
-pub guards-returns-in_ok-into_values-in-Listed-clause-meaning : goal.guards-returns-in_ok-into_values-in-Listed-clause-meaning
-guards-returns-in_ok-into_values-in-Listed-clause-meaning t c =
-    λ k. rw (c.in-Listed.is, row_items, ← c.deref.ensures.value, c.in_ok-into_values-in-Listed.ensures) (c.in_ok-values-in-Listed.ensures.meaning tt)
+pub guards-returns-in_ok-take_ticks-in-Known-clause-meaning : goal.guards-returns-in_ok-take_ticks-in-Known-clause-meaning
+guards-returns-in_ok-take_ticks-in-Known-clause-meaning t c =
+    λ k. rw (c.in-Known.is, c.in_ok-take_ticks-in-Known.ensures.left) (errors_given c.in-Known.errors.items (state_of c.args.self.now c.args.world.now c.args.active.now) (c.args.self.now.ticks_left - c.len.result) (omega (arith, c.in_ok-take_ticks-in-Known.ensures.taken, c.len.ensures, c.in-Known.errors.ok.0)) (omega (arith, c.len.ensures, c.in-Known.errors.ok.0)))
 
-pub guards-returns-in_err-values-in-Listed-clause-meaning : goal.guards-returns-in_err-values-in-Listed-clause-meaning
-guards-returns-in_err-values-in-Listed-clause-meaning t c =
-    let p = err_from_is_err_and c.from_residual.result c.from_residual.ensures.1 in rw (p.1, p.2) (λ k. rw (c.in-Listed.is, row_items, ← c.deref.ensures.value) (c.in_err-values-in-Listed.ensures.meaning k))
+pub guards-returns-in_err-take_ticks-in-Known-clause-meaning : goal.guards-returns-in_err-take_ticks-in-Known-clause-meaning
+guards-returns-in_err-take_ticks-in-Known-clause-meaning t c =
+    let p = err_from_is_err_and c.from_residual.result c.from_residual.ensures.1 in
+    rw (p.1, p.2) (λ k. let h = c.in_err-take_ticks-in-Known.ensures.spent k in rw (c.in-Known.is, c.in_err-take_ticks-in-Known.ensures.emptied, h.1) (errors_end c.in-Known.errors.items (state_of c.args.self.now c.args.world.now c.args.active.now) c.args.self.now.ticks_left refl (omega (arith, h.0, c.len.ensures, c.in-Known.errors.ok.0))))
+
+pub guards-returns-in-Listed-clause-meaning : goal.guards-returns-in-Listed-clause-meaning
+guards-returns-in-Listed-clause-meaning t c =
+    λ k. rw (c.in-Listed.is, row_items, ← c.deref.ensures.value)
+    (subst (λ o. EvaluatesAll Faults (context_of c.args.stack.now c.args.indexed) (source_items c.deref.result.now) (state_of c.args.self.now c.args.world.now c.args.active.now) o (state_of c.evaluate_codes.new.self c.evaluate_codes.new.world c.evaluate_codes.new.active))
+    (sym (seen_listed c.evaluate_codes.result))
+    (c.evaluate_codes.ensures.meaning k))
+
+pub evaluate_codes-returns-clause-meaning : goal.evaluate_codes-returns-clause-meaning
+evaluate_codes-returns-clause-meaning t c =
+    λ k. rw c.in_ok-into_values.ensures (c.in_ok-values.ensures.meaning tt)
+
+pub evaluate_codes-returns-in_err-values-clause-meaning : goal.evaluate_codes-returns-in_err-values-clause-meaning
+evaluate_codes-returns-in_err-values-clause-meaning t c =
+    let p = err_from_is_err_and c.from_residual.result c.from_residual.ensures.1 in rw (p.1, p.2) (λ k. c.in_err-values.ensures.meaning k)
 
 pub locate-returns-in_err-root-clause-meaning : goal.locate-returns-in_err-root-clause-meaning
 locate-returns-in_err-root-clause-meaning t c =
@@ -633,23 +694,55 @@ for_range-returns-clause-meaning t c =
     λ k. span_fails (element_then (c.in_ok-low.ensures.meaning tt) (element_then (c.in_ok-high.ensures.meaning tt) no_more refl) refl) c.in-Err.ensures.err (c.no_turn.ensures.flow k)
 
 pub prepare-loop-handler-preserved : goal.prepare-loop-handler-preserved
-prepare-loop-handler-preserved t c = record {
-  ticks = omega arith;
-  rest = λ o s d.
-      let g = guarded (option_copied c.handler_parts-parts.result.name) (source_codes c.handler_parts-parts.result.codes.now) (source_block c.handler_parts-parts.result.body.now) (trees c.in_ok-values.values.items) in
-      subst (λ r. Prepares Faults (context_of c.args.stack.now None) (source_handler_list c.args.handlers.now) (state_of c.args.self.now c.args.world.now c.args.active.now) r s)
-      (guarded_on (map guarded_of c.loop-handler.guarded.items) _ g o c.in_ok-push_guarded.ensures)
-      (c.loop-handler.invariant.rest _ s (rw (drop_next c.args.handlers.now c.loop-handler.handler-index c.handler-item.result c.loop-handler-test.true c.handler-item.is, c.handler_parts-parts.ensures (source_handler_list (drop (c.loop-handler.handler-index + 1) c.args.handlers.now))) (codes_then (c.guards-outcome.ensures.meaning (c.in_ok-values.ensures.known tt)) (c.in_ok-values.ensures.outcome tt) d refl)));
-}
+prepare-loop-handler-preserved t c =
+    let parts = c.handler_parts-parts.result in
+    let vs = code_values parts.codes.now c.match-parts.values.items in
+    let h : HasValues Faults (context_of c.args.stack.now None) (source_codes parts.codes.now) (state_of c.loop-handler.self c.loop-handler.world c.loop-handler.active) (state_of c.match-parts.self c.match-parts.world c.match-parts.active) vs = elim c.match-parts.branch [
+      | prepare-in-Any w ↦ (Ok [], rw (w.in-Any.is, w.self-is, w.world-is, w.active-is) no_more, rw (w.in-Any.is, w.values-is, w.new-values.ensures.items) refl)
+      | prepare-in-Known+in_ok-take_ticks-in-Known w ↦ (
+        Ok (map (λ e. error e) w.in-Known.errors.items),
+        rw (w.in-Known.is, w.self-is, w.world-is, w.active-is, w.in_ok-take_ticks-in-Known.ensures.left) (errors_given w.in-Known.errors.items (state_of c.loop-handler.self c.loop-handler.world c.loop-handler.active) (c.loop-handler.self.ticks_left - w.len.result) (omega (arith, w.in_ok-take_ticks-in-Known.ensures.taken, w.len.ensures, w.in-Known.errors.ok.0)) (omega (arith, w.len.ensures, w.in-Known.errors.ok.0))),
+        rw w.in-Known.is refl,
+      )
+      | prepare-in-Listed+in_ok-values-in-Listed w ↦ (
+        seen_answers w.evaluate_codes-outcome.result,
+        rw (w.in-Listed.is, row_items, ← w.deref.ensures.value, w.self-is, w.world-is, w.active-is) (w.evaluate_codes-outcome.ensures.meaning (w.in_ok-values-in-Listed.ensures.known tt)),
+        rw (w.in-Listed.is, w.active-is, w.values-is) (w.in_ok-values-in-Listed.ensures.outcome tt),
+      )
+    ] in
+    record {
+      ticks = elim c.match-parts.branch [
+        | prepare-in-Any w ↦ omega (arith, c.loop-handler.invariant.ticks, ap (λ (x : Task). x.ticks_left) w.self-is)
+        | prepare-in-Known+in_ok-take_ticks-in-Known w ↦ omega (arith, c.loop-handler.invariant.ticks, ap (λ (x : Task). x.ticks_left) w.self-is, ap (λ (x : Task). x.ticks_left) w.in_ok-take_ticks-in-Known.ensures.left)
+        | prepare-in-Listed+in_ok-values-in-Listed w ↦ omega (arith, c.loop-handler.invariant.ticks, ap (λ (x : Task). x.ticks_left) w.self-is, w.evaluate_codes-outcome.ensures.ticks)
+      ];
+      rest = λ o s d.
+          let g = guarded (option_copied parts.name) (source_codes parts.codes.now) (source_block parts.body.now) vs in
+          subst (λ r. Prepares Faults (context_of c.args.stack.now None) (source_handler_list c.args.handlers.now) (state_of c.args.self.now c.args.world.now c.args.active.now) r s)
+          (guarded_on (map guarded_of c.loop-handler.guarded.items) _ g o c.in_ok-push_guarded.ensures)
+          (c.loop-handler.invariant.rest _ s (rw (drop_next c.args.handlers.now c.loop-handler.handler-index c.handler-item.result c.loop-handler-test.true c.handler-item.is, c.handler_parts-parts.ensures (source_handler_list (drop (c.loop-handler.handler-index + 1) c.args.handlers.now))) (codes_then h.1 h.2 d refl)));
+    }
+
+pub prepare-returns-in_err-take_ticks-in-Known-clause-meaning : goal.prepare-returns-in_err-take_ticks-in-Known-clause-meaning
+prepare-returns-in_err-take_ticks-in-Known-clause-meaning t c =
+    let p = err_from_is_err_and c.from_residual.result c.from_residual.ensures.1 in
+    rw (p.1, p.2) (λ k.
+    let h = c.in_err-take_ticks-in-Known.ensures.spent k in
+    let e : EvaluatesAll Faults (context_of c.args.stack.now None) (guards (source_codes c.handler_parts-parts.result.codes.now)) (state_of c.loop-handler.self c.loop-handler.world c.loop-handler.active) (Err (stops (out_of_ticks (trace_of c.args.stack.now c.loop-handler.active)))) (state_of c.take_ticks.new.self c.loop-handler.world c.loop-handler.active) =
+    rw (c.in-Known.is, c.in_err-take_ticks-in-Known.ensures.emptied) (errors_end c.in-Known.errors.items (state_of c.loop-handler.self c.loop-handler.world c.loop-handler.active) c.loop-handler.self.ticks_left refl (omega (arith, h.0, c.len.ensures, c.in-Known.errors.ok.0))) in
+    c.loop-handler.invariant.rest (Err (stop_of c.in_err-take_ticks-in-Known.field-0.0)) _ (rw (drop_next c.args.handlers.now c.loop-handler.handler-index c.handler-item.result c.loop-handler-test.true c.handler-item.is, c.handler_parts-parts.ensures (source_handler_list (drop (c.loop-handler.handler-index + 1) c.args.handlers.now))) (codes_stop e (ap Err (sym h.1)))))
+
+pub prepare-returns-in_err-values-in-Listed-clause-meaning : goal.prepare-returns-in_err-values-in-Listed-clause-meaning
+prepare-returns-in_err-values-in-Listed-clause-meaning t c =
+    let p = err_from_is_err_and c.from_residual-in_err-values-in-Listed.result c.from_residual-in_err-values-in-Listed.ensures.1 in
+    rw (p.1, p.2) (λ k.
+    let e : EvaluatesAll Faults (context_of c.args.stack.now None) (guards (source_codes c.handler_parts-parts.result.codes.now)) (state_of c.loop-handler.self c.loop-handler.world c.loop-handler.active) (seen_answers c.evaluate_codes-outcome.result) (state_of c.evaluate_codes-outcome.new.self c.evaluate_codes-outcome.new.world c.evaluate_codes-outcome.new.active) =
+    rw (c.in-Listed.is, row_items, ← c.deref.ensures.value) (c.evaluate_codes-outcome.ensures.meaning (c.in_err-values-in-Listed.ensures.known k)) in
+    c.loop-handler.invariant.rest (Err (stop_of c.in_err-values-in-Listed.field-0.0)) _ (rw (drop_next c.args.handlers.now c.loop-handler.handler-index c.handler-item.result c.loop-handler-test.true c.handler-item.is, c.handler_parts-parts.ensures (source_handler_list (drop (c.loop-handler.handler-index + 1) c.args.handlers.now))) (codes_stop e (c.in_err-values-in-Listed.ensures.outcome k))))
 
 pub prepare-returns-clause-meaning : goal.prepare-returns-clause-meaning
 prepare-returns-clause-meaning t c =
     λ k. rw append-nil at (c.loop-handler.invariant.rest (Ok []) (state_of c.loop-handler.self c.loop-handler.world c.loop-handler.active) (rw (drop_of_length-le c.args.handlers.now c.loop-handler-test.false) no_codes))
-
-pub prepare-returns-in_err-values-clause-meaning : goal.prepare-returns-in_err-values-clause-meaning
-prepare-returns-in_err-values-clause-meaning t c =
-    let p = err_from_is_err_and c.from_residual.result c.from_residual.ensures.1 in
-    rw (p.1, p.2) (λ k. c.loop-handler.invariant.rest (Err (stop_of c.in_err-values.field-0.0)) _ (rw (drop_next c.args.handlers.now c.loop-handler.handler-index c.handler-item.result c.loop-handler-test.true c.handler-item.is, c.handler_parts-parts.ensures (source_handler_list (drop (c.loop-handler.handler-index + 1) c.args.handlers.now))) (codes_stop (c.guards-outcome.ensures.meaning (c.in_err-values.ensures.known k)) (c.in_err-values.ensures.outcome k))))
 
 pub give-returns-in-None-clause-meaning : goal.give-returns-in-None-clause-meaning
 give-returns-in-None-clause-meaning t c = rw c.in-None.is (λ k. gives_zero)
@@ -993,21 +1086,13 @@ pub call_literal-returns-in_err-take_tick-clause-meaning : goal.call_literal-ret
 call_literal-returns-in_err-take_tick-clause-meaning t c =
     let p = err_from_is_err_and c.from_residual-in_err-take_tick.result c.from_residual-in_err-take_tick.ensures.1 in rw (p.1, p.2) (λ k. let h = c.in_err-take_tick.ensures.spent k in rw (c.in_err-take_tick.ensures.kept, h.1) (operands_end (element_then (c.in_ok-base.ensures.meaning tt) (element_stops (spent h.0)) refl)))
 
-pub call_literal-returns-in_err-values-clause-meaning : goal.call_literal-returns-in_err-values-clause-meaning
-call_literal-returns-in_err-values-clause-meaning t c =
-    let p = err_from_is_err_and c.from_residual-in_err-values.result c.from_residual-in_err-values.ensures.1 in rw (p.1, p.2) (λ k. (operands_end (element_then (c.in_ok-base.ensures.meaning tt) (element_then (literal_read c.in_ok-take_tick.ensures.taken) (rw c.in_ok-take_tick.ensures.left at (c.in_err-values.ensures.meaning k)) refl) refl)))
-
 pub call_literal-returns-clause-meaning : goal.call_literal-returns-clause-meaning
 call_literal-returns-clause-meaning t c =
-    λ k. (applies (element_then (c.in_ok-base.ensures.meaning tt) (element_then (literal_read c.in_ok-take_tick.ensures.taken) (rw c.in_ok-take_tick.ensures.left at (c.in_ok-values.ensures.meaning tt)) refl) refl) no_more (c.call_written.ensures.meaning c.args.indexed _ _ _ k))
-
-pub call_computed-returns-in_err-values-clause-meaning : goal.call_computed-returns-in_err-values-clause-meaning
-call_computed-returns-in_err-values-clause-meaning t c =
-    let p = err_from_is_err_and c.from_residual-in_err-values.result c.from_residual-in_err-values.ensures.1 in rw (p.1, p.2) (λ k. operands_end (element_then (c.in_ok-base.ensures.meaning tt) (element_then (c.in_ok-name.ensures.meaning tt) (c.in_err-values.ensures.meaning k) refl) refl))
+    λ k. (applies (element_then (c.in_ok-base.ensures.meaning tt) (element_then (literal_read c.in_ok-take_tick.ensures.taken) (rw c.in_ok-take_tick.ensures.left at (c.in_ok-evaluate_arguments.ensures.meaning tt)) refl) refl) no_more (c.call_written.ensures.meaning c.args.indexed _ _ _ k))
 
 pub call_computed-returns-clause-meaning : goal.call_computed-returns-clause-meaning
 call_computed-returns-clause-meaning t c =
-    λ k. applies (element_then (c.in_ok-base.ensures.meaning tt) (element_then (c.in_ok-name.ensures.meaning tt) (c.in_ok-values.ensures.meaning tt) refl) refl) no_more (c.call_verb.ensures.meaning c.args.indexed (source c.args.base.now) (source c.args.name.now) (source_items c.args.items.now) k)
+    λ k. applies (element_then (c.in_ok-base.ensures.meaning tt) (element_then (c.in_ok-name.ensures.meaning tt) (c.in_ok-evaluate_arguments.ensures.meaning tt) refl) refl) no_more (c.call_verb.ensures.meaning c.args.indexed (source c.args.base.now) (source c.args.name.now) (source_items c.args.items.now) k)
 
 pub run_called-returns-clause-meaning : goal.run_called-returns-clause-meaning
 run_called-returns-clause-meaning t c =

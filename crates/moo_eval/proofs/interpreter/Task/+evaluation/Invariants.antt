@@ -12,9 +12,11 @@ use Rattle.moo_eval_frame.specs.SeenScatter.{left_out_of}
 use Rattle.moo_eval_frame.specs.Seen.{context_of}
 use Rattle.moo_builtin.specs.Telling.{Faults}
 use Rattle.moo_eval.specs.Seen.{state_of}
+use Rattle.moo_eval.specs.Arguments.{is_splice}
 use Rattle.moo_eval.specs.Hooks.{HasStatements, LeadsTo, pending_progress}
 use Rattle.moo_eval_call.specs.SeenByHooks.{progress_of}
-use Rattle.std.specs.Prelude.{◌≤ℤ◌}
+use Rattle.std.specs.Prelude.{◌≤ℤ◌, ◌≡◌, false}
+use Rattle.std.specs.List.{list_any}
 use Rattle.moo_eval_frame.specs.Handling.{Guarded, guarded_before}
 use Rattle.moo_eval_frame.specs.SeenHandling.{guarded_of}
 use Rattle.moo_eval_semantics.specs.Operands.{before}
@@ -124,6 +126,15 @@ decreases-call_verb l = 16 * l.self.now.ticks_left + 9
 abbrev pub decreases-call_written : goal.decreases-call_written
 decreases-call_written l = 16 * l.self.now.ticks_left + 9
 
+abbrev pub decreases-evaluate_arguments : goal.decreases-evaluate_arguments
+decreases-evaluate_arguments l = 16 * l.self.now.ticks_left + 9
+
+abbrev pub decreases-evaluate_elements : goal.decreases-evaluate_elements
+decreases-evaluate_elements l = 16 * l.self.now.ticks_left + 7
+
+abbrev pub decreases-splice_arguments : goal.decreases-splice_arguments
+decreases-splice_arguments l = 16 * l.self.now.ticks_left + 8
+
 abbrev pub decreases-run_called : goal.decreases-run_called
 decreases-run_called l = 16 * l.self.now.ticks_left + 7
 
@@ -140,13 +151,16 @@ abbrev pub decreases-call_caller : goal.decreases-call_caller
 decreases-call_caller l = 16 * l.self.now.ticks_left + 9
 
 abbrev pub decreases-catch : goal.decreases-catch
-decreases-catch l = 16 * l.self.now.ticks_left + 9
+decreases-catch l = 16 * l.self.now.ticks_left + 10
 
 abbrev pub decreases-attempt : goal.decreases-attempt
 decreases-attempt l = 16 * l.self.now.ticks_left
 
 abbrev pub decreases-guards : goal.decreases-guards
-decreases-guards l = 16 * l.self.now.ticks_left + 8
+decreases-guards l = 16 * l.self.now.ticks_left + 9
+
+abbrev pub decreases-evaluate_codes : goal.decreases-evaluate_codes
+decreases-evaluate_codes l = 16 * l.self.now.ticks_left + 8
 
 abbrev pub decreases-assign : goal.decreases-assign
 decreases-assign l = 16 * l.self.now.ticks_left + 10
@@ -177,6 +191,14 @@ abbrev pub invariant-evaluate_all-loop-item : goal.invariant-evaluate_all-loop-i
 invariant-evaluate_all-loop-item l = record {
   ticks : l.self.ticks_left ≤ l.fn.self.ticks_left;
   rest : (o : Result (List Tree) Failure) (s : State) → EvaluatesAll Faults (context_of l.stack l.indexed) (source_items (drop l.item-index l.items)) (state_of l.self l.world l.active) o s → EvaluatesAll Faults (context_of l.stack l.indexed) (source_items l.items) (state_of l.fn.self l.fn.world l.fn.active) (before l.values o) s;
+}
+
+-- what the rest gives, after the values so far, is what all items give, and nothing is spliced in
+abbrev pub invariant-evaluate_elements-loop-item : goal.invariant-evaluate_elements-loop-item
+invariant-evaluate_elements-loop-item l = record {
+  ticks : l.self.ticks_left ≤ l.fn.self.ticks_left;
+  plain : list_any is_splice (drop l.item-index l.items) ≡ false;
+  rest : (o : Result (List Tree) Failure) (s : State) → EvaluatesAll Faults (context_of l.stack l.indexed) (source_items (drop l.item-index l.items)) (state_of l.self l.world l.active) o s → EvaluatesAll Faults (context_of l.stack l.indexed) (source_items l.items) (state_of l.fn.self l.fn.world l.fn.active) (before (trees l.values.items) o) s;
 }
 
 -- where the rest leads, the whole target leads

@@ -26,7 +26,7 @@ GRAMMAR = {
     "verb": ["f", "g", "h", "mild", "deep", "nosuch"],
     "container": ["s", "u", "l", "m", "args", "o.q", "o.r_long_property_name", "m[1]"],
     "place": [(3, "<number>"), (1, "<expression>"), (1, "$"), (1, "$ - 1"), (1, "$ + a"), (2, "1"), (1, "2")],
-    "codes": [(3, "ANY"), (1, "E_TYPE"), (1, "E_RANGE, E_DIV"), (2, "E_PROPNF, E_VERBNF, E_VARNF, E_INVIND"), (1, "@<container>")],
+    "codes": [(3, "ANY"), (1, "E_TYPE"), (1, "E_RANGE, E_DIV"), (1, "E_TYPE, E_TYPE, <leaf>"), (2, "E_PROPNF, E_VERBNF, E_VARNF, E_INVIND"), (1, "@<container>")],
     "item": [(5, "<expression>"), (1, "@<container>"), (1, "@<expression>")],
     "items": [(1, ""), (3, "<item>"), (3, "<item>, <item>"), (2, "<item>, <item>, <item>")],
     "function": "typeof length tostr toliteral toint toobj equal strcmp min max abs index rindex strsub listappend listinsert listset listdelete"
@@ -52,6 +52,8 @@ GRAMMAR = {
         (3, "s = s + <expression>;"), (3, "a = a + <number>;"), (6, "<target> = <expression>;"), (4, "<expression>;"),
         (2, "l = listappend(l, <expression>);"), (2, "l = listdelete(l, <number>);"), (1, "l = setadd(l, <expression>);"), (1, "l = setremove(l, <expression>);"),
         (1, "m = listinsert(m, <item>);"), (2, "<variable> = <function>(<variable>, <items>);"),
+        (2, "o.q = {@o.q, <expression>};"), (2, "o.q = {<expression>, @o.q};"), (2, "o.q = <function>(o.q, <expression>);"), (2, "o.q[<place>] = <expression>;"),
+        (1, "<object>.<property> = {@<object>.<property>, <expression>};"), (1, "<object>.<property>[<place>] = <expression>;"),
     ],
     "arm": [(6, ""), (3, "else <block>"), (3, "elseif (<expression>) <block>"), (2, "elseif (<number>) <block> else <block>")],
     "leaving": [(5, ""), (2, "break;"), (2, "continue;"), (1, "if (<number>) break; else continue; endif"), (1, "return <expression>;")],

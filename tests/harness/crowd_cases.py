@@ -4,14 +4,15 @@ import resource
 
 from outcome import Skipped
 from serving import Server, Unlike, sees, starting
+from stepping import instructions
 
 SILENT = 4000
 # The fewest clients that show it, if a process may have few open files.
 FEWEST = 900
-# How many lines are typed in a round, and how many rounds there are.
-LINES, ROUNDS = 200, 5
-# How many times the processor time of a line of one client alone. It is rough on a busy machine; a walk over all clients takes some 30 times.
-MOST = 4
+# How many lines are counted.
+LINES = 8
+# How many times the instructions of a line of one client alone.
+MOST = 1.5
 # A stranger who types nothing isn't logged in. Whoever types something is the wizard.
 BEGINS, WORLD_LINE = "return #3;", "return args ? #3 | #-1;"
 LOOKED = b"I couldn't understand that.\r\n"
@@ -29,25 +30,14 @@ def crowd_size():
     return min(SILENT, hard - 200)
 
 
-def nanoseconds(process):
-    """Returns the processor time of a process so far."""
-    with open(f"/proc/{process}/schedstat") as file:
-        return int(file.read().split()[0])
+def instructions_of_a_line(server, client):
+    """Returns the instructions of a line that is answered before the next is typed."""
+    def type_lines():
+        for _ in range(LINES):
+            client.sendall(b"xyzzy\r\n")
+            sees(client, LOOKED)
 
-
-def time_of_a_line(server, client):
-    """Returns the processor time of a line that is answered before the next is typed: the least of some rounds, since a round next to other
-    programs may take several times as long."""
-    return min(time_of_a_round(server, client) for _ in range(ROUNDS))
-
-
-def time_of_a_round(server, client):
-    """Returns the processor time of a line of a round."""
-    before = nanoseconds(server.process.pid)
-    for _ in range(LINES):
-        client.sendall(b"xyzzy\r\n")
-        sees(client, LOOKED)
-    return (nanoseconds(server.process.pid) - before) / LINES
+    return instructions(server.process.pid, type_lines) / LINES
 
 
 def a_line_next_to_a_crowd(moo):
@@ -57,10 +47,10 @@ def a_line_next_to_a_crowd(moo):
         client = server.connect()
         client.sendall(b"look\r\n")
         sees(client, GREETING)
-        alone = time_of_a_line(server, client)
+        alone = instructions_of_a_line(server, client)
         crowd = [server.connect() for _ in range(silent)]
-        beside = time_of_a_line(server, client)
+        beside = instructions_of_a_line(server, client)
         for other in [*crowd, client]:
             other.close()
     if beside > MOST * alone:
-        raise Unlike(f"nanoseconds of a line next to {silent} silent clients", round(beside), f"at most {MOST} times {alone:.0f}")
+        raise Unlike(f"instructions of a line next to {silent} silent clients", round(beside), f"at most {MOST} times {alone:.0f}")

@@ -9,8 +9,8 @@ from stepping import instructions
 SILENT = 4000
 # The fewest clients that show it, if a process may have few open files.
 FEWEST = 900
-# How many lines are counted.
-LINES = 8
+# How many lines are typed before a round, how many are counted in one, and how many rounds there are.
+EARLIER, LINES, ROUNDS = 50, 6, 3
 # How many times the instructions of a line of one client alone.
 MOST = 1.5
 # A stranger who types nothing isn't logged in. Whoever types something is the wizard.
@@ -31,13 +31,21 @@ def crowd_size():
 
 
 def instructions_of_a_line(server, client):
-    """Returns the instructions of a line that is answered before the next is typed."""
-    def type_lines():
-        for _ in range(LINES):
-            client.sendall(b"xyzzy\r\n")
-            sees(client, LOOKED)
+    """Returns the instructions of a line that is answered before the next is typed: the least of some rounds, since the server may still be taking
+    connections in the first."""
+    return min(instructions_of_a_round(server, client) for _ in range(ROUNDS))
 
-    return instructions(server.process.pid, type_lines) / LINES
+
+def instructions_of_a_round(server, client):
+    """Returns the instructions of a line of a round."""
+    type_lines(client, EARLIER)
+    return instructions(server.process.pid, lambda: type_lines(client, LINES)) / LINES
+
+
+def type_lines(client, count):
+    for _ in range(count):
+        client.sendall(b"xyzzy\r\n")
+        sees(client, LOOKED)
 
 
 def a_line_next_to_a_crowd(moo):

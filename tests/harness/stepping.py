@@ -23,7 +23,7 @@ class Work(threading.Thread):
     """What is done in a thread of its own while a process is counted. At its end it stops the process."""
 
     def __init__(self, process, work):
-        super().__init__()
+        super().__init__(daemon=True)
         self.process, self.work = process, work
         self.is_done, self.fault = False, None
 
@@ -50,6 +50,8 @@ def instructions(process, work):
     while True:
         ask(SINGLE_STEP, process)
         _, status = os.waitpid(process, 0)
+        if not os.WIFSTOPPED(status):
+            raise ChildProcessError("the process ended while its instructions were counted")
         if thread.is_done and os.WSTOPSIG(status) == signal.SIGSTOP:
             break
         count += 1

@@ -1,10 +1,10 @@
-//! Databases with a byte that is another, and want of memory.
+//! Databases with a byte that is another, and the fault of missing memory.
 use crate::databases::{SMALL, copy_of, read_as, with_line};
 use moo_dbtext::{DbFault, DbFaultKind, read_db, write_db};
 use std::alloc::Global;
 use std::test::Fail;
 
-/// Whether a text is refused, and not for want of memory, or what is written of it is read and written alike.
+/// Whether a text is refused, and not because memory ran out, or what is written of it is read and written alike.
 fn is_refused_or_read(alloc: Global, text: &[u8]) -> Result<bool, Fail> {
     match read_db(alloc, text) {
         Ok(saved) => {
@@ -61,7 +61,7 @@ fn so_it_is_in_a_text_of_version_1(rt: HostRuntime) -> Result<(), Fail> {
 }
 
 #[test]
-fn want_of_memory_is_told(rt: HostRuntime) -> Result<(), Fail> {
+fn missing_memory_is_reported(rt: HostRuntime) -> Result<(), Fail> {
     let fault = DbFault {
         line: 7,
         kind: DbFaultKind::Memory,

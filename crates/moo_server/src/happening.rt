@@ -31,7 +31,7 @@ pub(crate) fn is_dropped(live: &WorldState, happening: Input) -> bool
     }
 }
 
-/// What happens to the world and its connections, with the hooks that it causes. The error is want of memory.
+/// What happens to the world and its connections, with the hooks that it causes. The error is that memory runs out.
 pub(crate) fn apply(
     alloc: Global,
     live: &mut WorldState,
@@ -50,7 +50,7 @@ pub(crate) fn apply(
     }
 }
 
-/// Moves what was sent and logged behind what is under way, and answers what was asked for. The error is want of memory.
+/// Appends what was sent and logged to the output, and answers what was asked for. The error is that memory runs out.
 pub(crate) fn move_out(
     live: &mut WorldState,
     was_closing: bool,

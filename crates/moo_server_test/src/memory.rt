@@ -171,7 +171,7 @@ fn a_leaving_connection_is_not_heard(rt: HostRuntime) {
 }
 
 #[test]
-fn want_of_memory_halts_the_server(rt: HostRuntime) {
+fn missing_memory_halts_the_server(rt: HostRuntime) {
     match are_right(rt.alloc()) {
         Ok(are_right) => assert!(rt; are_right),
         Err(AllocError) => {}

@@ -1,5 +1,5 @@
-// A call that is refused for want of memory leaves an equal world. The test makes a world and its twin for each change,
-// makes the change once, and compares: with ample memory it changes the world; where one allocation fails, as
+// A call that is refused as memory runs out leaves an equal world. The test makes a world and its twin for each change,
+// makes the change once, and compares: with ample memory it changes the world; if one allocation fails, as
 // `rt try --test --fail-alloc N` lets the Nth, a refused call leaves the twin's.
 use crate::same::is_same;
 use crate::script::{first_wrong, run};

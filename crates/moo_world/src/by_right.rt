@@ -19,10 +19,10 @@ use crate::fault::WorldFault;
 use crate::rights::Rights;
 use moo_syntax_ast::Text;
 use moo_value::{ErrorCode, Value};
-use moo_world_object::{PropCell, built_in, place_named};
+use moo_world_object::{PropCell, place_named};
 use moo_world_table::looking::nearest_value;
 use moo_world_table::properties::{cell_in, cells_in, set_at_in};
-use moo_world_table::written::{nearest_written, place_written};
+use moo_world_table::written::place_written;
 
 impl World {
     /// Returns the value of a property that is not built in, if the programmer may read it.
@@ -33,19 +33,6 @@ impl World {
     {
         match self.number(o) {
             Some(x) => self.readable_from(programmer, x, name),
-            None => None,
-        }
-    }
-
-    /// Returns the value of a property that is not built in and whose name is a literal, if the programmer may read
-    /// it.
-    #[inline(always)]
-    pub fn readable_written(&self, programmer: i32, o: i32, name: &Text) -> Option<&Value>
-        ensures value { option_map tree (option_copied result) ≡ readable_value self.now programmer (number_of self.now.objects o) (folded name.now) }
-        ensures right { IfSome result (λ v. IsReadable self.now programmer o name.now (tree v.now)) }
-    {
-        match self.number(o) {
-            Some(x) => self.readable_written_from(programmer, x, name),
             None => None,
         }
     }
@@ -62,21 +49,6 @@ impl World {
         }
     }
 
-    #[inline(always)]
-    fn readable_written_from(&self, programmer: i32, x: usize, name: &Text) -> Option<&Value>
-        requires { IsSome (object_of self.now.objects x) }
-        ensures { option_map tree (option_copied result) ≡ readable_at self.now programmer x (folded name.now) }
-    {
-        if is_built_in(name) {
-            return None;
-        }
-        let found = self.cell_written(x, name);
-        match self.readable_cell(programmer, x, name.string().as_bytes(), found) {
-            Some(cell) => self.value_written(x, cell, name),
-            None => None,
-        }
-    }
-
     // Returns a valid object's cell of a name.
     #[inline(always)]
     fn cell_found(&self, x: usize, name: &[u8]) -> Option<&PropCell>
@@ -86,23 +58,9 @@ impl World {
         cell_in(&self.objects[x], name)
     }
 
-    // Returns a valid object's cell of a name that is a literal.
-    #[inline(always)]
-    fn cell_written(&self, x: usize, name: &Text) -> Option<&PropCell>
-        requires { IsSome (object_of self.now.objects x) }
-        ensures { option_copied result ≡ cell_named (thing_of self.now.objects x).cells (folded name.now) }
-    {
-        self.is_well_formed();
-        let cells = cells_in(&self.objects[x]);
-        match place_written(cells, name) {
-            Some(place) => Some(&cells[place]),
-            None => None,
-        }
-    }
-
     // Returns a valid object's cell of a name, if no built-in property hides it and the programmer may read it.
     #[inline(always)]
-    fn readable_cell<'a>(
+    pub(crate) fn readable_cell<'a>(
         &'a self,
         programmer: i32,
         x: usize,
@@ -141,20 +99,6 @@ impl World {
         match cell.value() {
             Some(value) => Some(value),
             None => nearest_value(&self.objects, &self.inheritance, x, cell.definer(), name),
-        }
-    }
-
-    // Returns the value for a valid object's cell of a name that is a literal.
-    #[inline(always)]
-    fn value_written<'a>(&'a self, x: usize, cell: &'a PropCell, name: &Text) -> Option<&'a Value>
-        requires valid { IsSome (object_of self.now.objects x) }
-        requires named { cell_named (thing_of self.now.objects x).cells (folded name.now) ≡ Some cell.now }
-        ensures { option_map tree (option_copied result) ≡ read self.now x (folded name.now) }
-    {
-        self.is_well_formed();
-        match cell.value() {
-            Some(value) => Some(value),
-            None => nearest_written(&self.objects, &self.inheritance, x, cell.definer(), name),
         }
     }
 
@@ -370,20 +314,4 @@ impl World {
         }
         self.set(o, name, value)
     }
-}
-
-// Returns whether a built-in property has this literal name; false without a test if a cell of that name was found
-// before.
-#[inline(always)]
-fn is_built_in(name: &Text) -> bool
-    ensures { IsTrue result → is_some (built_in_of (folded name.now)) ≡ true }
-{
-    name.hint() == 0 && has_built_in_name(name)
-}
-
-#[inline(never)]
-fn has_built_in_name(name: &Text) -> bool
-    ensures { result ≡ is_some (built_in_of (folded name.now)) }
-{
-    built_in(name.string().as_bytes()).is_some()
 }

@@ -24,6 +24,7 @@ mod restoring;
 mod rights;
 mod setting;
 mod verbs;
+mod written;
 
 pub use fault::WorldFault;
 pub use looking::VerbAt;

@@ -56,7 +56,7 @@ impl World {
         }
     }
 
-    fn get_built_in(
+    pub(crate) fn get_built_in(
         &self,
         alloc: Global,
         x: usize,

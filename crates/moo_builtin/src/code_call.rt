@@ -35,6 +35,7 @@ pub fn call_code(
     Some(answer(alloc, function, args, world, programmer))
 }
 
+#[inline(always)]
 fn is_of_code(function: Function) -> bool
     ensures { result ≡ is_of_code function }
 {

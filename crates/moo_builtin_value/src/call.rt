@@ -27,6 +27,7 @@ pub enum Outcome {
 
 /// Returns what a function over values alone returns or raises. The arguments fit its row of the table; `moment` is
 /// in seconds since 1970. `None` for any other function; the arguments then stay as they are.
+#[inline(never)]
 pub fn answer(alloc: Global, function: Function, args: &mut [Value], moment: u32) -> Option<Outcome>
     ensures value { ShowsSome function (trees args.old) result (answer function moment (trees args.old)) }
     ensures unchanged { IfNone result (args.new ≡ args.old) }
@@ -42,6 +43,7 @@ pub fn answer(alloc: Global, function: Function, args: &mut [Value], moment: u32
 
 /// Returns what a function over values alone returns, for functions whose errors all have their own message. The
 /// arguments fit its row of the table. `None` for any other function; the arguments then stay as they are.
+#[inline(always)]
 pub fn plain_answer(
     alloc: Global,
     function: Function,

@@ -1,3 +1,4 @@
 pub mod Answered
 pub mod Changed
 pub mod Informed
+pub mod Accepted

@@ -38,6 +38,7 @@ pub fn call_world(
     Some(answer(alloc, function, args, world, programmer))
 }
 
+#[inline(always)]
 fn is_of_world(function: Function) -> bool
     ensures { result ≡ is_of_world function }
 {
@@ -67,7 +68,7 @@ fn is_of_world(function: Function) -> bool
     }
 }
 
-#[inline(never)]
+#[inline(always)]
 fn answer(
     alloc: Global,
     function: Function,
@@ -84,6 +85,7 @@ fn answer(
     }
 }
 
+#[inline(always)]
 fn look(
     alloc: Global,
     function: Function,
@@ -110,6 +112,7 @@ fn look(
     })
 }
 
+#[inline(never)]
 fn change(
     alloc: Global,
     function: Function,

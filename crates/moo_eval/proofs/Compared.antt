@@ -1,9 +1,10 @@
 -- Operators between expressions without parts.
-use Rattle.std.proofs.Common.{◌≡◌, ◌≤◌, ◌-◌, ℕ, List, Option, Ok, refl, ap, arith}
+use Rattle.std.proofs.Common.{Bool, true, false, ◌≡◌, ◌≤◌, ◌-◌, ℕ, List, Option, Ok, refl, ap, arith}
 use Rattle.moo_value.specs.Tree.{Tree}
 use Rattle.moo_syntax_ast.specs.declared.operator.BinaryOperator.{BinaryOperator}
 use Rattle.moo_syntax_ast.specs.Tree.{Expr, binary}
 use Rattle.moo_builtin_operator.specs.Operators.{binary_of}
+use Rattle.moo_builtin_operator.specs.Truth.{is_true, truth_value}
 use Rattle.moo_eval_frame.specs.Outcome.{answers}
 use Rattle.moo_eval_frame.specs.State.{Context}
 use Rattle.moo_eval_access.specs.State.{State, ticked}
@@ -16,3 +17,8 @@ pub compared : (variables : List ℕ → Option Tree) {c : Context} {s : State} 
 compared variables {c = c} {s = s} left f g h e z l =
     let t : left ≡ s.ticks - 1 - 1 - 1 = omega (arith, l) in
     rw t (begins {s = s} (omega (arith, z)) (applies (element_then (f c (ticked s) e (omega (arith, z))) (element_then (g c (ticked (ticked s)) e (omega (arith, z))) no_more refl) refl) no_more (binary_is (ap answers h))) refl)
+
+-- the result of a test counts as true if the test passes
+pub truth_told : (b : Bool) → is_true (truth_value b) ≡ b
+truth_told true = refl
+truth_told false = refl

@@ -17,7 +17,7 @@ use crate::leaves::{is_leaf, leaf_value};
 use moo_builtin_operator::is_true;
 use moo_eval_access::binary;
 use moo_eval_frame::{Activation, CallStack, Stop};
-use moo_eval_integer::counts_as_true;
+use moo_eval_integer::{compare_nodes, counts_as_true};
 use moo_syntax_ast::Name;
 use moo_syntax_ast::operator::{BinaryOperator, LogicOperator, UnaryOperator};
 use moo_syntax_lower::Node;
@@ -111,11 +111,34 @@ impl Task {
         ensures none { IfNone result (self.new ≡ self.old) }
         ensures ticks { self.new.ticks_left ≤ self.old.ticks_left }
     {
+        if is_equality(operator) && is_compared(left) && is_compared(right) {
+            return self.try_equality(active, operator, left, right);
+        }
         if is_leaf(left) && is_leaf(right) {
             self.try_operands(active, operator, left, right)
         } else {
             None
         }
+    }
+
+    // Returns whether the value of `==` or `!=` between literals, variables and elements of variables is true, as
+    // `try_comparison` does.
+    #[inline(always)]
+    fn try_equality(
+        &mut self,
+        active: &Activation,
+        operator: BinaryOperator,
+        left: &Node,
+        right: &Node,
+    ) -> Option<bool>
+        ensures some { IfSome result (λ b. (w : WorldModel) (c : Context) → (v : Tree) × Evaluates Faults c (binary operator (source left.now) (source right.now)) (state_of self.old w active.now) (Ok v) (state_of self.new w active.now) × (is_true v ≡ b)) }
+        ensures none { IfNone result (self.new ≡ self.old) }
+        ensures ticks { self.new.ticks_left ≤ self.old.ticks_left }
+    {
+        let mut ticks = self.ticks_left.left() as u32;
+        let passes = compare_nodes(active, &mut ticks, operator, left, right)?;
+        self.ticks_left.leave(ticks);
+        Some(passes)
     }
 
     // Returns whether the value of an operator between two variables or literals is true, as `try_comparison` does. Not
@@ -219,6 +242,17 @@ impl Task {
         let passes = self.passes(world, active, stack, indexed, operand)?;
         Ok(!passes)
     }
+}
+
+#[inline(always)]
+fn is_equality(operator: BinaryOperator) -> bool {
+    matches!(operator, BinaryOperator::Equal | BinaryOperator::NotEqual)
+}
+
+// Is true for a variable, a literal and an element.
+#[inline(always)]
+fn is_compared(node: &Node) -> bool {
+    is_leaf(node) || matches!(node, Node::Index(..))
 }
 
 // Is true if a first operand decides, of which only whether it is true is known.

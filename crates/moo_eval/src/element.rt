@@ -124,6 +124,10 @@ impl Task {
 fn may_be_integer(node: &Node) -> bool {
     matches!(
         node,
-        Node::Integer(_) | Node::Variable(_) | Node::Arithmetic(..) | Node::Index(..)
+        Node::Integer(_)
+            | Node::Variable(_)
+            | Node::Arithmetic(..)
+            | Node::Binary(..)
+            | Node::Index(..)
     )
 }

@@ -1,7 +1,7 @@
 //! Evaluates operators, indexes, ranges and lists.
 ghost use Rattle.std.specs.Prelude.{◌≡◌, ◌≤◌, Ok, IfSome, IfNone};
 ghost use Rattle.moo_value.specs.View.{tree};
-ghost use Rattle.moo_syntax_ast.specs.Tree.{unary, binary, index, range, list};
+ghost use Rattle.moo_syntax_ast.specs.Tree.{variable, unary, binary, index, range, list};
 ghost use Rattle.moo_syntax_lower.specs.Source.{source, source_items};
 ghost use Rattle.moo_builtin_operator.specs.Places.{made_list};
 ghost use Rattle.moo_world_table.specs.World.{World as WorldModel};
@@ -16,7 +16,8 @@ use crate::interpreter::Task;
 use moo_builtin_operator as operation;
 use moo_eval_access::binary;
 use moo_eval_frame::{Activation, CallStack, Failure, Gathered};
-use moo_eval_integer::element_of;
+use moo_eval_integer::{element_of, inner_element_of};
+use moo_syntax_ast::Name;
 use moo_syntax_ast::operator::{BinaryOperator, UnaryOperator};
 use moo_syntax_lower::{Node, NodeItem};
 use moo_value::Value;
@@ -62,8 +63,8 @@ impl Task {
         Ok(binary(self.alloc(), operator, &left, &right)?)
     }
 
-    /// Returns `base[place]` if the base is a variable and the place is computed from integers alone, and takes its ticks.
-    /// `None` if that can't be; then nothing has changed.
+    /// Returns `base[place]`, and takes its ticks. The base is a variable, an element of one or an element of such an
+    /// element, and the places are computed from integers alone. `None` if that can't be; then nothing has changed.
     #[inline(always)]
     pub(crate) fn try_element(
         &mut self,
@@ -75,11 +76,40 @@ impl Task {
         ensures none { IfNone result (self.new ≡ self.old) }
         ensures ticks { self.new.ticks_left ≤ self.old.ticks_left }
     {
-        let Node::Variable(name) = base else {
-            return None;
-        };
+        match base {
+            Node::Variable(name) => self.try_variable_element(active, name, place),
+            Node::Index(..) => self.try_inner_element(active, base, place),
+            _ => None,
+        }
+    }
+
+    // Returns `name[place]` as `try_element` does.
+    #[inline(always)]
+    fn try_variable_element(
+        &mut self,
+        active: &Activation,
+        name: &Name,
+        place: &Node,
+    ) -> Option<Value>
+        ensures some { IfSome result (λ v. (w : WorldModel) (c : Context) → Evaluates Faults c (index (variable name.now) (source place.now)) (state_of self.old w active.now) (Ok (tree v)) (state_of self.new w active.now)) }
+        ensures none { IfNone result (self.new ≡ self.old) }
+        ensures ticks { self.new.ticks_left ≤ self.old.ticks_left }
+    {
         let mut left = self.ticks_left.left() as u32;
         let value = element_of(&mut self.spare.letters, active, &mut left, name, place)?;
+        self.ticks_left.leave(left);
+        Some(value)
+    }
+
+    // Returns `base[place]` as `try_element` does, where the base is an element.
+    #[inline(always)]
+    fn try_inner_element(&mut self, active: &Activation, base: &Node, place: &Node) -> Option<Value>
+        ensures some { IfSome result (λ v. (w : WorldModel) (c : Context) → Evaluates Faults c (index (source base.now) (source place.now)) (state_of self.old w active.now) (Ok (tree v)) (state_of self.new w active.now)) }
+        ensures none { IfNone result (self.new ≡ self.old) }
+        ensures ticks { self.new.ticks_left ≤ self.old.ticks_left }
+    {
+        let mut left = self.ticks_left.left() as u32;
+        let value = inner_element_of(&mut self.spare.letters, active, &mut left, base, place)?;
         self.ticks_left.leave(left);
         Some(value)
     }

@@ -1,8 +1,7 @@
 //! Lists and strings that grow in the variable that holds them, as by `l = {@l, x};`, `l = {x, @l};` and `s = s + x;`.
-ghost use Rattle.std.specs.Prelude.{◌≡◌, ◌↔◌, ◌++◌, ◌∷◌, [], Ok, Err, IsTrue, IfOk, IfErr, OnOk};
+ghost use Rattle.std.specs.Prelude.{◌≡◌, ◌++◌, ◌∷◌, [], Ok, Err, IfErr, OnOk};
 ghost use Rattle.moo_value.specs.Tree.{Tree, list_of, string};
 ghost use Rattle.moo_value.specs.View.{tree};
-ghost use Rattle.moo_value.specs.Size.{IsWithinLimits};
 ghost use Rattle.moo_builtin_operator.specs.Operators.{added};
 ghost use Rattle.moo_builtin_operator.specs.Places.{made_list};
 ghost use Rattle.moo_eval_frame.specs.Outcome.{answers};
@@ -10,13 +9,13 @@ ghost use Rattle.moo_eval_frame.specs.Variables.{bind, with_variable};
 ghost use Rattle.moo_eval_frame.specs.Seen.{variables_of, failure_of, HadMemoryIn};
 
 use crate::integers::binary;
-use moo_eval_frame::{Failure, Variables};
+use moo_eval_frame::{
+    Failure, Variables, extended, has_room_after, has_room_for, prepended, pushed,
+};
 use moo_syntax_ast::Name;
 use moo_syntax_ast::operator::BinaryOperator;
-use moo_value::{
-    DEPTH_LIMIT, ErrorCode, ListLimit, MooList, MooStr, Value, ValueFault, WEIGHT_LIMIT,
-};
-use std::alloc::{AllocError, Global};
+use moo_value::{ErrorCode, MooList, MooStr, Value};
+use std::alloc::Global;
 
 /// Sets a variable to the list with the value after its elements. Past the limits that is E_QUOTA; the variable then
 /// keeps its value. The variable gives up what it holds first, so a list that nothing else shares grows in place.
@@ -63,45 +62,6 @@ pub fn set_prepended(
     Ok(())
 }
 
-/// Returns the list with this value before its elements, which has to be within the limits. A list that nothing else
-/// shares takes it in place. Err is out of memory.
-pub fn prepended(alloc: Global, list: MooList, value: Value) -> Result<MooList, AllocError>
-    requires { IsWithinLimits (list_of (tree value ∷ list)) }
-    ensures { IfOk result (λ longer. longer ≡ tree value ∷ list) }
-{
-    match list.prepended(alloc, value) {
-        Ok(longer) => Ok(longer),
-        Err(ListLimit::Memory) => Err(AllocError),
-        Err(ListLimit::TooLarge) => unreachable!(),
-    }
-}
-
-/// Returns whether the list with one more value, this one, is within the limits of weight and depth.
-pub fn has_room_for(list: &MooList, value: &Value) -> bool
-    ensures last { IsTrue result ↔ IsWithinLimits (list_of (list.now ++ tree value.now ∷ [])) }
-    ensures first { IsTrue result ↔ IsWithinLimits (list_of (tree value.now ∷ list.now)) }
-{
-    let weight = list.weight() + value.weight();
-    if weight > WEIGHT_LIMIT {
-        return false;
-    }
-    let depth = list.depth().max(value.depth() + 1);
-    depth <= DEPTH_LIMIT
-}
-
-/// Returns the list with this value at its end, which has to be within the limits. A list that nothing else shares grows
-/// in place. Err is out of memory.
-pub fn pushed(alloc: Global, list: MooList, value: Value) -> Result<MooList, AllocError>
-    requires { IsWithinLimits (list_of (list ++ tree value ∷ [])) }
-    ensures { IfOk result (λ longer. longer ≡ list ++ tree value ∷ []) }
-{
-    match list.pushed(alloc, value) {
-        Ok(longer) => Ok(longer),
-        Err(ListLimit::Memory) => Err(AllocError),
-        Err(ListLimit::TooLarge) => unreachable!(),
-    }
-}
-
 /// Sets a variable to the sum of two values, or gives the error of the sum; the variable then keeps its value. A string
 /// that nothing but the variable and `first` share grows in place.
 pub fn set_sum(
@@ -145,23 +105,4 @@ fn set_extended(
     let extended = extended(alloc, text, last)?;
     variables.set(name, Value::Str(extended))?;
     Ok(())
-}
-
-// Is true if the string with another after its bytes is within the limit of weight.
-fn has_room_after(text: &MooStr, last: &MooStr) -> bool
-    ensures { IsTrue result ↔ IsWithinLimits (string (text.now ++ last.now)) }
-{
-    text.len() + last.len() < WEIGHT_LIMIT as usize
-}
-
-// Returns the string with another after its bytes, which has to be within the limit of weight.
-fn extended(alloc: Global, text: MooStr, last: &MooStr) -> Result<MooStr, AllocError>
-    requires { IsWithinLimits (string (text ++ last.now)) }
-    ensures { IfOk result (λ longer. longer ≡ text ++ last.now) }
-{
-    match text.extended(alloc, last) {
-        Ok(longer) => Ok(longer),
-        Err(ValueFault::Memory) => Err(AllocError),
-        Err(ValueFault::TooHeavy | ValueFault::BadByte) => unreachable!(),
-    }
 }

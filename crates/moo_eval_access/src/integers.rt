@@ -15,7 +15,7 @@ use moo_value::Value;
 use std::alloc::Global;
 
 /// Returns what an operator between two operands gives, or its error. Integers are tried first.
-#[inline]
+#[inline(always)]
 pub fn binary(
     alloc: Global,
     operator: BinaryOperator,
@@ -31,7 +31,7 @@ pub fn binary(
 }
 
 // Returns what an operator gives for two values, if they are integers and it can't fail.
-#[inline]
+#[inline(always)]
 fn integers(operator: BinaryOperator, a: &Value, b: &Value) -> Option<i32>
     ensures { IfSome result (λ n. binary_of operator (tree a.now) (tree b.now) ≡ Ok (integer n)) }
 {

@@ -16,10 +16,11 @@ pub use entering::{
     enter_written, found_verb, has_frame_left, player_of_call, program_of, verb_frame, verb_there,
 };
 pub use fault::failed;
-pub use growth::{has_room_for, prepended, pushed, set_longer, set_prepended, set_sum};
+pub use growth::{set_longer, set_prepended, set_sum};
 pub use integers::{binary, number_of};
 pub use object::{
-    drop_property, drop_written, read_property, read_written, write_property, write_written,
+    drop_property, drop_written, read_known, read_property, read_written, write_property,
+    write_written,
 };
 pub use place::{set_at, set_property_at};
 pub use target::{

@@ -1,6 +1,6 @@
 //! Properties of objects: 'Getting and Setting the Values of Properties' of the LambdaMOO Programmer's Manual,
 //! 'Expressions' of docs/reference/language.md.
-ghost use Rattle.std.specs.Prelude.{◌≡◌, None, IfErr};
+ghost use Rattle.std.specs.Prelude.{◌≡◌, None, Ok, IfErr, IfSome};
 ghost use Rattle.moo_value.specs.View.{tree};
 ghost use Rattle.moo_value.specs.Tree.{object, string};
 ghost use Rattle.moo_eval_access.specs.Calls.{read_raises, read_property, write_property, IsSetAlike};
@@ -36,7 +36,8 @@ pub fn read_property(
     }
 }
 
-/// Returns the value of a property whose name is a literal, as `read_property` does.
+/// Returns the value of a property whose name is a literal, as `read_property` does. No cell was found before for the name
+/// of a built-in property, so its hint is 0.
 #[inline(always)]
 pub fn read_written(
     alloc: Global,
@@ -51,6 +52,11 @@ pub fn read_written(
     let Value::Obj(o) = base else {
         return Err(Failure::Fails(ErrorCode::TypeMismatch));
     };
+    if name.hint() == 0 {
+        if let Some(value) = world.built_in_value(alloc, *o, name) {
+            return Ok(value);
+        }
+    }
     match world.readable_written(programmer, *o, name) {
         Some(value) => Ok(value.try_clone()?),
         None => read_in_order(alloc, world, programmer, *o, name.string()),
@@ -74,6 +80,28 @@ fn read_in_order(
         Ok(value)
     } else {
         Err(Failure::Fails(ErrorCode::Permission))
+    }
+}
+
+/// Returns the value of a property whose name is a literal, as `read_property` does, if it is built in or if the hint at its
+/// name leads to its cell. `None` if not, if the programmer may not read it, or if memory is missing.
+#[inline(always)]
+pub fn read_known(
+    alloc: Global,
+    world: &World,
+    programmer: i32,
+    o: i32,
+    name: &Text,
+) -> Option<Value>
+    ensures { IfSome result (λ v. read_property world.now programmer (object o) (string name.now) ≡ Ok (tree v)) }
+{
+    if name.hint() == 0 {
+        return world.built_in_value(alloc, o, name);
+    }
+    let value = world.readable_known(programmer, o, name)?;
+    match value.try_clone() {
+        Ok(copy) => Some(copy),
+        Err(_) => None,
     }
 }
 

@@ -14,11 +14,12 @@ ghost use Rattle.moo_builtin.specs.Calls.{CallsPlain};
 ghost use Rattle.moo_builtin.specs.Outcomes.{IsReply};
 
 use crate::arguments::are_too_many;
-use crate::raising::raised_here;
+use crate::raising::{raised_here, raised_plainly};
 use crate::spliced::{Extreme, extreme_number, joined_text};
 use crate::task::{is_of_task, task_reply};
 use crate::ticks::Ticks;
-use moo_builtin::{Caller, call_found};
+use moo_builtin::{Caller, call_found, try_plain};
+use moo_builtin_operator::OperationFault;
 use moo_builtin_value::{Outcome, raised, settled};
 use moo_builtin_world::refusal;
 use moo_eval_frame::{Activation, CallStack, Failure, Gathered, Notice, Stop};
@@ -56,6 +57,78 @@ pub fn call_function(
     }
 }
 
+/// Calls a built-in function as `call_function`, with values among which no list was spliced in. They may be moved out.
+#[inline(always)]
+pub fn call_values(
+    alloc: Global,
+    world: &mut World,
+    active: &mut Activation,
+    stack: &CallStack<'_>,
+    ticks: &Ticks,
+    notices: &mut Vec<Notice>,
+    function: Option<Function>,
+    values: &mut [Value],
+) -> Result<Value, Failure>
+    ensures { (name : List ℕ) → function_of name ≡ function → IsKnownFailure result → CallsFunction Faults (context_of stack.now None) name (trees values.old) (state_at ticks.now notices.old.items world.old active.old) (seen_answer result) (state_at ticks.now notices.new.items world.new active.new) }
+{
+    match task_function(function) {
+        Some(function) => unless_refused(
+            alloc, world, active, stack, ticks, notices, function, values,
+        ),
+        None => plain_values(alloc, world, active, stack, function, values),
+    }
+}
+
+// Calls a plain function with values, for the programmer of the running frame.
+#[inline(always)]
+fn plain_values(
+    alloc: Global,
+    world: &mut World,
+    active: &Activation,
+    stack: &CallStack<'_>,
+    function: Option<Function>,
+    values: &mut [Value],
+) -> Result<Value, Failure>
+    ensures { (name : List ℕ) (ticks : ℕ) (notices : List Notice) → function_of name ≡ function → IsKnownFailure result → ComesTo (CallsPlain Faults name (trees values.old) world.old (caller (context_of stack.now None) (state_at ticks notices world.old active.now))) (context_of stack.now None) (state_at ticks notices world.old active.now) (seen_answer result) (state_at ticks notices world.new active.now) }
+{
+    let caller = Caller {
+        programmer: active.programmer,
+        moment: stack.surroundings.moment,
+    };
+    let Some(found) = function else {
+        return other_values(alloc, world, active, stack, function, values, caller);
+    };
+    match try_plain(alloc, found, values, world, caller) {
+        Some(Ok(value)) => Ok(value),
+        Some(Err(OperationFault::Raise(code))) => raised_plainly(alloc, stack, active, code),
+        Some(Err(OperationFault::Memory)) => Err(Failure::Stops(Stop::Memory)),
+        None => other_values(alloc, world, active, stack, function, values, caller),
+    }
+}
+
+// Calls `raise`, or raises E_INVARG for what is no plain function.
+#[inline(never)]
+fn other_values(
+    alloc: Global,
+    world: &mut World,
+    active: &Activation,
+    stack: &CallStack<'_>,
+    function: Option<Function>,
+    values: &mut [Value],
+    caller: Caller,
+) -> Result<Value, Failure>
+    ensures { (name : List ℕ) (ticks : ℕ) (notices : List Notice) → function_of name ≡ function → IsKnownFailure result → ComesTo (CallsPlain Faults name (trees values.old) world.old caller) (context_of stack.now None) (state_at ticks notices world.old active.now) (seen_answer result) (state_at ticks notices world.new active.now) }
+{
+    match call_found(alloc, function, values, world, caller) {
+        Outcome::Value(value) => Ok(value),
+        Outcome::Raise(code, message, value) => {
+            raised_here(alloc, stack, active, code, message, value)
+        }
+        Outcome::Memory => Err(Failure::Stops(Stop::Memory)),
+    }
+}
+
+#[inline(always)]
 fn task_function(function: Option<Function>) -> Option<Function>
     ensures { result ≡ task_function function }
 {

@@ -25,7 +25,7 @@ mod update;
 mod verb_call;
 
 pub use arguments::are_too_many;
-pub use call::call_function;
+pub use call::{call_function, call_values};
 pub use evaluating::typed_frame;
 pub use progress::{Progress, Stage};
 pub use stages::resume_call;

@@ -20,6 +20,7 @@ use moo_world::{Rights, World};
 use std::alloc::Global;
 
 /// Returns whether a function inspects the task or its connections, or leaves a notice.
+#[inline(always)]
 pub(crate) fn is_of_task(function: Function) -> bool
     ensures { result ≡ is_of_task function }
 {

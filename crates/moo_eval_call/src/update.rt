@@ -9,8 +9,7 @@ ghost use Rattle.moo_eval_call.specs.Updates.{MakesList, HasList, HasPlace};
 
 use moo_builtin_operator::{OperationFault, before_place};
 use moo_builtin_value::plain_answer;
-use moo_eval_access::has_room_for;
-use moo_eval_frame::Variables;
+use moo_eval_frame::{Variables, has_room_for};
 use moo_syntax_ast::Name;
 use moo_syntax_function::Function;
 use moo_value::{MooList, Value, WEIGHT_LIMIT};

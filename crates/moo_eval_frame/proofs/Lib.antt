@@ -12,3 +12,6 @@ pub mod Told
 pub mod Measured
 pub mod Named
 pub mod Rows
+pub mod Options
+pub mod InnerPuts
+pub mod Room

@@ -18,3 +18,4 @@ pub mod Seen
 pub mod SeenScatter
 pub mod SeenHandling
 pub mod Fault
+pub mod InnerPut

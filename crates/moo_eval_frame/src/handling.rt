@@ -67,13 +67,20 @@ pub fn push_guarded<'a>(
 ) -> Result<(), AllocError>
     ensures { OnOk result (map guarded_of all.new.items ≡ map guarded_of all.old.items ++ guarded (option_copied parts.entry.name) (source_codes parts.entry.codes.now) (source_block parts.entry.body.now) (code_values parts.entry.codes.now values.items) ∷ []) }
 {
-    all.push(Guarded {
+    all.push(with_values(parts, values))?;
+    Ok(())
+}
+
+/// Returns a handler with the values of its codes.
+pub fn with_values<'a>(parts: HandlerParts<'a>, values: Vec<Value>) -> Guarded<'a>
+    ensures { guarded_of result ≡ guarded (option_copied parts.entry.name) (source_codes parts.entry.codes.now) (source_block parts.entry.body.now) (code_values parts.entry.codes.now values.items) }
+{
+    Guarded {
         name: parts.name,
         codes: parts.codes,
         body: parts.body,
         values,
-    })?;
-    Ok(())
+    }
 }
 
 impl Guarded<'_> {
@@ -100,7 +107,7 @@ pub fn chosen<'g, 'a>(all: &'g [Guarded<'a>], code: ErrorCode) -> Option<&'g Gua
 fn frame_list(alloc: Global, frame: &TraceFrame) -> Result<Value, Failure>
     ensures { IsKnownFailure result → answers (frame_list frame.now) ≡ seen_answer result }
 {
-    let mut values = Vec::new(alloc);
+    let mut values = Vec::with_capacity(alloc, 5)?;
     push(&mut values, Value::Obj(frame.this))?;
     push(&mut values, Value::Str(frame.verb.try_clone()?))?;
     push(&mut values, Value::Obj(frame.programmer))?;
@@ -126,7 +133,7 @@ fn push_entry(alloc: Global, values: &mut Vec<Value>, entry: &TraceEntry) -> Res
 pub fn frame_lists(alloc: Global, trace: &[TraceEntry]) -> Result<Vec<Value>, Failure>
     ensures { IsKnownFailure result → answers (frame_lists trace.now) ≡ seen_answers result }
 {
-    let mut values = Vec::new(alloc);
+    let mut values = Vec::with_capacity(alloc, trace.len())?;
     for entry in trace {
         push_entry(alloc, &mut values, entry)?;
     }

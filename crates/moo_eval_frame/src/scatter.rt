@@ -1,19 +1,20 @@
 //! Scatters: how the values of a list are assigned to names.
-ghost use Rattle.std.specs.Prelude.{◌≡◌, ◌+◌, ◌||◌, ◌++◌, ◌∷◌, [], ◌≤◌, cond, Ok, Err, map, drop, length, IfOk, IfErr, OnOk, IfSome, IfNone, List};
-ghost use Rattle.moo_value.specs.Tree.{Tree};
+ghost use Rattle.std.specs.Prelude.{◌≡◌, ◌+◌, ◌||◌, ◌++◌, ◌∷◌, [], ◌≤◌, cond, Ok, Err, map, drop, length, IfOk, IfErr, OnOk, IfSome, IfNone, IsTrue, IsFalse, List};
+ghost use Rattle.moo_value.specs.Tree.{Tree, list_of};
 ghost use Rattle.moo_value.specs.View.{tree, trees};
 ghost use Rattle.moo_value.specs.declared.error_code.ErrorCode.{ErrorCode as ErrorCodeModel};
 ghost use Rattle.moo_syntax_ast.specs.Tree.{Items, element, splice, optional};
 ghost use Rattle.moo_syntax_lower.specs.Source.{source, source_items, with_source};
 ghost use Rattle.moo_syntax_lower.specs.Blocks.{named_items};
 ghost use Rattle.moo_eval_frame.specs.Outcome.{fails};
-ghost use Rattle.moo_eval_frame.specs.Variables.{with_all};
+ghost use Rattle.moo_eval_frame.specs.Variables.{bind, with_all, with_variable};
 ghost use Rattle.moo_eval_frame.specs.Scatter.{required, optionals, takes_rest, fits, dealt, binds, shares, lacking, given, missing};
 ghost use Rattle.moo_eval_frame.specs.Seen.{variables_of, failure_of, HadMemoryIn};
 ghost use Rattle.moo_eval_frame.specs.SeenScatter.{left_out_of, left_out_by, share_of};
 
 use crate::frame::Activation;
 use crate::outcome::Failure;
+use crate::variables::Variables;
 use moo_syntax_ast::Name;
 use moo_syntax_lower::{Node, NodeItem};
 use moo_value::{ErrorCode, MooList, Value};
@@ -39,6 +40,25 @@ pub fn dealt<'a>(items: &[NodeItem], value: &'a Value) -> Result<&'a MooList, Er
     } else {
         Err(ErrorCode::Arguments)
     }
+}
+
+/// Sets these names to the elements of a list, in order, and returns whether it did. It doesn't for a wrong count; then no
+/// name is set. Err is out of memory.
+#[inline(always)]
+pub fn try_set_names(
+    active: &mut Activation,
+    names: &[Name],
+    list: &MooList,
+) -> Result<bool, AllocError>
+    ensures set { IfOk result (λ done. IsTrue done → (dealt (named_items names.now) (list_of list.now) ≡ Ok list.now) × (variables_of active.new.variables ≡ with_all (variables_of active.old.variables) (given (named_items names.now) list.now)) × (active.new.programmer ≡ active.old.programmer)) }
+    ensures kept { IfOk result (λ done. IsFalse done → active.new ≡ active.old) }
+{
+    let elements = list.elements();
+    if elements.len() != names.len() {
+        return Ok(false);
+    }
+    set_each(active, names, elements)?;
+    Ok(true)
 }
 
 /// Sets these names to the elements of a list, in order. E_TYPE for a value that is no list, E_ARGS for a wrong count;
@@ -68,10 +88,20 @@ fn set_each(active: &mut Activation, names: &[Name], elements: &[Value]) -> Resu
     ensures programmer { OnOk result (active.new.programmer ≡ active.old.programmer) }
 {
     for i in 0..names.len() {
-        let value = elements[i].try_clone()?;
-        active.variables.set(&names[i], value)?;
+        set_copy(&mut active.variables, &names[i], &elements[i])?;
     }
     Ok(())
+}
+
+// Sets a name to a copy of a value. An integer is tested for first, since it needs no table of jumps.
+#[inline(always)]
+fn set_copy(variables: &mut Variables, name: &Name, value: &Value) -> Result<(), AllocError>
+    ensures { OnOk result (variables_of variables.new ≡ with_variable (variables_of variables.old) (bind name.now (tree value.now))) }
+{
+    if let Value::Int(number) = value {
+        return variables.set(name, Value::Int(*number));
+    }
+    variables.set(name, value.try_clone()?)
 }
 
 fn fits(items: &[NodeItem], count: usize) -> bool

@@ -1,22 +1,25 @@
 //! The slots of the variables of a program.
-ghost use Rattle.std.specs.Prelude.{◌≡◌, ℤ, ◌+ℤ◌, List, [], ◌+◌, ◌<◌, ◌≤◌, ◌++◌, Some, None, map, set, position, length, get_or, option_map, vec_len, vec_capacity, IsTrue, IsFalse, IfOk, IfSome};
+ghost use Rattle.std.specs.Prelude.{◌≡◌, ℕ, ℤ, ◌+ℤ◌, List, [], ◌+◌, ◌<◌, ◌≤◌, ◌++◌, ◌∷◌, Some, None, map, set, position, length, get_or, option_map, vec_len, vec_capacity, IsTrue, IsFalse, IfOk, IfSome};
 ghost use Rattle.std.specs.Int.{int_wrap, w32};
 ghost use Rattle.std.specs.Str.{bytes_eq};
-ghost use Rattle.moo_value.specs.Tree.{Tree, integer, list_of};
+ghost use Rattle.moo_value.specs.Tree.{Tree, integer, list_of, string};
 ghost use Rattle.moo_value.specs.Size.{IsWithinLimits};
 ghost use Rattle.moo_value.specs.View.{tree};
 ghost use Rattle.moo_value.specs.Compare.{folded};
-ghost use Rattle.moo_value.specs.declared.value.Value.TheVariants.{Int, List as ListOf};
+ghost use Rattle.moo_value.specs.declared.value.Value.TheVariants.{Int, Str, List as ListOf};
 ghost use Rattle.moo_syntax_ast.specs.Given.{given_of};
 ghost use Rattle.moo_syntax_ast.specs.Slots.{slots};
 ghost use Rattle.moo_eval_frame.specs.Variables.{value_of_name};
 ghost use Rattle.moo_eval_frame.specs.Held.{with_held, IsSlot};
+ghost use Rattle.moo_eval_frame.specs.InnerPut.{IsInnerPut};
 ghost use Rattle.moo_eval_frame.specs.Seen.{slot_value};
 
+use crate::growing::{try_extend, try_push};
+use crate::inner_list::try_put_inner;
 use moo_syntax_ast::Name;
 use moo_syntax_grammar::Program;
-use moo_value::Value;
-use std::alloc::AllocError;
+use moo_value::{MooStr, Value};
+use std::alloc::{AllocError, Global};
 use std::marker::Model;
 
 /// Holds a slot for each name of a program, with a value if one is set.
@@ -133,6 +136,86 @@ impl Slots {
     {
         try_put_element(&mut self.values, slot, index, number)
     }
+
+    /// Replaces an integer in a list in the list in a slot by another, and returns whether it did. It doesn't if something
+    /// else shares the inner list.
+    #[inline(always)]
+    pub(crate) fn try_put_inner(
+        &mut self,
+        alloc: Global,
+        slot: usize,
+        outer: usize,
+        inner: usize,
+        number: i32,
+    ) -> Result<bool, AllocError>
+        requires { IsSlot self.old slot }
+        ensures put { IfOk result (λ done. IsTrue done → (ts : List Tree) × (new : List Tree) × (get_or self.old.values slot None ≡ Some (ListOf ts)) × IsInnerPut ts outer inner number new × (self.new ≡ with_held self.old slot (ListOf new))) }
+        ensures kept { IfOk result (λ done. IsFalse done → self.new ≡ self.old) }
+    {
+        put_inner_at(alloc, &mut self.values, slot, outer, inner, number)
+    }
+
+    /// Appends a string to the one in a slot, and returns whether it did. Err is out of memory.
+    #[inline(always)]
+    pub(crate) fn try_extend(
+        &mut self,
+        alloc: Global,
+        slot: usize,
+        last: &MooStr,
+    ) -> Result<bool, AllocError>
+        requires { IsSlot self.old slot }
+        ensures extended { IfOk result (λ done. IsTrue done → (text : List ℕ) × (get_or self.old.values slot None ≡ Some (Str text)) × IsWithinLimits (string (text ++ last.now)) × (self.new ≡ with_held self.old slot (Str (text ++ last.now)))) }
+        ensures kept { IfOk result (λ done. IsFalse done → self.new ≡ self.old) }
+    {
+        extend_value(alloc, &mut self.values, slot, last)
+    }
+
+    /// Appends a value to the list in a slot, and returns whether it did. Err is out of memory.
+    #[inline(always)]
+    pub(crate) fn try_push(
+        &mut self,
+        alloc: Global,
+        slot: usize,
+        value: Value,
+    ) -> Result<bool, AllocError>
+        requires { IsSlot self.old slot }
+        ensures pushed { IfOk result (λ done. IsTrue done → (elements : List Tree) × (get_or self.old.values slot None ≡ Some (ListOf elements)) × IsWithinLimits (list_of (elements ++ tree value ∷ [])) × (self.new ≡ with_held self.old slot (ListOf (elements ++ tree value ∷ [])))) }
+        ensures kept { IfOk result (λ done. IsFalse done → self.new ≡ self.old) }
+    {
+        push_value(alloc, &mut self.values, slot, value)
+    }
+}
+
+// Appends a string to the one in a slot, and returns whether it did. Err is out of memory.
+#[inline(always)]
+fn extend_value(
+    alloc: Global,
+    values: &mut Vec<Option<Value>>,
+    slot: usize,
+    last: &MooStr,
+) -> Result<bool, AllocError>
+    requires { slot < length values.old.items }
+    ensures extended { IfOk result (λ done. IsTrue done → (text : List ℕ) × (get_or values.old.items slot None ≡ Some (Str text)) × IsWithinLimits (string (text ++ last.now)) × (values.new.items ≡ set values.old.items slot (Some (Str (text ++ last.now))))) }
+    ensures kept { IfOk result (λ done. IsFalse done → values.new.items ≡ values.old.items) }
+    ensures as_many { length values.new.items ≡ length values.old.items }
+{
+    try_extend(alloc, &mut values[slot], last)
+}
+
+// Appends a value to the list in a slot, and returns whether it did. Err is out of memory.
+#[inline(always)]
+fn push_value(
+    alloc: Global,
+    values: &mut Vec<Option<Value>>,
+    slot: usize,
+    value: Value,
+) -> Result<bool, AllocError>
+    requires { slot < length values.old.items }
+    ensures pushed { IfOk result (λ done. IsTrue done → (elements : List Tree) × (get_or values.old.items slot None ≡ Some (ListOf elements)) × IsWithinLimits (list_of (elements ++ tree value ∷ [])) × (values.new.items ≡ set values.old.items slot (Some (ListOf (elements ++ tree value ∷ []))))) }
+    ensures kept { IfOk result (λ done. IsFalse done → values.new.items ≡ values.old.items) }
+    ensures as_many { length values.new.items ≡ length values.old.items }
+{
+    try_push(alloc, &mut values[slot], value)
 }
 
 // Sets a slot to an integer.
@@ -196,6 +279,24 @@ fn put_in_place(place: &mut Option<Value>, index: usize, number: i32) -> bool
         Some(Value::List(list)) => list.put_integer(index, number),
         _ => false,
     }
+}
+
+// Replaces an integer in a list in the list in a slot by another, and returns whether it did.
+#[inline(always)]
+fn put_inner_at(
+    alloc: Global,
+    values: &mut Vec<Option<Value>>,
+    slot: usize,
+    outer: usize,
+    inner: usize,
+    number: i32,
+) -> Result<bool, AllocError>
+    requires { slot < length values.old.items }
+    ensures put { IfOk result (λ done. IsTrue done → (ts : List Tree) × (new : List Tree) × (get_or values.old.items slot None ≡ Some (ListOf ts)) × IsInnerPut ts outer inner number new × (values.new.items ≡ set values.old.items slot (Some (ListOf new)))) }
+    ensures kept { IfOk result (λ done. IsFalse done → values.new.items ≡ values.old.items) }
+    ensures as_many { length values.new.items ≡ length values.old.items }
+{
+    try_put_inner(alloc, &mut values[slot], outer, inner, number)
 }
 
 // Sets a place to an integer.

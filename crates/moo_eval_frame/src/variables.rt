@@ -1,13 +1,14 @@
 //! The variables of a frame.
-ghost use Rattle.std.specs.Prelude.{◌≡◌, ◌<◌, ℤ, ◌+ℤ◌, List, [], Some, length, set, option_map, IsTrue, IsFalse, IfOk, OnOk};
+ghost use Rattle.std.specs.Prelude.{◌≡◌, ◌<◌, ℕ, ℤ, ◌+ℤ◌, List, [], ◌∷◌, ◌++◌, Some, length, set, option_map, IsTrue, IsFalse, IfOk, IfSome, OnOk};
 ghost use Rattle.std.specs.Int.{int_wrap, w32};
-ghost use Rattle.moo_value.specs.Tree.{Tree, integer, list_of};
+ghost use Rattle.moo_value.specs.Tree.{Tree, integer, list_of, string};
 ghost use Rattle.moo_value.specs.Size.{IsWithinLimits};
 ghost use Rattle.moo_value.specs.View.{tree};
 ghost use Rattle.moo_value.specs.Compare.{folded};
 ghost use Rattle.moo_syntax_ast.specs.Given.{given_name, given_names};
 ghost use Rattle.moo_eval_frame.specs.Variables.{bind, with_variable, value_of_name, called_variables};
 ghost use Rattle.moo_eval_frame.specs.GivenValues.{given_values};
+ghost use Rattle.moo_eval_frame.specs.InnerPut.{IsInnerPut};
 ghost use Rattle.moo_eval_frame.specs.Seen.{value_among, own_variables, slot_value, variables_of};
 ghost use Rattle.moo_syntax_ast.specs.declared.given.Given.TheVariants.{Player};
 
@@ -16,7 +17,7 @@ use crate::given_values::GivenValues;
 use crate::memory::FrameMemory;
 use crate::slots::Slots;
 use crate::spelling::is_named;
-use moo_syntax_ast::Name;
+use moo_syntax_ast::{Given, Name};
 use moo_syntax_grammar::Program;
 use moo_value::{MooList, MooStr, Value};
 use std::alloc::{AllocError, Global};
@@ -134,6 +135,57 @@ impl Variables {
         }
     }
 
+    /// Replaces an integer in a list in the list in a variable by another, and returns whether it did. It doesn't if
+    /// something else shares the inner list, or if the variable's slot isn't known.
+    #[inline(always)]
+    pub fn try_put_inner(
+        &mut self,
+        alloc: Global,
+        name: &Name,
+        outer: usize,
+        inner: usize,
+        number: i32,
+    ) -> Result<bool, AllocError>
+        ensures put { IfOk result (λ done. IsTrue done → (ts : List Tree) × (new : List Tree) × (variables_of self.old (folded name.now) ≡ Some (list_of ts)) × IsInnerPut ts outer inner number new × (variables_of self.new ≡ with_variable (variables_of self.old) (bind name.now (list_of new)))) }
+        ensures kept { IfOk result (λ done. IsFalse done → variables_of self.new ≡ variables_of self.old) }
+    {
+        match self.own.known_slot(name) {
+            Some(slot) => self.own.try_put_inner(alloc, slot, outer, inner, number),
+            None => Ok(false),
+        }
+    }
+
+    /// Appends a string to the one in a variable, and returns whether it did. It doesn't if the variable holds no string, if
+    /// the longer one is past the limit, or if the variable's slot isn't known. Err is out of memory.
+    #[inline(always)]
+    pub fn try_extend(
+        &mut self,
+        alloc: Global,
+        name: &Name,
+        last: &MooStr,
+    ) -> Result<bool, AllocError>
+        ensures extended { IfOk result (λ done. IsTrue done → (text : List ℕ) × (variables_of self.old (folded name.now) ≡ Some (string text)) × IsWithinLimits (string (text ++ last.now)) × (variables_of self.new ≡ with_variable (variables_of self.old) (bind name.now (string (text ++ last.now))))) }
+        ensures kept { IfOk result (λ done. IsFalse done → variables_of self.new ≡ variables_of self.old) }
+    {
+        match self.own.known_slot(name) {
+            Some(slot) => self.own.try_extend(alloc, slot, last),
+            None => Ok(false),
+        }
+    }
+
+    /// Appends a value to the list in a variable, and returns whether it did. It doesn't if the variable holds no list, if
+    /// the longer one is past the limits, or if the variable's slot isn't known. Err is out of memory.
+    #[inline(always)]
+    pub fn try_push(&mut self, alloc: Global, name: &Name, value: Value) -> Result<bool, AllocError>
+        ensures pushed { IfOk result (λ done. IsTrue done → (elements : List Tree) × (variables_of self.old (folded name.now) ≡ Some (list_of elements)) × IsWithinLimits (list_of (elements ++ tree value ∷ [])) × (variables_of self.new ≡ with_variable (variables_of self.old) (bind name.now (list_of (elements ++ tree value ∷ []))))) }
+        ensures kept { IfOk result (λ done. IsFalse done → variables_of self.new ≡ variables_of self.old) }
+    {
+        match self.own.known_slot(name) {
+            Some(slot) => self.own.try_push(alloc, slot, value),
+            None => Ok(false),
+        }
+    }
+
     // Sets a variable whose slot isn't known: one that every frame has, or one that a search finds. It is a separate
     // function, so that the common case stays short.
     #[inline(never)]
@@ -170,6 +222,17 @@ impl Variables {
         self.given.player()
     }
 
+    /// Returns the value of the variable `args`, if that is the name.
+    #[inline(always)]
+    pub fn args_named(&self, name: &Name) -> Option<&Value>
+        ensures { IfSome result (λ v. variables_of self.now (folded name.now) ≡ Some (tree v.now)) }
+    {
+        match name.given() {
+            Some(Given::Args) => Some(self.given.get(Given::Args)),
+            _ => None,
+        }
+    }
+
     /// Returns the value of a variable, or `None` if it isn't set. Inlined, so that a variable whose slot is known needs
     /// no call.
     #[inline(always)]
@@ -180,6 +243,14 @@ impl Variables {
             Some(slot) => self.own.get(slot),
             None => self.get_unknown(name),
         }
+    }
+
+    /// Returns the value of a variable, if it is set and its slot is known.
+    #[inline(always)]
+    pub fn get_known(&self, name: &Name) -> Option<&Value>
+        ensures { IfSome result (λ v. variables_of self.now (folded name.now) ≡ Some (tree v.now)) }
+    {
+        self.own.get(self.own.known_slot(name)?)
     }
 
     // Returns the value of a variable whose slot isn't known: one that every frame has, or one that a search finds.

@@ -1,5 +1,5 @@
 -- Expressions that give integers.
-use Rattle.std.specs.Prelude.{◌≡◌, ℕ, ℤ, List, Option, Ok}
+use Rattle.std.specs.Prelude.{◌≡◌, ◌-◌, ◌<◌, ℕ, ℤ, List, Option, Ok}
 use Rattle.moo_value.specs.Tree.{Tree, integer}
 use Rattle.moo_syntax_ast.specs.Tree.{Expr}
 use Rattle.moo_builtin.specs.Telling.{Faults}
@@ -19,3 +19,7 @@ GivesValue variables n e v m = (c : Context) (s : State) → s.variables ≡ var
 -- it gives this integer
 abbrev pub GivesInteger : (List ℕ → Option Tree) → ℕ → Expr → ℤ → ℕ → Type 0
 GivesInteger variables n e i m = GivesValue variables n e (integer i) m
+
+-- it gives this integer and takes one tick, if one is left
+abbrev pub GivesLeafInteger : (List ℕ → Option Tree) → Expr → ℤ → Type 0
+GivesLeafInteger variables e i = (n m : ℕ) → (0 < n) × (m ≡ n - 1) → GivesInteger variables n e i m

@@ -1,2 +1,3 @@
 pub mod Integers
 pub mod Puts
+pub mod Operands

@@ -1,25 +1,27 @@
 //! Computes the integers of nodes.
-ghost use Rattle.std.specs.Prelude.{◌≡◌, ◌≤◌, ◌<◌, ◌-◌, ℕ, ℤ, List, Option, Some, IfSome, IsTrue, IsFalse};
-ghost use Rattle.moo_value.specs.Tree.{Tree, integer};
+ghost use Rattle.std.specs.Prelude.{◌≡◌, ◌≤◌, ◌<◌, ◌-◌, ℕ, ℤ, List, Option, Some, Ok, IfSome, IfNone, IsTrue, IsFalse};
+ghost use Rattle.moo_value.specs.Tree.{Tree, integer, list_of};
+ghost use Rattle.moo_value.specs.View.{tree};
 ghost use Rattle.moo_value.specs.Compare.{folded};
 ghost use Rattle.moo_syntax_ast.specs.declared.operator.BinaryOperator.TheVariants.{Add};
 ghost use Rattle.moo_syntax_ast.specs.declared.tree.Literal.TheVariants.{Integer};
 ghost use Rattle.moo_syntax_ast.specs.Tree.{literal, variable, binary, index};
 ghost use Rattle.moo_syntax_lower.specs.Source.{source};
+ghost use Rattle.moo_builtin_operator.specs.Operators.{binary_of};
 ghost use Rattle.moo_builtin_operator.specs.Truth.{is_true};
 ghost use Rattle.moo_eval_frame.specs.Variables.{bind, with_variable};
 ghost use Rattle.moo_eval_frame.specs.Seen.{indexed_of, variables_of};
-ghost use Rattle.moo_eval_integer.specs.Integers.{GivesInteger};
+ghost use Rattle.moo_eval_integer.specs.Integers.{GivesInteger, GivesLeafInteger, GivesValue};
 
-use crate::element::integer_at;
+use crate::element::{integer_at, value_at};
 use crate::length::call_integer;
-use crate::ticks::take;
+use crate::ticks::{take, take_three};
 use moo_eval_access::number_of;
 use moo_eval_frame::Activation;
 use moo_syntax_ast::Name;
 use moo_syntax_ast::operator::BinaryOperator;
 use moo_syntax_lower::Node;
-use moo_value::Value;
+use moo_value::{MooList, Value};
 
 /// Returns the integer of an operator between two nodes, and takes its ticks from `left`. `None` if a node isn't an
 /// integer, a variable, an element or the length of one, or such an operator, if one has another value or none, if the
@@ -35,10 +37,92 @@ pub fn arithmetic_integer(
     ensures value { IfSome result (λ n. GivesInteger (variables_of active.now.variables) left.old (binary operator (source a.now) (source b.now)) n left.new) }
     ensures ticks { left.new ≤ left.old }
 {
+    if let Some(number) = leaves_integer(active, left, operator, a, b) {
+        return Some(number);
+    }
+    nested_integer(active, left, operator, a, b)
+}
+
+// Returns the integer of an operator between two nodes, and takes its ticks from `left`. `None` as `arithmetic_integer`.
+#[cycle(integer)]
+#[inline(never)]
+fn nested_integer(
+    active: &Activation,
+    left: &mut u32,
+    operator: BinaryOperator,
+    a: &Node,
+    b: &Node,
+) -> Option<i32>
+    ensures value { IfSome result (λ n. GivesInteger (variables_of active.now.variables) left.old (binary operator (source a.now) (source b.now)) n left.new) }
+    ensures ticks { left.new ≤ left.old }
+{
     take(left)?;
     let a = integer_of(active, left, a)?;
     let b = integer_of(active, left, b)?;
     number_of(operator, a, b)
+}
+
+// Returns the integer of an operator between two integers or variables whose slots are known, and takes its ticks from
+// `left`. `None` if one has another value or none, if the operator may fail, or if ticks are missing. Then `left` stays.
+// The second is looked at first, so that no variable is read in vain if it is of another kind.
+#[inline(always)]
+fn leaves_integer(
+    active: &Activation,
+    left: &mut u32,
+    operator: BinaryOperator,
+    a: &Node,
+    b: &Node,
+) -> Option<i32>
+    ensures value { IfSome result (λ n. GivesInteger (variables_of active.now.variables) left.old (binary operator (source a.now) (source b.now)) n left.new) }
+    ensures kept { IfNone result (left.new ≡ left.old) }
+    ensures ticks { left.new ≤ left.old }
+{
+    if let Node::Integer(b) = b {
+        let a = leaf_integer(active, a)?;
+        return operated(left, operator, a, *b);
+    }
+    if let Node::Variable(b) = b {
+        let a = leaf_integer(active, a)?;
+        let b = known_integer(active, b)?;
+        return operated(left, operator, a, b);
+    }
+    None
+}
+
+// Returns the integer of an operator between two integers, and takes its tick and theirs from `left`. `None` if it may
+// fail, or if ticks are missing. Then `left` stays.
+#[inline(always)]
+fn operated(left: &mut u32, operator: BinaryOperator, a: i32, b: i32) -> Option<i32>
+    ensures number { IfSome result (λ n. binary_of operator (integer a) (integer b) ≡ Ok (integer n)) }
+    ensures taken { IfSome result (λ n. (2 < left.old) × (left.new ≡ left.old - 3)) }
+    ensures kept { IfNone result (left.new ≡ left.old) }
+    ensures ticks { left.new ≤ left.old }
+{
+    let number = number_of(operator, a, b)?;
+    take_three(left)?;
+    Some(number)
+}
+
+// Returns the integer that is written out, or that a variable holds whose slot is known.
+#[inline(always)]
+fn leaf_integer(active: &Activation, node: &Node) -> Option<i32>
+    ensures { IfSome result (λ n. GivesLeafInteger (variables_of active.now.variables) (source node.now) n) }
+{
+    if let Node::Variable(name) = node {
+        return known_integer(active, name);
+    }
+    if let Node::Integer(number) = node {
+        return Some(*number);
+    }
+    None
+}
+
+// Returns the integer that a variable holds, if its slot is known.
+#[inline(always)]
+fn known_integer(active: &Activation, name: &Name) -> Option<i32>
+    ensures { IfSome result (λ n. variables_of active.now.variables (folded name.now) ≡ Some (integer n)) }
+{
+    integer_in(active.variables.get_known(name))
 }
 
 /// Adds the integer of a node to the one in a variable and returns true, and takes the ticks of the sum from `left`. The
@@ -73,7 +157,7 @@ pub fn try_set_arithmetic(active: &mut Activation, left: &mut u32, name: &Name, 
     }
 }
 
-// Returns the integer of an operator, and takes its ticks from `left`. `None` as `arithmetic_integer`, and for another node.
+// Returns the integer of an operator, and takes its ticks from `left`. `None` as `operand_integer`, and for another node.
 #[inline(always)]
 fn operator_integer(active: &Activation, left: &mut u32, node: &Node) -> Option<i32>
     ensures value { IfSome result (λ n. GivesInteger (variables_of active.now.variables) left.old (source node.now) n left.new) }
@@ -81,6 +165,7 @@ fn operator_integer(active: &Activation, left: &mut u32, node: &Node) -> Option<
 {
     match node {
         Node::Arithmetic(operator, a, b) => arithmetic_integer(active, left, *operator, a, b),
+        Node::Binary(..) => operand_integer(active, left, node),
         _ => None,
     }
 }
@@ -94,7 +179,53 @@ fn addend(active: &Activation, left: &mut u32, node: &Node) -> Option<i32>
 {
     take(left)?;
     take(left)?;
+    operand_integer(active, left, node)
+}
+
+/// Returns the integer of a node, and takes its ticks from `left`. The node may also be an operator between such nodes. A
+/// statement tries a node so at most once, so that the time is linear in its size. `None` as `arithmetic_integer`.
+#[cycle(operand)]
+#[inline(always)]
+pub(crate) fn operand_integer(active: &Activation, left: &mut u32, node: &Node) -> Option<i32>
+    ensures value { IfSome result (λ n. GivesInteger (variables_of active.now.variables) left.old (source node.now) n left.new) }
+    ensures ticks { left.new ≤ left.old }
+{
+    if let Node::Binary(operator, a, b) = node {
+        if !may_be_integer(a) || !may_be_integer(b) {
+            return None;
+        }
+        return binary_integer(active, left, *operator, a, b);
+    }
     integer_of(active, left, node)
+}
+
+// Is true for a node that is often computed from integers alone.
+#[inline(always)]
+fn may_be_integer(node: &Node) -> bool {
+    match node {
+        Node::Integer(_) | Node::Variable(_) | Node::Arithmetic(..) | Node::Binary(..) => true,
+        Node::Index(base, _) => matches!(base.as_ref(), Node::Variable(_) | Node::Index(..)),
+        _ => false,
+    }
+}
+
+// Returns the integer of an operator between two nodes, which may be such operators.
+#[cycle(operand)]
+#[inline(never)]
+fn binary_integer(
+    active: &Activation,
+    left: &mut u32,
+    operator: BinaryOperator,
+    a: &Node,
+    b: &Node,
+) -> Option<i32>
+    ensures value { IfSome result (λ n. GivesInteger (variables_of active.now.variables) left.old (binary operator (source a.now) (source b.now)) n left.new) }
+    ensures ticks { left.new ≤ left.old }
+{
+    take(left)?;
+    let first = operand_integer(active, left, a)?;
+    let second = operand_integer(active, left, b)?;
+    number_of(operator, first, second)
 }
 
 // Returns the integer of a node, and takes its ticks from `left`. `None` as `arithmetic_integer`. Inlined, so that an integer or a variable needs no call. Three tests are
@@ -132,24 +263,79 @@ fn part_integer(active: &Activation, left: &mut u32, node: &Node) -> Option<i32>
     }
 }
 
-// Returns the integer at a place of the list in a variable, and takes its ticks from `left`.
+// Returns the integer at a place of the list that a node holds, and takes its ticks from `left`.
 #[cycle(integer)]
 #[inline(always)]
 fn element_integer(active: &Activation, left: &mut u32, base: &Node, place: &Node) -> Option<i32>
     ensures value { IfSome result (λ n. GivesInteger (variables_of active.now.variables) left.old (index (source base.now) (source place.now)) n left.new) }
     ensures ticks { left.new ≤ left.old }
 {
-    let Node::Variable(name) = base else {
-        return None;
-    };
-    let held = active.variables.get(name)?;
-    let Value::List(list) = held else {
-        return None;
-    };
     take(left)?;
-    take(left)?;
+    let list = held_list(active, left, base)?;
     let place = integer_of(active, left, place)?;
     integer_at(list, place)
+}
+
+// Returns the list in a variable, in an element of one, or in an element of such an element. Takes the node's ticks from
+// `left`.
+#[cycle(integer)]
+#[inline(always)]
+fn held_list<'a>(active: &'a Activation, left: &mut u32, node: &Node) -> Option<&'a MooList>
+    ensures value { IfSome result (λ list. GivesValue (variables_of active.now.variables) left.old (source node.now) (list_of list.now) left.new) }
+    ensures ticks { left.new ≤ left.old }
+{
+    match held_part(active, left, node)? {
+        Value::List(list) => Some(list),
+        _ => None,
+    }
+}
+
+/// Returns the value of a variable, of an element of one, or of an element of such an element. Takes the node's ticks
+/// from `left`. `None` as `arithmetic_integer`, and for another node.
+#[cycle(integer)]
+#[inline(always)]
+pub(crate) fn held_part<'a>(
+    active: &'a Activation,
+    left: &mut u32,
+    node: &Node,
+) -> Option<&'a Value>
+    ensures value { IfSome result (λ v. GivesValue (variables_of active.now.variables) left.old (source node.now) (tree v.now) left.new) }
+    ensures ticks { left.new ≤ left.old }
+{
+    match node {
+        Node::Variable(name) => held_value(active, left, name),
+        Node::Index(base, place) => held_element(active, left, base, place),
+        _ => None,
+    }
+}
+
+// Returns the value at a place of the list that a node holds, and takes its ticks from `left`.
+#[cycle(integer)]
+#[inline(never)]
+fn held_element<'a>(
+    active: &'a Activation,
+    left: &mut u32,
+    base: &Node,
+    place: &Node,
+) -> Option<&'a Value>
+    ensures value { IfSome result (λ v. GivesValue (variables_of active.now.variables) left.old (index (source base.now) (source place.now)) (tree v.now) left.new) }
+    ensures ticks { left.new ≤ left.old }
+{
+    take(left)?;
+    let list = held_list(active, left, base)?;
+    let place = integer_of(active, left, place)?;
+    value_at(list, place)
+}
+
+// Returns the value of a variable, and takes its tick from `left`.
+#[inline(always)]
+fn held_value<'a>(active: &'a Activation, left: &mut u32, name: &Name) -> Option<&'a Value>
+    ensures value { IfSome result (λ v. GivesValue (variables_of active.now.variables) left.old (variable name.now) (tree v.now) left.new) }
+    ensures ticks { left.new ≤ left.old }
+{
+    take(left)?;
+    let value = active.variables.get(name)?;
+    Some(value)
 }
 
 #[inline(always)]

@@ -1,4 +1,4 @@
-use Rattle.std.proofs.Common.{◌≡◌, rules, FitsSigned, w32, length, Some, ap, sym, ◌∙◌}
+use Rattle.std.proofs.Common.{◌≡◌, rules, FitsSigned, w32, Some, ap, sym, ◌∙◌}
 use Rattle.std.proofs.lemmas.Int.{to_z-of_z}
 use Rattle.moo_value.specs.View.{tree}
 use Rattle.moo_builtin_operator.specs.Assignment.{before_place}

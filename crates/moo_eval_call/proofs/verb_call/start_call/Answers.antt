@@ -1,7 +1,6 @@
 use Rattle.std.proofs.Common.{◌∙◌, refl, sym}
 use Rattle.std.proofs.lemmas.Result.{err_from_is_err_and}
 use Rattle.moo_syntax_function.specs.Table.{row}
-use Rattle.moo_eval_frame.specs.Seen.{context_of, failure_of}
 use Rattle.moo_eval_call.proofs.Counted.{refused_for_number}
 use Rattle.moo_builtin_world.specs.Objects.{is_valid}
 use Rattle.moo_eval_call.specs.VerbCalls.{refused, starts}

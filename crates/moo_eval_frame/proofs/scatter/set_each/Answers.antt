@@ -1,7 +1,7 @@
 use Rattle.std.proofs.Common.{◌+◌, ◌<◌, length, drop, ap, ◌∙◌, sym, arith}
-use Rattle.moo_value.specs.View.{tree, trees}
+use Rattle.moo_value.specs.View.{trees}
 use Rattle.moo_syntax_lower.specs.Blocks.{named_items}
-use Rattle.moo_eval_frame.specs.Variables.{bind, with_variable, with_all}
+use Rattle.moo_eval_frame.specs.Variables.{with_all}
 use Rattle.moo_eval_frame.specs.Scatter.{given}
 use Rattle.moo_eval_frame.specs.Seen.{variables_of}
 use Rattle.moo_eval_frame.proofs.Named.{next_named, all_named}
@@ -21,7 +21,7 @@ loop-i-preserved c =
     let within : i < length c.args.elements.now = omega arith in
     record {
       variables =
-          ap (λ vars. with_all vars (given (named_items (drop (i + 1) c.args.names.now)) (drop (i + 1) (trees c.args.elements.now)))) (c.in_ok-set.ensures ∙ ap (λ v. with_variable before (bind name (tree v))) c.in_ok-value.ensures.value)
+          ap (λ vars. with_all vars (given (named_items (drop (i + 1) c.args.names.now)) (drop (i + 1) (trees c.args.elements.now)))) c.in_ok-set_copy.ensures
           ∙ sym (next_named before c.args.names.now c.args.elements.now i name c.index-elements-i.result c.loop-i-test.true within c.index-names-i.is c.index-elements-i.is)
           ∙ c.loop-i.invariant.variables;
       programmer = c.loop-i.invariant.programmer;

@@ -1,4 +1,3 @@
-use Rattle.std.proofs.Common.{ap, ◌∙◌}
 use Rattle.moo_syntax_ast.specs.Slots.{slots}
 use Rattle.moo_eval_frame.proofs.FirstValues.{unset_all}
 use Rattle.moo_eval_frame.proofs.slots.Slots.unset.Goals as goal

@@ -1,4 +1,4 @@
-use Rattle.std.proofs.Common.{None, Some, sym, ap, ◌∙◌}
+use Rattle.std.proofs.Common.{None, sym, ap, ◌∙◌}
 use Rattle.moo_value.specs.Compare.{folded}
 use Rattle.moo_eval_frame.specs.Seen.{value_among}
 use Rattle.moo_eval_frame.proofs.Names.{slot_at, without_slot}

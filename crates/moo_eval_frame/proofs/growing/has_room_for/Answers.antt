@@ -1,7 +1,7 @@
 use Rattle.std.proofs.Common.{◌+◌, arith}
 use Rattle.moo_value.specs.View.{tree}
-use Rattle.moo_eval_access.proofs.Longer.{fits_push, fits_first, too_heavy_push, too_heavy_first}
-use Rattle.moo_eval_access.proofs.growth.has_room_for.Goals as goal
+use Rattle.moo_eval_frame.proofs.Room.{fits_push, fits_first, too_heavy_push, too_heavy_first}
+use Rattle.moo_eval_frame.proofs.growing.has_room_for.Goals as goal
 
 pub returns-then-weight-gt-WEIGHT_LIMIT-clause-last : goal.returns-then-weight-gt-WEIGHT_LIMIT-clause-last
 returns-then-weight-gt-WEIGHT_LIMIT-clause-last c =

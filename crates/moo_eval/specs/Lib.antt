@@ -7,3 +7,5 @@ pub mod Element
 pub mod Leaves
 pub mod Attempts
 pub mod Arguments
+pub mod Chosen
+pub mod Codes

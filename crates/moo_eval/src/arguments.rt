@@ -44,7 +44,7 @@ impl Task {
     // Evaluates items without a splice from left to right.
     #[cycle(evaluation)]
     #[inline(always)]
-    fn evaluate_elements(
+    pub(crate) fn evaluate_elements(
         &mut self,
         world: &mut World,
         active: &mut Activation,
@@ -97,7 +97,7 @@ impl Task {
 
 // Returns whether a list is spliced in.
 #[inline(always)]
-fn has_splice(items: &[NodeItem]) -> bool
+pub(crate) fn has_splice(items: &[NodeItem]) -> bool
     ensures { result ≡ list_any is_splice items.now }
 {
     items.iter().any(is_splice)

@@ -1,5 +1,5 @@
 //! Runs `x = x + a;`.
-ghost use Rattle.std.specs.Prelude.{◌≡◌, ◌≤◌, None, Ok, Err, IsTrue, IsFalse, IfErr, OnOk};
+ghost use Rattle.std.specs.Prelude.{◌≡◌, ◌≤◌, None, Ok, Err, IsTrue, IsFalse, IfOk, IfErr, OnOk};
 ghost use Rattle.moo_syntax_ast.specs.declared.operator.BinaryOperator.TheVariants.{Add};
 ghost use Rattle.moo_syntax_ast.specs.Tree.{variable, binary, assign, performs};
 ghost use Rattle.moo_syntax_lower.specs.Source.{source};
@@ -13,38 +13,34 @@ ghost use Rattle.moo_eval.specs.Growth.{IsLengthened};
 ghost use Rattle.moo_eval.specs.Seen.{state_of};
 
 use crate::interpreter::Task;
+use crate::leaves::value_at_once;
 use moo_eval_access::set_sum;
 use moo_eval_frame::{Activation, CallStack, Failure, Flow, Stop};
 use moo_eval_integer::try_add_integer;
 use moo_syntax_ast::Name;
 use moo_syntax_lower::Node;
+use moo_value::Value;
 use moo_world::World;
+use std::alloc::AllocError;
 
 impl Task {
-    /// Runs `name = name + last`, if the assignment's own value is not used: by integers alone if that can be.
-    #[cycle(evaluation)]
+    // Runs `name = name + last` by integers alone, takes its ticks, and returns true. False if that can't be; then nothing
+    // has changed.
     #[inline(always)]
-    pub(crate) fn extend(
-        &mut self,
-        world: &mut World,
-        active: &mut Activation,
-        stack: &CallStack<'_>,
-        name: &Name,
-        last: &Node,
-    ) -> Result<Flow, Stop>
-        ensures meaning { IsKnown result → Does Faults (context_of stack.now None) (performs (assign (variable name.now) (binary Add (variable name.now) (source last.now)))) (state_of self.old world.old active.old) (seen_flow result) (state_of self.new world.new active.new) }
+    pub(crate) fn try_add(&mut self, active: &mut Activation, name: &Name, last: &Node) -> bool
+        ensures added { IsTrue result → (w : WorldModel) (c : Context) → Does Faults c (performs (assign (variable name.now) (binary Add (variable name.now) (source last.now)))) (state_of self.old w active.old) (Ok next) (state_of self.new w active.new) }
+        ensures kept { IsFalse result → (w : WorldModel) → state_of self.new w active.new ≡ state_of self.old w active.old }
         ensures ticks { self.new.ticks_left ≤ self.old.ticks_left }
     {
-        if self.try_add(active, name, last) {
-            return Ok(Flow::Next);
+        if !may_be_integer(last) {
+            return false;
         }
-        self.extend_value(world, active, stack, name, last)
+        self.try_sum(active, name, last)
     }
 
-    // Runs `name = name + last` by integers alone, takes its ticks, and returns true. False if that can't be; then nothing
-    // has changed. Not inlined, so that nested statements need no stack space for it.
+    // Does so for a node of a kind that may be an integer. Not inlined, so that nested statements need no stack space for it.
     #[inline(never)]
-    fn try_add(&mut self, active: &mut Activation, name: &Name, last: &Node) -> bool
+    fn try_sum(&mut self, active: &mut Activation, name: &Name, last: &Node) -> bool
         ensures added { IsTrue result → (w : WorldModel) (c : Context) → Does Faults c (performs (assign (variable name.now) (binary Add (variable name.now) (source last.now)))) (state_of self.old w active.old) (Ok next) (state_of self.new w active.new) }
         ensures kept { IsFalse result → (w : WorldModel) → state_of self.new w active.new ≡ state_of self.old w active.old }
         ensures ticks { self.new.ticks_left ≤ self.old.ticks_left }
@@ -61,11 +57,62 @@ impl Task {
         true
     }
 
-    // Runs `name = name + last`, if the assignment's own value is not used. A string that nothing but the variable holds
-    // grows in place. Not inlined, so that nested statements need no stack space for it.
+    // Runs `name = name + last`, if the assignment's own value is not used: at once if that can be. Not inlined, so that
+    // nested statements need no stack space for it.
     #[cycle(evaluation)]
     #[inline(never)]
-    fn extend_value(
+    pub(crate) fn extend_value(
+        &mut self,
+        world: &mut World,
+        active: &mut Activation,
+        stack: &CallStack<'_>,
+        name: &Name,
+        last: &Node,
+    ) -> Result<Flow, Stop>
+        ensures meaning { IsKnown result → Does Faults (context_of stack.now None) (performs (assign (variable name.now) (binary Add (variable name.now) (source last.now)))) (state_of self.old world.old active.old) (seen_flow result) (state_of self.new world.new active.new) }
+        ensures ticks { self.new.ticks_left ≤ self.old.ticks_left }
+    {
+        let extended = self.try_extend(active, name, last)?;
+        if extended {
+            return Ok(Flow::Next);
+        }
+        self.extend_parts(world, active, stack, name, last)
+    }
+
+    // Appends the string of a variable, a literal or an element to the one in a variable, with the ticks of
+    // `name = name + last`, and returns whether it did. It doesn't if that can't be done at once; then nothing has changed.
+    #[inline(always)]
+    fn try_extend(
+        &mut self,
+        active: &mut Activation,
+        name: &Name,
+        last: &Node,
+    ) -> Result<bool, AllocError>
+        ensures extended { IfOk result (λ done. IsTrue done → (w : WorldModel) (c : Context) → Does Faults c (performs (assign (variable name.now) (binary Add (variable name.now) (source last.now)))) (state_of self.old w active.old) (Ok next) (state_of self.new w active.new)) }
+        ensures kept { IfOk result (λ done. IsFalse done → (w : WorldModel) → state_of self.new w active.new ≡ state_of self.old w active.old) }
+        ensures ticks { self.new.ticks_left ≤ self.old.ticks_left }
+    {
+        let mut left = self.ticks_left.left() as u32;
+        if left < 3 {
+            return Ok(false);
+        }
+        left -= 3;
+        let Some(Value::Str(last)) = value_at_once(&mut self.spare.letters, active, &mut left, last)
+        else {
+            return Ok(false);
+        };
+        let extended = active.variables.try_extend(self.alloc(), name, &last)?;
+        if !extended {
+            return Ok(false);
+        }
+        self.ticks_left.leave(left);
+        Ok(true)
+    }
+
+    // Runs `name = name + last` part by part. A string that nothing but the variable holds grows in place.
+    #[cycle(evaluation)]
+    #[inline(always)]
+    fn extend_parts(
         &mut self,
         world: &mut World,
         active: &mut Activation,
@@ -107,4 +154,18 @@ impl Task {
         set_sum(self.alloc(), &mut active.variables, name, first, &last)?;
         Ok(())
     }
+}
+
+// Is true for a node that may be computed from integers alone.
+#[inline(always)]
+fn may_be_integer(node: &Node) -> bool {
+    matches!(
+        node,
+        Node::Variable(_)
+            | Node::Integer(_)
+            | Node::Arithmetic(..)
+            | Node::Binary(..)
+            | Node::Index(..)
+            | Node::Call(..)
+    )
 }

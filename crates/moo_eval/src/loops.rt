@@ -1,72 +1,26 @@
 //! Runs loops.
-ghost use Rattle.std.specs.Prelude.{◌≤◌, ◌<◌, ◌∷◌, [], None, Some, OnOk};
+ghost use Rattle.std.specs.Prelude.{◌≡◌, ◌≤◌, None, OnOk};
 ghost use Rattle.moo_value.specs.View.{tree as value_tree, trees};
 ghost use Rattle.moo_syntax_ast.specs.Tree.{for_list, for_range};
 ghost use Rattle.moo_syntax_lower.specs.Source.{source};
 ghost use Rattle.moo_syntax_lower.specs.Blocks.{source_block};
-ghost use Rattle.moo_eval_semantics.specs.Meaning.{Does, Turns, Loops, Visits, Counts};
-ghost use Rattle.moo_eval_frame.specs.Variables.{bind};
-ghost use Rattle.moo_eval_frame.specs.Seen.{context_of, seen_flow, seen_turn, IsKnown};
+ghost use Rattle.moo_eval_semantics.specs.Meaning.{Does, Loops, Visits, Counts};
+ghost use Rattle.moo_eval_frame.specs.Variables.{bind, with_variable};
+ghost use Rattle.moo_eval_frame.specs.Leading.{numbered};
+ghost use Rattle.moo_eval_frame.specs.Seen.{context_of, seen_flow, variables_of, IsKnown};
 ghost use Rattle.moo_builtin.specs.Telling.{Faults};
 ghost use Rattle.moo_eval.specs.Seen.{state_of};
 
 use crate::interpreter::Task;
 use moo_builtin_operator::spliced;
-use moo_eval_frame::{Activation, CallStack, Flow, Span, Stop, after_turn, no_turn};
+use moo_eval_frame::{Activation, CallStack, Flow, Span, Stop, Variables, after_turn, no_turn};
 use moo_syntax_ast::Name;
 use moo_syntax_lower::{Node, NodeStmt};
 use moo_value::{MooStr, Value};
 use moo_world::World;
+use std::alloc::AllocError;
 
 impl Task {
-    // Runs a turn of a `while`, which takes a tick as it begins. Returns how the loop ends, or `None` if it goes on.
-    #[cycle(evaluation)]
-    #[inline(always)]
-    fn turn(
-        &mut self,
-        world: &mut World,
-        active: &mut Activation,
-        stack: &CallStack<'_>,
-        own: &Option<MooStr>,
-        body: &[NodeStmt],
-    ) -> Result<Option<Flow>, Stop>
-        ensures meaning { IsKnown result → Turns Faults (context_of stack.now None) own.now [] (source_block body.now) (state_of self.old world.old active.old) (seen_turn result) (state_of self.new world.new active.new) }
-        ensures ticks { self.new.ticks_left ≤ self.old.ticks_left }
-        ensures fewer { OnOk result (self.new.ticks_left < self.old.ticks_left) }
-    {
-        self.take_tick(active, stack)?;
-        let flow = self.run_block(world, active, stack, body)?;
-        if let Flow::Next = flow {
-            return Ok(None);
-        }
-        Ok(after_turn(own.as_ref(), flow))
-    }
-
-    // Runs a turn of a `for`, which takes a tick before the variable is set.
-    #[cycle(evaluation)]
-    #[inline(always)]
-    fn visit(
-        &mut self,
-        world: &mut World,
-        active: &mut Activation,
-        stack: &CallStack<'_>,
-        name: &Name,
-        value: Value,
-        body: &[NodeStmt],
-    ) -> Result<Option<Flow>, Stop>
-        ensures meaning { IsKnown result → Turns Faults (context_of stack.now None) (Some name.now) (bind name.now (value_tree value) ∷ []) (source_block body.now) (state_of self.old world.old active.old) (seen_turn result) (state_of self.new world.new active.new) }
-        ensures ticks { self.new.ticks_left ≤ self.old.ticks_left }
-        ensures fewer { OnOk result (self.new.ticks_left < self.old.ticks_left) }
-    {
-        self.take_tick(active, stack)?;
-        active.variables.set(name, value)?;
-        let flow = self.run_block(world, active, stack, body)?;
-        if let Flow::Next = flow {
-            return Ok(None);
-        }
-        Ok(after_turn(Some(name.text()), flow))
-    }
-
     // Runs a `while`, from a test on.
     #[cycle(evaluation)]
     #[inline(never)]
@@ -87,7 +41,12 @@ impl Task {
             if !passes {
                 return Ok(Flow::Next);
             }
-            if let Some(flow) = self.turn(world, active, stack, own, body)? {
+            self.take_tick(active, stack)?;
+            let flow = self.run_block(world, active, stack, body)?;
+            if let Flow::Next = flow {
+                continue 'turns;
+            }
+            if let Some(flow) = after_turn(own.as_ref(), flow) {
                 return Ok(flow);
             }
         }
@@ -128,8 +87,13 @@ impl Task {
         ensures ticks { self.new.ticks_left ≤ self.old.ticks_left }
     {
         for value in values {
-            let value = value.try_clone()?;
-            if let Some(flow) = self.visit(world, active, stack, name, value, body)? {
+            self.take_tick(active, stack)?;
+            set_copied(&mut active.variables, name, value)?;
+            let flow = self.run_block(world, active, stack, body)?;
+            if let Flow::Next = flow {
+                continue;
+            }
+            if let Some(flow) = after_turn(Some(name.text()), flow) {
                 return Ok(flow);
             }
         }
@@ -175,12 +139,54 @@ impl Task {
     {
         let mut number = i64::from(span.low);
         'numbers: while number <= i64::from(span.high) {
-            let value = span.value(number as i32);
-            if let Some(flow) = self.visit(world, active, stack, name, value, body)? {
+            self.take_tick(active, stack)?;
+            set_number(&mut active.variables, name, &span, number as i32)?;
+            number += 1;
+            let flow = self.run_block(world, active, stack, body)?;
+            if let Flow::Next = flow {
+                continue 'numbers;
+            }
+            if let Some(flow) = after_turn(Some(name.text()), flow) {
                 return Ok(flow);
             }
-            number += 1;
         }
         Ok(Flow::Next)
     }
+}
+
+// Sets a variable to a number of the span, in place if it holds an integer.
+#[inline(always)]
+fn set_number(
+    variables: &mut Variables,
+    name: &Name,
+    span: &Span,
+    number: i32,
+) -> Result<(), AllocError>
+    ensures { OnOk result (variables_of variables.new ≡ with_variable (variables_of variables.old) (bind name.now (numbered span.now.are_objects number))) }
+{
+    if !span.are_objects && variables.try_put_integer(name, number) {
+        return Ok(());
+    }
+    set_anew(variables, name, span.value(number))
+}
+
+// Sets a variable to a copy of a value, in place if both are integers.
+#[inline(always)]
+fn set_copied(variables: &mut Variables, name: &Name, value: &Value) -> Result<(), AllocError>
+    ensures { OnOk result (variables_of variables.new ≡ with_variable (variables_of variables.old) (bind name.now (value_tree value.now))) }
+{
+    if let Value::Int(number) = value {
+        if variables.try_put_integer(name, *number) {
+            return Ok(());
+        }
+    }
+    variables.set(name, value.try_clone()?)
+}
+
+// Sets a variable. Not inlined, so that a turn with an integer stays short.
+#[inline(never)]
+fn set_anew(variables: &mut Variables, name: &Name, value: Value) -> Result<(), AllocError>
+    ensures { OnOk result (variables_of variables.new ≡ with_variable (variables_of variables.old) (bind name.now (value_tree value))) }
+{
+    variables.set(name, value)
 }

@@ -38,6 +38,9 @@ impl Task {
         if let Some(value) = self.try_node(active, node) {
             return Ok(value);
         }
+        if let Some(value) = self.try_property(world, active, node) {
+            return Ok(value);
+        }
         self.evaluate_parts(world, active, stack, indexed, node)
     }
 

@@ -10,6 +10,6 @@ use Rattle.moo_eval_semantics.specs.Meaning.{Evaluates, arm_passed}
 use Rattle.moo_eval.specs.Chosen.{IsChosen}
 
 -- what the later arms choose is chosen after a condition that is false
-pub passed : {T : Telling} {c : Context} {e : Expr} {b : Block} {arms : Arms} {s s' s'' : State} {v : Tree} → Evaluates T c e s (Ok v) s' → is_true v ≡ false → (chosen : Option Block) → IsChosen T c arms s' chosen s'' → IsChosen T c (elseif e b arms) s chosen s''
-passed d h (Some b) k = λ o s r. arm_passed d h (k o s r)
-passed d h None k = arm_passed d h k
+pub passed : {T : Telling} {c : Context} {e : Expr} {s s' : State} {v : Tree} (b : Block) (arms : Arms) (s'' : State) → Evaluates T c e s (Ok v) s' → is_true v ≡ false → (chosen : Option Block) → IsChosen T c arms s' chosen s'' → IsChosen T c (elseif e b arms) s chosen s''
+passed b arms s'' d h (Some chosen) k = λ o s r. arm_passed d h (k o s r)
+passed b arms s'' d h None k = arm_passed d h k

@@ -1,12 +1,11 @@
 -- Values that properties are set to.
-use Rattle.std.proofs.Common.{◌≡◌, ◌<◌, ◌-◌, arith, ℕ, ℤ, List, [], ◌∷◌, Option, Result, Ok, Err, IfOk, IfErr, OnOk, IsTrue, is_ok, refl, sym, ap, subst, ◌∙◌}
+use Rattle.std.proofs.Common.{◌≡◌, ℕ, ℤ, List, [], ◌∷◌, Option, Result, Ok, Err, IfOk, IfErr, OnOk, IsTrue, is_ok, refl, sym, ap, subst, ◌∙◌}
 use Rattle.std.proofs.lemmas.Bool.{false≢true}
 use Rattle.moo_value.specs.declared.error_code.ErrorCode.{ErrorCode}
 use Rattle.moo_value.specs.declared.value.Value.{Value}
-use Rattle.moo_value.specs.Tree.{Tree, string}
+use Rattle.moo_value.specs.Tree.{Tree}
 use Rattle.moo_value.specs.View.{tree}
-use Rattle.moo_syntax_ast.specs.declared.tree.Literal.TheVariants.{Str}
-use Rattle.moo_syntax_ast.specs.Tree.{Expr, literal, index, property, assign, performs}
+use Rattle.moo_syntax_ast.specs.Tree.{Expr, index, property, assign}
 use Rattle.moo_builtin_operator.specs.Assignment.{with_index_of}
 use Rattle.moo_world_table.specs.World.{World}
 use Rattle.moo_eval_frame.specs.declared.notice.Notice.{Notice}
@@ -16,15 +15,13 @@ use Rattle.moo_eval_frame.specs.Outcome.{Stop, Failure, fails, stops, answers}
 use Rattle.moo_eval_frame.specs.Seen.{seen_value, seen_answer, seen_by, seen_done, stop_of, failure_of, HadMemory, HadMemoryIn, IsKnown, IsKnownFailure}
 use Rattle.moo_eval_frame.specs.State.{Context, within}
 use Rattle.moo_eval_access.specs.Calls.{read_property, write_property, write_result, IsSetAlike}
-use Rattle.moo_eval_access.specs.State.{State, ticked}
+use Rattle.moo_eval_access.specs.State.{State}
 use Rattle.moo_eval_access.specs.Target.{Step, owned, rebuilt}
 use Rattle.moo_eval_access.proofs.Written.{unchanged_alike, kept_after_drop}
-use Rattle.moo_builtin.specs.Telling.{Telling, Faults}
+use Rattle.moo_builtin.specs.Telling.{Telling}
 use Rattle.moo_eval_semantics.specs.Operands.{with_value}
-use Rattle.moo_eval_semantics.specs.Meaning.{Evaluates, Computes, Does, Stores, applies, no_more, element_stops, element_then, assign_is, target_ends, value_stops, assigns, root_ends, locates, parts_end, finds, inside, step_ends, enters, unread, spot_ends, steps_in, no_store, stores}
-use Rattle.moo_eval.specs.Leaves.{GivesLeaf}
+use Rattle.moo_eval_semantics.specs.Meaning.{Evaluates, Computes, Stores, applies, no_more, element_stops, element_then, assign_is, target_ends, value_stops, assigns, root_ends, locates, parts_end, finds, inside, step_ends, enters, unread, spot_ends, steps_in, no_store, stores}
 use Rattle.moo_eval.specs.Reached.{IsReached}
-use Rattle.moo_eval.proofs.Direct.{literal_read, unperformed}
 use Rattle.moo_eval.proofs.Exits.{property_put}
 use Rattle.moo_eval.proofs.Properties as property
 
@@ -127,25 +124,3 @@ module _ {T : Telling} {c : Context} {b n i e : Expr} {s s1 : State} where
     -- the element is set, or is not
     pub part_put : {s3 s4 t : State} {u j v : Tree} {o : Result (Unit {0}) Failure} → answers (read_property s2.world s2.programmer x y) ≡ Ok u → Evaluates T (within c (u ∷ [])) i s2 (Ok j) s3 → Evaluates T c e s3 (Ok v) s4 → Stores T c (owned x y) (record { container = u; places = j ∷ [] } ∷ []) v s4 o t → Computes T c (assign (index (property b n) i) e) s (with_value v o) t
     part_put held h k q = applies no_more no_more (assign_is (assigns (locates (finds (element_then d (element_then g no_more refl) refl) refl) (enters (steps_in held (element_then h no_more refl)) inside)) k q refl))
-
--- A property of an object in a variable or of a literal one is set, whose name is a literal. The ticks of the assignment, the object and the
--- name were taken before.
-module _ {variables : List ℕ → Option Tree} {c : Context} {s : State} {b e : Expr} {x : Tree} {name : List ℕ} (leaf : GivesLeaf variables b x) (same : s.variables ≡ variables) (z : 2 < s.ticks) where
-  object_read : Evaluates Faults c b (ticked s) (Ok x) (ticked (ticked s))
-  object_read = leaf c (ticked s) same (omega (arith, z))
-
-  name_read : Evaluates Faults c (literal (Str name)) (ticked (ticked s)) (Ok (string name)) (ticked (ticked (ticked s)))
-  name_read = literal_read (omega (arith, z))
-
-  three_taken : s.ticks - 3 ≡ s.ticks - 1 - 1 - 1
-  three_taken = omega arith
-
-  -- the value stops
-  pub target_stops : {stop : Stop} {t : State} → Evaluates Faults c e (record s { ticks = s.ticks - 3 }) (Err stop) t → Does Faults c (performs (assign (property b (literal (Str name))) e)) s (Err stop) t
-  target_stops d = unperformed (omega (arith, z)) (property.value_stops_put object_read name_read (rw three_taken at d))
-
-  -- the property is set to the value, or is not
-  pub target_put : {v : Tree} {k : ℕ} {w w' : World} {f : List ℕ → Option Tree} {p : ℤ} {ns : List Notice} (r : Result (Unit {0}) code_failure.Failure) →
-      IsReached (Evaluates Faults c e (record s { ticks = s.ticks - 3 }) (Ok v)) x (string name) (record { ticks = k; world = w; variables = f; programmer = p; notices = ns }) → answers (write_property w p x (string name) v) ≡ seen_by (λ _. w') r → IfErr r (λ failure. w' ≡ w) →
-      Computes Faults c (assign (property b (literal (Str name))) e) (ticked s) (with_value v (seen_done r)) (record { ticks = k; world = w'; variables = f; programmer = p; notices = ns })
-  target_put r h written kept = put_reached r object_read name_read (rw three_taken at h) written kept

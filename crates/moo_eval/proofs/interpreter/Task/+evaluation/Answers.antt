@@ -20,7 +20,7 @@ use Rattle.moo_eval.proofs.Hooking.{comes_on}
 use Rattle.moo_eval.proofs.Caught.{guards_end, attempt_stops, attempt_gives, attempt_caught, attempt_goes_on, attempt_spent}
 use Rattle.moo_syntax_ast.specs.Tree as program
 use Rattle.moo_syntax_ast.specs.declared.operator.BinaryOperator.TheVariants.{Add}
-use Rattle.moo_syntax_ast.specs.Tree.{variable, binary, splice, element, no_items}
+use Rattle.moo_syntax_ast.specs.Tree.{variable, binary, splice, element, no_items, no_handler}
 use Rattle.moo_eval.proofs.Lengthened.{lengthened, longer, too_long, first_stops, first_fails, unspliced, second_stops, set_longer, set_error, not_set}
 use Rattle.moo_eval.proofs.Prepended as front
 use Rattle.moo_eval.specs.Element.{sets_place}
@@ -64,13 +64,13 @@ pub binary_passes-returns-in-Ok-clause-ok : goal.binary_passes-returns-in-Ok-cla
 binary_passes-returns-in-Ok-clause-ok t c =
     (tree c.in-Ok.value, begins c.in_ok-take_tick.ensures.taken (rw (c.in_ok-take_tick.ensures.left, c.in-Ok.is) at (c.binary.ensures.meaning (rw c.in-Ok.is tt))) refl, sym c.is_true.ensures)
 
-pub binary_passes-returns-in-Err-clause-ok : goal.binary_passes-returns-in-Err-clause-ok
-binary_passes-returns-in-Err-clause-ok t c =
+pub binary_passes-returns-in_ok-value-in-Err-clause-ok : goal.binary_passes-returns-in_ok-value-in-Err-clause-ok
+binary_passes-returns-in_ok-value-in-Err-clause-ok t c =
     (tree c.in_ok-value.value, begins c.in_ok-take_tick.ensures.taken (rw (c.in_ok-take_tick.ensures.left, c.in-Err.is) at (c.binary.ensures.meaning (rw c.in-Err.is (c.in_ok-value.ensures.known tt)))) (c.in_ok-value.ensures.outcome tt), sym c.is_true-in-Err.ensures)
 
 pub binary_passes-returns-in_err-value-in-Err-clause-err : goal.binary_passes-returns-in_err-value-in-Err-clause-err
 binary_passes-returns-in_err-value-in-Err-clause-err t c =
-    let p = err_from_is_err_and c.from_residual-in-Err.result c.from_residual-in-Err.ensures.1 in rw (p.1, p.2) (λ k. begins c.in_ok-take_tick.ensures.taken (rw (c.in_ok-take_tick.ensures.left, c.in-Err.is) at (c.binary.ensures.meaning (rw c.in-Err.is (c.in_err-value.ensures.known k)))) (c.in_err-value.ensures.outcome k))
+    let p = err_from_is_err_and c.from_residual-in_err-value-in-Err.result c.from_residual-in_err-value-in-Err.ensures.1 in rw (p.1, p.2) (λ k. begins c.in_ok-take_tick.ensures.taken (rw (c.in_ok-take_tick.ensures.left, c.in-Err.is) at (c.binary.ensures.meaning (rw c.in-Err.is (c.in_err-value-in-Err.ensures.known k)))) (c.in_err-value-in-Err.ensures.outcome k))
 
 pub binary_passes-returns-in_err-take_tick-clause-err : goal.binary_passes-returns-in_err-take_tick-clause-err
 binary_passes-returns-in_err-take_tick-clause-err t c =
@@ -594,19 +594,19 @@ run_block-returns-clause-meaning t c =
 
 pub branch-returns-in-Some-clause-meaning : goal.branch-returns-in-Some-clause-meaning
 branch-returns-in-Some-clause-meaning t c =
-    λ k. selects ((rw c.in-Some.is at c.in_ok-choose.ensures.ok) _ _ (c.run_block.ensures.meaning k))
+    λ k. selects ((rw c.in-Some.is at c.in_ok-chosen.ensures.ok) _ _ (c.run_block.ensures.meaning k))
 
 pub branch-returns-in-None-clause-meaning : goal.branch-returns-in-None-clause-meaning
 branch-returns-in-None-clause-meaning t c =
-    λ k. selects (rw c.in-None.is at c.in_ok-choose.ensures.ok)
+    λ k. selects (rw c.in-None.is at c.in_ok-chosen.ensures.ok)
 
-pub branch-returns-in_err-choose-clause-meaning : goal.branch-returns-in_err-choose-clause-meaning
-branch-returns-in_err-choose-clause-meaning t c =
-    let p = err_from_is_err_and c.from_residual.result c.from_residual.ensures.1 in rw (p.1, p.2) (λ k. selects (c.in_err-choose.ensures.err k))
+pub branch-returns-in_err-chosen-clause-meaning : goal.branch-returns-in_err-chosen-clause-meaning
+branch-returns-in_err-chosen-clause-meaning t c =
+    let p = err_from_is_err_and c.from_residual.result c.from_residual.ensures.1 in rw (p.1, p.2) (λ k. selects (c.in_err-chosen.ensures.err k))
 
 pub choose-returns-clause-ok : goal.choose-returns-clause-ok
 choose-returns-clause-ok t c =
-    IfOk-weaker c.select.result _ _ (λ chosen h. passed c.in_ok-passes.ensures.ok.1 (c.in_ok-passes.ensures.ok.2 ∙ c.if-passes.false) _ h) c.select.ensures.ok
+    IfOk-weaker c.select.result _ _ (λ chosen h. passed _ _ _ c.in_ok-passes.ensures.ok.1 (c.in_ok-passes.ensures.ok.2 ∙ c.if-passes.false) _ h) c.select.ensures.ok
 
 pub choose-returns-clause-err : goal.choose-returns-clause-err
 choose-returns-clause-err t c =
@@ -733,7 +733,7 @@ for_range-returns-clause-meaning t c =
 pub prepare-loop-handler-preserved : goal.prepare-loop-handler-preserved
 prepare-loop-handler-preserved t c =
     let parts = c.handler_parts-parts.result in
-    let vs = code_values parts.codes.now c.in_ok-values.field-0.items in
+    let vs = code_values parts.codes.now c.in_ok-values.values.items in
     let h = c.in_ok-values.ensures.meaning tt in
     record {
       ticks = omega (arith, c.loop-handler.invariant.ticks, c.in_ok-values.ensures.ticks);
@@ -1051,11 +1051,11 @@ repeat-returns-in-Some-clause-meaning t c =
 
 pub repeat-turns-preserved : goal.repeat-turns-preserved
 repeat-turns-preserved t c =
-    record { ticks = omega arith; rest = λ o s d. c.turns.invariant.rest o s (loop_then c.in_ok-passes.ensures.ok.1 (c.in_ok-passes.ensures.ok.2 ∙ c.if-not-passes.false) (turns c.in_ok-take_tick.ensures.taken (ap (λ x. state_of x _ _) (sym c.in_ok-take_tick.ensures.left)) (c.in_ok-flow.ensures.meaning tt) (rw (none_left c.after_turn.result c.in_default.not-Some) at (sym (c.after_turn.ensures ∙ ap (λ x. after_turn x (Ok (flow_of c.in_ok-flow.flow))) c.as_ref.ensures.value)))) d) }
+    record { ticks = omega (arith, ap (λ (x : Task). x.ticks_left) c.in_ok-take_tick.ensures.left); rest = λ o s d. c.turns.invariant.rest o s (loop_then c.in_ok-passes.ensures.ok.1 (c.in_ok-passes.ensures.ok.2 ∙ c.if-not-passes.false) (turns c.in_ok-take_tick.ensures.taken (ap (λ x. state_of x _ _) (sym c.in_ok-take_tick.ensures.left)) (c.in_ok-flow.ensures.meaning tt) (rw (none_left c.after_turn.result c.in_default.not-Some) at (sym (c.after_turn.ensures ∙ ap (λ x. after_turn x (Ok (flow_of c.in_ok-flow.flow))) c.as_ref.ensures.value)))) d) }
 
 pub repeat-turns-preserved-in-Next : goal.repeat-turns-preserved-in-Next
 repeat-turns-preserved-in-Next t c =
-    record { ticks = omega arith; rest = λ o s d. c.turns.invariant.rest o s (loop_then c.in_ok-passes.ensures.ok.1 (c.in_ok-passes.ensures.ok.2 ∙ c.if-not-passes.false) (turns c.in_ok-take_tick.ensures.taken (ap (λ x. state_of x _ _) (sym c.in_ok-take_tick.ensures.left)) (rw c.in-Next.is at (c.in_ok-flow.ensures.meaning tt)) refl) d) }
+    record { ticks = omega (arith, ap (λ (x : Task). x.ticks_left) c.in_ok-take_tick.ensures.left); rest = λ o s d. c.turns.invariant.rest o s (loop_then c.in_ok-passes.ensures.ok.1 (c.in_ok-passes.ensures.ok.2 ∙ c.if-not-passes.false) (turns c.in_ok-take_tick.ensures.taken (ap (λ x. state_of x _ _) (sym c.in_ok-take_tick.ensures.left)) (rw c.in-Next.is at (c.in_ok-flow.ensures.meaning tt)) refl) d) }
 
 pub repeat-returns-in_err-take_tick-clause-meaning : goal.repeat-returns-in_err-take_tick-clause-meaning
 repeat-returns-in_err-take_tick-clause-meaning t c =
@@ -1075,11 +1075,11 @@ visit_all-returns-in-Some-clause-meaning t c =
 
 pub visit_all-loop-value-preserved : goal.visit_all-loop-value-preserved
 visit_all-loop-value-preserved t c =
-    record { ticks = omega arith; rest = λ o s d. c.loop-value.invariant.rest o s (rw (drop_next c.args.values.now c.loop-value.value-index c.value-item.result c.loop-value-test.true c.value-item.is) (visit_then (turns c.in_ok-take_tick.ensures.taken (let left = sym c.in_ok-take_tick.ensures.left in state_at (ap (λ (x : Task). x.ticks_left) left) (ap (λ (x : Task). x.notices.items) left) (sym c.in_ok-set_copied.ensures)) (c.in_ok-flow.ensures.meaning tt) (rw (none_left c.after_turn.result c.in_default.not-Some) at (sym (c.after_turn.ensures ∙ ap (λ x. after_turn (Some x) (Ok (flow_of c.in_ok-flow.flow))) c.text.ensures)))) d)) }
+    record { ticks = omega (arith, ap (λ (x : Task). x.ticks_left) c.in_ok-take_tick.ensures.left); rest = λ o s d. c.loop-value.invariant.rest o s (rw (drop_next c.args.values.now c.loop-value.value-index c.value-item.result c.loop-value-test.true c.value-item.is) (visit_then (turns c.in_ok-take_tick.ensures.taken (let left = sym c.in_ok-take_tick.ensures.left in state_at (ap (λ (x : Task). x.ticks_left) left) (ap (λ (x : Task). x.notices.items) left) (sym c.in_ok-set_copied.ensures)) (c.in_ok-flow.ensures.meaning tt) (rw (none_left c.after_turn.result c.in_default.not-Some) at (sym (c.after_turn.ensures ∙ ap (λ x. after_turn (Some x) (Ok (flow_of c.in_ok-flow.flow))) c.text.ensures)))) d)) }
 
 pub visit_all-loop-value-preserved-in-Next : goal.visit_all-loop-value-preserved-in-Next
 visit_all-loop-value-preserved-in-Next t c =
-    record { ticks = omega arith; rest = λ o s d. c.loop-value.invariant.rest o s (rw (drop_next c.args.values.now c.loop-value.value-index c.value-item.result c.loop-value-test.true c.value-item.is) (visit_then (turns c.in_ok-take_tick.ensures.taken (let left = sym c.in_ok-take_tick.ensures.left in state_at (ap (λ (x : Task). x.ticks_left) left) (ap (λ (x : Task). x.notices.items) left) (sym c.in_ok-set_copied.ensures)) (rw c.in-Next.is at (c.in_ok-flow.ensures.meaning tt)) refl) d)) }
+    record { ticks = omega (arith, ap (λ (x : Task). x.ticks_left) c.in_ok-take_tick.ensures.left); rest = λ o s d. c.loop-value.invariant.rest o s (rw (drop_next c.args.values.now c.loop-value.value-index c.value-item.result c.loop-value-test.true c.value-item.is) (visit_then (turns c.in_ok-take_tick.ensures.taken (let left = sym c.in_ok-take_tick.ensures.left in state_at (ap (λ (x : Task). x.ticks_left) left) (ap (λ (x : Task). x.notices.items) left) (sym c.in_ok-set_copied.ensures)) (rw c.in-Next.is at (c.in_ok-flow.ensures.meaning tt)) refl) d)) }
 
 pub visit_all-returns-in_err-take_tick-clause-meaning : goal.visit_all-returns-in_err-take_tick-clause-meaning
 visit_all-returns-in_err-take_tick-clause-meaning t c =
@@ -1103,11 +1103,11 @@ count-returns-in-Some-clause-meaning t c =
 
 pub count-numbers-preserved : goal.count-numbers-preserved
 count-numbers-preserved t c =
-    let f : SFits w32 c.args.span.low = search rules in let g : SFits w32 c.args.span.high = search rules in let h = reached (to_z w64 c.numbers.number-bits) c.from.result c.args.span.high true g c.from.ensures c.numbers-test.true in let e = ap (numbered c.args.span.are_objects) (narrow c.args.span.low c.args.span.high (to_z w64 c.numbers.number-bits) f g c.numbers.invariant.low h) in let q = next_number c.args.span.low c.args.span.high (to_z w64 c.numbers.number-bits) f g c.numbers.invariant.low h in record { ticks = omega arith; low = subst (λ x. c.args.span.low ≤ℤ x) (sym q) (not_below c.args.span.low (to_z w64 c.numbers.number-bits) c.numbers.invariant.low); rest = λ o s d. c.numbers.invariant.rest o s (count_then h (turns c.in_ok-take_tick.ensures.taken (let left = sym c.in_ok-take_tick.ensures.left in state_at (ap (λ (x : Task). x.ticks_left) left) (ap (λ (x : Task). x.notices.items) left) (sym (rw e at c.in_ok-set_number.ensures))) (c.in_ok-flow.ensures.meaning tt) (rw (none_left c.after_turn.result c.in_default.not-Some) at (sym (c.after_turn.ensures ∙ ap (λ x. after_turn (Some x) (Ok (flow_of c.in_ok-flow.flow))) c.text.ensures)))) (subst (λ x. Counts Faults (context_of c.args.stack.now None) c.args.name.now c.args.span x (source_block c.args.body.now) (state_of c.run_block.new.self c.run_block.new.world c.run_block.new.active) o s) q d)) }
+    let f : SFits w32 c.args.span.low = search rules in let g : SFits w32 c.args.span.high = search rules in let h = reached (to_z w64 c.numbers.number-bits) c.from.result c.args.span.high true g c.from.ensures c.numbers-test.true in let e = ap (numbered c.args.span.are_objects) (narrow c.args.span.low c.args.span.high (to_z w64 c.numbers.number-bits) f g c.numbers.invariant.low h) in let q = next_number c.args.span.low c.args.span.high (to_z w64 c.numbers.number-bits) f g c.numbers.invariant.low h in record { ticks = omega (arith, ap (λ (x : Task). x.ticks_left) c.in_ok-take_tick.ensures.left); low = subst (λ x. c.args.span.low ≤ℤ x) (sym q) (not_below c.args.span.low (to_z w64 c.numbers.number-bits) c.numbers.invariant.low); rest = λ o s d. c.numbers.invariant.rest o s (count_then h (turns c.in_ok-take_tick.ensures.taken (let left = sym c.in_ok-take_tick.ensures.left in state_at (ap (λ (x : Task). x.ticks_left) left) (ap (λ (x : Task). x.notices.items) left) (sym (rw e at c.in_ok-set_number.ensures))) (c.in_ok-flow.ensures.meaning tt) (rw (none_left c.after_turn.result c.in_default.not-Some) at (sym (c.after_turn.ensures ∙ ap (λ x. after_turn (Some x) (Ok (flow_of c.in_ok-flow.flow))) c.text.ensures)))) (subst (λ x. Counts Faults (context_of c.args.stack.now None) c.args.name.now c.args.span x (source_block c.args.body.now) (state_of c.run_block.new.self c.run_block.new.world c.run_block.new.active) o s) q d)) }
 
 pub count-numbers-preserved-in-Next : goal.count-numbers-preserved-in-Next
 count-numbers-preserved-in-Next t c =
-    let f : SFits w32 c.args.span.low = search rules in let g : SFits w32 c.args.span.high = search rules in let h = reached (to_z w64 c.numbers.number-bits) c.from.result c.args.span.high true g c.from.ensures c.numbers-test.true in let e = ap (numbered c.args.span.are_objects) (narrow c.args.span.low c.args.span.high (to_z w64 c.numbers.number-bits) f g c.numbers.invariant.low h) in let q = next_number c.args.span.low c.args.span.high (to_z w64 c.numbers.number-bits) f g c.numbers.invariant.low h in record { ticks = omega arith; low = subst (λ x. c.args.span.low ≤ℤ x) (sym q) (not_below c.args.span.low (to_z w64 c.numbers.number-bits) c.numbers.invariant.low); rest = λ o s d. c.numbers.invariant.rest o s (count_then h (turns c.in_ok-take_tick.ensures.taken (let left = sym c.in_ok-take_tick.ensures.left in state_at (ap (λ (x : Task). x.ticks_left) left) (ap (λ (x : Task). x.notices.items) left) (sym (rw e at c.in_ok-set_number.ensures))) (rw c.in-Next.is at (c.in_ok-flow.ensures.meaning tt)) refl) (subst (λ x. Counts Faults (context_of c.args.stack.now None) c.args.name.now c.args.span x (source_block c.args.body.now) (state_of c.run_block.new.self c.run_block.new.world c.run_block.new.active) o s) q d)) }
+    let f : SFits w32 c.args.span.low = search rules in let g : SFits w32 c.args.span.high = search rules in let h = reached (to_z w64 c.numbers.number-bits) c.from.result c.args.span.high true g c.from.ensures c.numbers-test.true in let e = ap (numbered c.args.span.are_objects) (narrow c.args.span.low c.args.span.high (to_z w64 c.numbers.number-bits) f g c.numbers.invariant.low h) in let q = next_number c.args.span.low c.args.span.high (to_z w64 c.numbers.number-bits) f g c.numbers.invariant.low h in record { ticks = omega (arith, ap (λ (x : Task). x.ticks_left) c.in_ok-take_tick.ensures.left); low = subst (λ x. c.args.span.low ≤ℤ x) (sym q) (not_below c.args.span.low (to_z w64 c.numbers.number-bits) c.numbers.invariant.low); rest = λ o s d. c.numbers.invariant.rest o s (count_then h (turns c.in_ok-take_tick.ensures.taken (let left = sym c.in_ok-take_tick.ensures.left in state_at (ap (λ (x : Task). x.ticks_left) left) (ap (λ (x : Task). x.notices.items) left) (sym (rw e at c.in_ok-set_number.ensures))) (rw c.in-Next.is at (c.in_ok-flow.ensures.meaning tt)) refl) (subst (λ x. Counts Faults (context_of c.args.stack.now None) c.args.name.now c.args.span x (source_block c.args.body.now) (state_of c.run_block.new.self c.run_block.new.world c.run_block.new.active) o s) q d)) }
 
 pub count-returns-clause-meaning : goal.count-returns-clause-meaning
 count-returns-clause-meaning t c =
@@ -1586,8 +1586,8 @@ call_literal-returns-in_err-evaluate_arguments-in-Some-clause-meaning t c =
     (λ d. applies (named (variables_of c.args.active.now.variables) c.args.name.now h.0 refl h.1 (rw h.2 at d.1)) no_more (verb_fails (unlisted _ _ d.2)))
     (c.in_err-evaluate_arguments-in-Some.ensures.meaning k))
 
-pub call_literal-returns-in-Some-clause-meaning : goal.call_literal-returns-in-Some-clause-meaning
-call_literal-returns-in-Some-clause-meaning t c =
+pub call_literal-returns-in_ok-evaluate_arguments-in-Some-clause-meaning : goal.call_literal-returns-in_ok-evaluate_arguments-in-Some-clause-meaning
+call_literal-returns-in_ok-evaluate_arguments-in-Some-clause-meaning t c =
     let h = c.in-Some.ensures.some in
     let this : SFits w32 c.in-Some.this = search rules in
     λ k. applies (named (variables_of c.args.active.now.variables) c.args.name.now h.0 refl h.1 (rw h.2 at (c.in_ok-evaluate_arguments-in-Some.ensures.meaning tt))) no_more (rw (to_z-of_z w32 c.in-Some.this this) at (c.call_written.ensures.meaning c.args.indexed _ _ _ k))

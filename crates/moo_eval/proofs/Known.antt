@@ -1,5 +1,5 @@
 -- Codes that are literal errors.
-use Rattle.std.proofs.Common.{◌≡◌, Result, ◌≤◌, ◌<◌, ◌-◌, ℕ, zero, suc, List, [], ◌∷◌, length, map, Ok, Err, refl, subst, arith}
+use Rattle.std.proofs.Common.{◌≡◌, Result, ◌≤◌, ◌<◌, ◌-◌, ℕ, zero, suc, List, [], ◌∷◌, length, map, Ok, Err, refl, sym, ap, subst, arith}
 use Rattle.moo_value.specs.declared.error_code.ErrorCode.{ErrorCode}
 use Rattle.moo_value.specs.Tree.{error}
 use Rattle.moo_syntax_lower.specs.Source.{error_items}
@@ -9,8 +9,11 @@ use Rattle.moo_value.specs.declared.value.Value.{Value}
 use Rattle.moo_value.specs.View.{trees}
 use Rattle.moo_value.specs.Tree.{Tree}
 use Rattle.moo_syntax_ast.specs.Tree.{Codes}
+use Rattle.moo_syntax_lower.specs.declared.node.NodeCodes.{NodeCodes}
 use Rattle.moo_eval_frame.specs.declared.outcome.Failure as code_failure
-use Rattle.moo_eval_frame.specs.Seen.{seen_by, seen_answers}
+use Rattle.moo_eval_frame.specs.declared.outcome.Stop as code_stop
+use Rattle.moo_eval_frame.specs.Seen.{seen_by, seen_answers, seen_codes, code_values}
+use Rattle.moo_eval.specs.Codes.{seen_values}
 use Rattle.moo_eval_frame.specs.Catching.{guards, coded}
 use Rattle.moo_eval_frame.specs.Outcome.{Failure, stops, out_of_ticks}
 use Rattle.moo_eval_frame.specs.State.{Context}
@@ -36,6 +39,7 @@ pub seen_listed : (r : Result (Vec Value Global) code_failure.Failure) → seen_
 seen_listed (Ok vs) = refl
 seen_listed (Err failure) = refl
 
--- codes have these values
-abbrev pub HasValues : Telling → Context → Codes → State → State → List Tree → Type 0
-HasValues T c codes s s' vs = (o : Result (List Tree) Failure) × EvaluatesAll T c (guards codes) s o s' × (coded c.frame.d (trace c s') o ≡ Ok vs)
+-- codes that have the values that were evaluated
+pub codes_given : (codes : NodeCodes) → ((vs : List Value) → code_values codes vs ≡ trees vs) → (r : Result (Vec Value Global) code_stop.Stop) → seen_codes r ≡ seen_values codes r
+codes_given codes h (Ok vs) = ap Ok (sym (h vs.items))
+codes_given codes h (Err stop) = refl

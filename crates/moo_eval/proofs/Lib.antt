@@ -6,7 +6,9 @@ pub mod Exits
 pub mod Held
 pub mod Hooking
 pub mod Texts
+mod ObjectCalls
 mod Passing
+mod Dealt
 mod Direct
 mod Extended
 mod Known
@@ -18,3 +20,4 @@ mod Reached
 mod Ticks
 mod Updated
 mod Spliced
+mod Choosing

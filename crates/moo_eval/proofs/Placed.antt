@@ -1,5 +1,5 @@
 -- Assignments to a place of the list or string in a variable.
-use Rattle.std.proofs.Common.{◌≡◌, ℕ, ◌<◌, ◌-◌, ℤ, List, [], ◌∷◌, Option, Result, Ok, Err, refl, sym, ap, subst}
+use Rattle.std.proofs.Common.{◌≡◌, ℕ, ◌<◌, ◌-◌, ℤ, List, [], ◌∷◌, Option, Result, Ok, Err, refl, sym, ap, subst, ◌∙◌}
 use Rattle.moo_value.specs.declared.error_code.ErrorCode.TheVariants.{VariableNotFound}
 use Rattle.moo_value.specs.Tree.{Tree, integer}
 use Rattle.moo_value.specs.Compare.{folded}
@@ -8,11 +8,12 @@ use Rattle.moo_builtin_operator.specs.Assignment.{with_index_of}
 use Rattle.moo_eval_frame.specs.Outcome.{Stop, Failure, Flow, stops, next, or_error, answers, settled}
 use Rattle.moo_eval_frame.specs.State.{Context, within}
 use Rattle.moo_eval_frame.specs.Variables.{bind, with_variable}
+use Rattle.moo_eval_access.specs.Target.{Step, rebuilt}
 use Rattle.moo_eval_access.specs.State.{State, ticked, bound, trace}
 use Rattle.moo_builtin.specs.Telling.{Telling, Faults}
 use Rattle.moo_eval_integer.specs.Integers.{with_ticks, GivesInteger}
-use Rattle.moo_eval_integer.specs.Puts.{PutsInteger}
-use Rattle.moo_eval.specs.Element.{sets_place, IsPut}
+use Rattle.moo_eval_integer.specs.Puts.{PutsInteger, PutsInner}
+use Rattle.moo_eval.specs.Element.{sets_place, sets_inner, IsPut}
 use Rattle.moo_eval_semantics.specs.Meaning.{Evaluates, Computes, Does, begins, applies, no_more, element_stops, element_then, assign_is, target_ends, value_stops, assigns, locates, finds, inside, step_ends, enters, unread, spot_ends, steps_in, no_store, stores, puts_variable, evaluates}
 use Rattle.moo_eval.proofs.Direct.{assigned, performed}
 use Rattle.moo_eval.proofs.Exits.{same_state}
@@ -24,6 +25,15 @@ put {v = v} held d g made sets = record { value = v; computes = applies no_more 
 -- an integer at a place that an integer gives
 pub integer_put : {name : List ℕ} {i e : Expr} {n m : ℕ} {after : List ℕ → Option Tree} {programmer : ℤ} (c : Context) (s : State) → s.programmer ≡ programmer → PutsInteger s.variables n name i e m after → IsPut Faults c name i e (with_ticks n s) (record { ticks = m; world = s.world; variables = after; programmer = programmer; notices = s.notices })
 integer_put c s same h = put (ap (λ o. answers (or_error o VariableNotFound)) h.held) (h.placed (within c (h.container ∷ [])) s refl) (h.valued c s refl) h.made (same_state (sym h.sets) same)
+
+-- an integer at a place that an integer gives, within an element of the variable's container
+pub inner_put : {name : List ℕ} {i j e : Expr} {n m : ℕ} {after : List ℕ → Option Tree} {programmer : ℤ} (c : Context) (s : State) → s.programmer ≡ programmer → 0 < n → PutsInner s.variables (n - 1) name i j e m after → Does Faults c (performs (sets_inner name i j e)) (with_ticks n s) (Ok next) (record { ticks = m; world = s.world; variables = after; programmer = programmer; notices = s.notices })
+inner_put c s same z h =
+    let first : Step = record { container = h.container; places = integer h.first ∷ [] } in
+    let outer = steps_in (ap (λ o. answers (or_error o VariableNotFound)) h.held) (element_then (h.placed (within c (h.container ∷ [])) s refl) no_more refl) in
+    let inner = steps_in (ap answers h.there) (element_then (h.placed_inside (within c (h.element ∷ [])) s refl) no_more refl) in
+    let made = ap (λ r. answers (rebuilt (first ∷ []) r)) h.made_inside ∙ ap answers h.made in
+    performed z (applies no_more no_more (assign_is (assigns (locates (finds no_more refl) (enters outer (enters inner inside))) (h.valued c s refl) (stores made (puts_variable (same_state (sym h.sets) same))) refl)))
 
 -- from an equal state
 pub does_from : {T : Telling} {c : Context} {e : Stmt} {s s' t : State} {o : Result Flow Stop} → s ≡ s' → Does T c e s o t → Does T c e s' o t

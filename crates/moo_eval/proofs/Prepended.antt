@@ -11,7 +11,7 @@ use Rattle.moo_eval_frame.specs.Outcome.{Stop, Failure, stops, answers}
 use Rattle.moo_eval_frame.specs.State.{Context}
 use Rattle.moo_eval_access.specs.State.{State, bound}
 use Rattle.moo_builtin.specs.Telling.{Telling}
-use Rattle.moo_eval.specs.Growth.{IsLengthened}
+use Rattle.moo_eval.specs.SetTo.{IsSetTo}
 use Rattle.moo_eval_semantics.specs.Meaning.{Evaluates, EvaluatesAll, Computes, applies, operands_end, no_more, element_stops, element_then, splice_stops, splice_fails, splice_then, list_is}
 
 -- the elements of a list after one more
@@ -22,7 +22,7 @@ parts vs d g = element_then d (splice_then g (ap Ok (trees_of-elements_of vs)) n
 pub longer : {T : Telling} {c : Context} {a e : Expr} {s s1 s2 : State} {v w : Tree} (vs : List Tree) → Evaluates T c e s (Ok v) s1 → Evaluates T c a s1 (Ok (list_of vs)) s2 → made_list (v ∷ vs) ≡ Ok w → Computes T c (program.list (element e (splice a no_items))) s (Ok w) s2
 longer vs d g made = applies (parts vs d g) no_more (list_is (ap answers made))
 
-pub prepended : {T : Telling} {c : Context} {x : List ℕ} {e : Expr} {s s1 s2 t : State} {v w : Tree} (vs : List Tree) → Evaluates T c e s (Ok v) s1 → Evaluates T c (variable x) s1 (Ok (list_of vs)) s2 → made_list (v ∷ vs) ≡ Ok w → bound (bind x w ∷ []) s2 ≡ t → IsLengthened T c x (program.list (element e (splice (variable x) no_items))) s t
+pub prepended : {T : Telling} {c : Context} {x : List ℕ} {e : Expr} {s s1 s2 t : State} {v w : Tree} (vs : List Tree) → Evaluates T c e s (Ok v) s1 → Evaluates T c (variable x) s1 (Ok (list_of vs)) s2 → made_list (v ∷ vs) ≡ Ok w → bound (bind x w ∷ []) s2 ≡ t → IsSetTo T c x (program.list (element e (splice (variable x) no_items))) s t
 prepended {s2 = s2} {w = w} vs d g made sets = record {
   value = w;
   between = s2;

@@ -1,7 +1,9 @@
 -- Assignments to properties, and scatters.
-use Rattle.std.proofs.Common.{◌≡◌, ◌<◌, ◌-◌, ℕ, List, [], ◌∷◌, Option, Result, Ok, Err, arith, OnOk, IfErr, refl, sym, ap, ◌∙◌}
+use Rattle.std.proofs.Common.{◌≡◌, ◌<◌, ◌-◌, ℕ, ℤ, List, [], ◌∷◌, Option, Result, Ok, Err, arith, OnOk, IfErr, refl, sym, ap, ◌∙◌}
 use Rattle.moo_value.specs.declared.error_code.ErrorCode.{ErrorCode}
-use Rattle.moo_value.specs.Tree.{Tree, string}
+use Rattle.moo_value.specs.Tree.{Tree, object, string}
+use Rattle.moo_world_table.specs.World.{World}
+use Rattle.moo_world.specs.ByRight.{IsReadable}
 use Rattle.moo_syntax_ast.specs.declared.tree.Literal.TheVariants.{Str}
 use Rattle.moo_syntax_ast.specs.Tree.{Expr, Items, literal, list, property, assign}
 use Rattle.moo_syntax_lower.specs.Blocks.{named_items}
@@ -18,7 +20,7 @@ use Rattle.moo_eval_semantics.specs.Operands.{with_value}
 use Rattle.moo_builtin.specs.Telling.{Telling, Faults}
 use Rattle.moo_eval.specs.Leaves.{GivesLeaf}
 use Rattle.moo_eval.proofs.Direct.{literal_read}
-use Rattle.moo_eval_semantics.specs.Meaning.{Evaluates, Computes, Puts, property_is, applies, no_more, element_stops, element_then, assign_is, target_ends, value_stops, assigns, root_ends, locates, parts_end, finds, inside, stores, scatter_fails, scatters, none_missing}
+use Rattle.moo_eval_semantics.specs.Meaning.{Evaluates, Computes, Puts, begins, property_is, applies, no_more, element_stops, element_then, assign_is, target_ends, value_stops, assigns, root_ends, locates, parts_end, finds, inside, stores, scatter_fails, scatters, none_missing}
 
 -- the object, the name and the value are evaluated, then the property is set or not
 pub put : {T : Telling} {c : Context} {b n e : Expr} {s s1 s2 s3 t : State} {x y v : Tree} {o : Result (Unit {0}) Failure} {r : Result Tree Failure} → Evaluates T c b s (Ok x) s1 → Evaluates T c n s1 (Ok y) s2 → Evaluates T c e s2 (Ok v) s3 → Puts T c (owned x y) v s3 o t → with_value v o ≡ r → Computes T c (assign (property b n) e) s r t
@@ -71,3 +73,13 @@ pub property_computed : (variables : List ℕ → Option Tree) {c : Context} {s 
 property_computed variables {c = c} {s = s} name f g e z =
     let t : s.ticks - 2 ≡ s.ticks - 1 - 1 = omega arith in
     rw t (applies (element_then (f c s e (omega (arith, z))) (element_then {s = ticked s} (literal_read (omega (arith, z))) no_more refl) refl) no_more (property_is g))
+
+-- the expression with all its ticks
+pub property_read : (variables : List ℕ → Option Tree) {c : Context} {s : State} {b : Expr} {x v : Tree} (name : List ℕ) → GivesLeaf variables b x → read_property s.world s.programmer x (string name) ≡ Ok v → s.variables ≡ variables → 2 < s.ticks → Evaluates Faults c (property b (literal (Str name))) s (Ok v) (record s { ticks = s.ticks - 3 })
+property_read variables {s = s} name f g e z =
+    let t : s.ticks - 3 ≡ s.ticks - 1 - 2 = omega arith in
+    rw t (begins {s = s} (omega (arith, z)) (property_computed variables {s = ticked s} name f (ap answers g) e (omega (arith, z))) refl)
+
+-- a property that the programmer may read
+pub readable : {w : World} {p o : ℤ} {name : List ℕ} {v : Tree} → IsReadable w p o name v → read_property w p (object o) (string name) ≡ Ok v
+readable h = rw (h.raises, h.right, h.value) refl

@@ -12,7 +12,7 @@ use Rattle.moo_eval_call.specs.VerbCalls.{verb_caller}
 use Rattle.moo_eval_call.specs.Updates.{MakesList, appends, inserts, adds, deletes, removes}
 use Rattle.moo_eval_call.proofs.Updates.{list_calls}
 use Rattle.moo_eval_semantics.specs.Meaning.{EvaluatesAll, Computes, applies, no_more, call_is}
-use Rattle.moo_eval.specs.Growth.{IsLengthened}
+use Rattle.moo_eval.specs.SetTo.{IsSetTo}
 
 -- such a function calls no verb
 calls_none : {f : Function} {args : List Tree} {w : Tree} → MakesList f args w → verb_caller (Some f) ≡ None
@@ -27,7 +27,7 @@ pub list_called : {c : Context} {name : List ℕ} {items : Items} {f : Function}
 list_called {name = name} d same f h = applies d no_more (call_is (ap verb_caller f ∙ calls_none h) (list_calls name _ _ f (rw same at h)))
 
 -- then the variable is set to it
-pub updated : {c : Context} {x name : List ℕ} {items : Items} {f : Function} {s s1 t : State} {vs args : List Tree} {w : Tree} → EvaluatesAll Faults c items s (Ok vs) s1 → args ≡ vs → function_of name ≡ Some f → MakesList f args w → bound (bind x w ∷ []) s1 ≡ t → IsLengthened Faults c x (call name items) s t
+pub updated : {c : Context} {x name : List ℕ} {items : Items} {f : Function} {s s1 t : State} {vs args : List Tree} {w : Tree} → EvaluatesAll Faults c items s (Ok vs) s1 → args ≡ vs → function_of name ≡ Some f → MakesList f args w → bound (bind x w ∷ []) s1 ≡ t → IsSetTo Faults c x (call name items) s t
 updated {s1 = s1} {w = w} d same f h sets = record {
   value = w;
   between = s1;

@@ -12,6 +12,10 @@ use Rattle.moo_eval_semantics.specs.Meaning.{Computes}
 abbrev pub sets_place : List ℕ → Expr → Expr → Expr
 sets_place name place e = assign (index (variable name) place) e
 
+-- `name[outer][inner] = e`
+abbrev pub sets_inner : List ℕ → Expr → Expr → Expr → Expr
+sets_inner name outer inner e = assign (index (index (variable name) outer) inner) e
+
 -- `base.name[place] = e`
 abbrev pub sets_part : Expr → List ℕ → Expr → Expr → Expr
 sets_part base name place e = assign (index (property base (literal (Str name))) place) e

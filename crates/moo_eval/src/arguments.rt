@@ -17,8 +17,8 @@ use moo_world::World;
 use std::alloc::AllocError;
 
 impl Task {
-    /// Evaluates the arguments of a call of a verb into `values`, in place of those that it holds. E_QUOTA, before an
-    /// element is copied, if the lists that are spliced in are too heavy together. Inlined, so that other arguments need
+    /// Evaluates the arguments of a call of a verb into `values`, in place of those that it holds. It fails with
+    /// E_QUOTA, before it copies an element, if the spliced lists are too heavy together. Inlined, so that other arguments need
     /// no call.
     #[cycle(evaluation)]
     #[inline(always)]
@@ -44,7 +44,7 @@ impl Task {
     // Evaluates items without a splice from left to right.
     #[cycle(evaluation)]
     #[inline(always)]
-    fn evaluate_elements(
+    pub(crate) fn evaluate_elements(
         &mut self,
         world: &mut World,
         active: &mut Activation,
@@ -65,7 +65,7 @@ impl Task {
                     let value = self.evaluate(world, active, stack, indexed, node)?;
                     push(values, value)?;
                 }
-                // No item is one.
+                // The `requires` excludes splices.
                 NodeItem::Splice(_node) => return Err(Failure::Fails(ErrorCode::TypeMismatch)),
                 NodeItem::Optional(_) | NodeItem::Defaulted(_, _) => {
                     return Err(Failure::Fails(ErrorCode::TypeMismatch));
@@ -97,7 +97,7 @@ impl Task {
 
 // Returns whether a list is spliced in.
 #[inline(always)]
-fn has_splice(items: &[NodeItem]) -> bool
+pub(crate) fn has_splice(items: &[NodeItem]) -> bool
     ensures { result ≡ list_any is_splice items.now }
 {
     items.iter().any(is_splice)

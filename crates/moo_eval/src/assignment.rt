@@ -90,30 +90,23 @@ impl Task {
         Ok(value)
     }
 
-    /// Assigns to a variable, if the assignment's own value is not used: by integers alone if that can be.
-    #[cycle(evaluation)]
+    // Assigns to a variable by integers alone, takes its ticks, and returns true. Returns false, and changes nothing, if
+    // that can't be.
     #[inline(always)]
-    pub(crate) fn assign_alone(
-        &mut self,
-        world: &mut World,
-        active: &mut Activation,
-        stack: &CallStack<'_>,
-        name: &Name,
-        value: &Node,
-    ) -> Result<Flow, Stop>
-        ensures meaning { IsKnown result → Does Faults (context_of stack.now None) (performs (assign (variable name.now) (source value.now))) (state_of self.old world.old active.old) (seen_flow result) (state_of self.new world.new active.new) }
+    pub(crate) fn try_assign(&mut self, active: &mut Activation, name: &Name, value: &Node) -> bool
+        ensures assigned { IsTrue result → (w : WorldModel) (c : Context) → Does Faults c (performs (assign (variable name.now) (source value.now))) (state_of self.old w active.old) (Ok next) (state_of self.new w active.new) }
+        ensures kept { IsFalse result → (w : WorldModel) → state_of self.new w active.new ≡ state_of self.old w active.old }
         ensures ticks { self.new.ticks_left ≤ self.old.ticks_left }
     {
-        if self.try_assign(active, name, value) {
-            return Ok(Flow::Next);
+        if !is_arithmetic(value) {
+            return false;
         }
-        self.assign_value(world, active, stack, name, value)
+        self.try_set(active, name, value)
     }
 
-    // Assigns to a variable by integers alone, takes its ticks, and returns true. False if that can't be; then nothing has
-    // changed. Not inlined, so that nested statements need no stack space for it.
+    // Sets a variable to the integer of an operator, as `try_assign` does. Not inlined, so that nested statements need no stack space for it.
     #[inline(never)]
-    fn try_assign(&mut self, active: &mut Activation, name: &Name, value: &Node) -> bool
+    fn try_set(&mut self, active: &mut Activation, name: &Name, value: &Node) -> bool
         ensures assigned { IsTrue result → (w : WorldModel) (c : Context) → Does Faults c (performs (assign (variable name.now) (source value.now))) (state_of self.old w active.old) (Ok next) (state_of self.new w active.new) }
         ensures kept { IsFalse result → (w : WorldModel) → state_of self.new w active.new ≡ state_of self.old w active.old }
         ensures ticks { self.new.ticks_left ≤ self.old.ticks_left }
@@ -130,11 +123,11 @@ impl Task {
         true
     }
 
-    // Assigns to a variable, if the assignment's own value is not used. Not inlined, so that nested statements need no stack
-    // space for it.
+    /// Assigns to a variable, if the assignment's own value is not used. Not inlined, so that nested statements need no stack
+    /// space for it.
     #[cycle(evaluation)]
     #[inline(never)]
-    fn assign_value(
+    pub(crate) fn assign_value(
         &mut self,
         world: &mut World,
         active: &mut Activation,
@@ -297,4 +290,10 @@ impl Task {
         set_variable(self.alloc(), &mut active.variables, name, steps, value)?;
         Ok(())
     }
+}
+
+// Is true for an operator between integers.
+#[inline(always)]
+fn is_arithmetic(node: &Node) -> bool {
+    matches!(node, Node::Arithmetic(..))
 }

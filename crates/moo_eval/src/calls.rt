@@ -1,41 +1,39 @@
-//! Evaluates calls of verbs and functions.
-ghost use Rattle.std.specs.Prelude.{◌≡◌, ◌≢◌, ◌≤◌, ◌<◌, ◌∷◌, ℕ, List, [], Option, None, Some, OnOk, is_ok, IsTrue};
+//! Evaluates calls of verbs.
+ghost use Rattle.std.specs.Prelude.{◌≡◌, ◌≢◌, ◌≤◌, ◌<◌, ◌-◌, ◌∷◌, [], Option, None, OnOk, IfSome, IfNone, is_ok, IsTrue};
 ghost use Rattle.std.specs.Borrow.{Bor};
 ghost use Rattle.moo_value.specs.declared.value.Value.{Value as ValueModel};
-ghost use Rattle.moo_value.specs.Tree.{string};
+ghost use Rattle.moo_value.specs.Tree.{object, string};
 ghost use Rattle.moo_value.specs.View.{tree as tree_of, trees};
 ghost use Rattle.moo_syntax_ast.specs.declared.tree.Literal.TheVariants.{Str};
-ghost use Rattle.moo_syntax_ast.specs.Tree.{Expr, Items, no_statement, literal, verb_call, call};
+ghost use Rattle.moo_syntax_ast.specs.Tree.{Expr, Items, no_statement, literal, verb_call};
 ghost use Rattle.moo_syntax_lower.specs.Source.{source, source_items};
 ghost use Rattle.moo_eval_frame.specs.declared.frame.Activation.{Activation};
 ghost use Rattle.moo_eval_access.specs.SeenCalled.{entered_of};
-ghost use Rattle.moo_eval_call.specs.VerbCalls.{caller_of};
 ghost use Rattle.moo_eval_call.specs.SeenByHooks.{progress_of};
 ghost use Rattle.moo_eval.specs.Hooks.{RunsCalled};
 ghost use Rattle.moo_eval_semantics.specs.Meaning.{Applies, Computes, Proceeds};
-ghost use Rattle.moo_eval_frame.specs.Seen.{context_of, seen_answer, seen_flow, IsKnown, IsKnownFailure};
+ghost use Rattle.moo_eval_frame.specs.Seen.{context_of, variables_of, seen_answer, seen_flow, IsKnown, IsKnownFailure};
 ghost use Rattle.moo_eval_semantics.specs.Operands.{answered};
 ghost use Rattle.moo_builtin.specs.Telling.{Faults};
+ghost use Rattle.moo_eval.specs.Leaves.{GivesLeaf};
 ghost use Rattle.moo_eval.specs.Seen.{state_of};
 
 use crate::hooks::Pending;
 use crate::interpreter::Task;
-use crate::property::as_text;
+use crate::property::{as_text, object_of};
 use moo_eval_access::{Called, enter_verb, enter_written};
-use moo_eval_call::{Progress, start_call, verb_caller};
-use moo_eval_frame::{
-    Activation, CallStack, Failure, Flow, FrameMemory, Gathered, Stop, Variables,
-};
+use moo_eval_call::Progress;
+use moo_eval_frame::{Activation, CallStack, Failure, Flow, FrameMemory, Stop, Variables};
 use moo_syntax_ast::Text;
-use moo_syntax_function::Function;
-use moo_syntax_lower::{FunctionName, Node, NodeItem};
+use moo_syntax_lower::{Node, NodeItem};
 use moo_value::Value;
 use moo_world::World;
 
 impl Task {
-    /// Calls a verb, which runs in a frame of its own, over the same world and with the ticks that are left.
+    /// Calls a verb, which runs in a frame of its own, over the same world and with the ticks that are left. Not inlined,
+    /// so that other expressions need no stack space for it.
     #[cycle(evaluation)]
-    #[inline(always)]
+    #[inline(never)]
     pub(crate) fn verb_call(
         &mut self,
         world: &mut World,
@@ -55,10 +53,54 @@ impl Task {
         }
     }
 
-    // Calls a verb whose name is a literal: evaluates its operands first.
+    // Calls a verb whose name is a literal. An object in a variable is read at once.
+    #[cycle(evaluation)]
+    #[inline(always)]
+    fn call_literal(
+        &mut self,
+        world: &mut World,
+        active: &mut Activation,
+        stack: &CallStack<'_>,
+        indexed: Option<&Value>,
+        base: &Node,
+        name: &Text,
+        items: &[NodeItem],
+    ) -> Result<Value, Failure>
+        ensures meaning { IsKnownFailure result → Computes Faults (context_of stack.now indexed.entry) (verb_call (source base.now) (literal (Str name.now)) (source_items items.now)) (state_of self.old world.old active.old) (seen_answer result) (state_of self.new world.new active.new) }
+        ensures ticks { self.new.ticks_left ≤ self.old.ticks_left }
+    {
+        match self.try_object(active, base) {
+            Some(this) => {
+                let mut args = self.spare.take_values();
+                self.evaluate_arguments(world, active, stack, indexed, items, &mut args)?;
+                self.call_written(world, active, stack, &Value::Obj(this), name, args)
+            }
+            None => self.call_evaluated(world, active, stack, indexed, base, name, items),
+        }
+    }
+
+    // Returns the object in a variable, or a literal one, and takes the ticks of it and of a literal name. `None` if that
+    // can't be; then nothing has changed.
+    #[inline(always)]
+    fn try_object(&mut self, active: &Activation, base: &Node) -> Option<i32>
+        ensures some { IfSome result (λ o. GivesLeaf (variables_of active.now.variables) (source base.now) (object o) × (1 < self.old.ticks_left) × (self.new ≡ record self.old { ticks_left = self.old.ticks_left - 2 })) }
+        ensures none { IfNone result (self.new ≡ self.old) }
+        ensures ticks { self.new.ticks_left ≤ self.old.ticks_left }
+    {
+        let object = object_of(active, base)?;
+        let ticks = self.ticks_left.left() as u32;
+        if ticks < 2 {
+            return None;
+        }
+        self.ticks_left.leave(ticks - 2);
+        Some(object)
+    }
+
+    // Calls a verb whose name is a literal: evaluates the object first. Not inlined, so that other calls need no stack space
+    // for it.
     #[cycle(evaluation)]
     #[inline(never)]
-    fn call_literal(
+    fn call_evaluated(
         &mut self,
         world: &mut World,
         active: &mut Activation,
@@ -190,71 +232,11 @@ impl Task {
         answered(outcome)
     }
 
-    /// Calls a built-in function.
+    /// Continues a function that calls verbs until it ends. Not inlined, as `call_function` and `start_call`, so that
+    /// nested calls need no stack space for it.
     #[cycle(evaluation)]
     #[inline(never)]
-    pub(crate) fn call(
-        &mut self,
-        world: &mut World,
-        active: &mut Activation,
-        stack: &CallStack<'_>,
-        indexed: Option<&Value>,
-        name: &FunctionName,
-        items: &[NodeItem],
-    ) -> Result<Value, Failure>
-        ensures meaning { IsKnownFailure result → Computes Faults (context_of stack.now indexed.entry) (call name.now (source_items items.now)) (state_of self.old world.old active.old) (seen_answer result) (state_of self.new world.new active.new) }
-        ensures ticks { self.new.ticks_left ≤ self.old.ticks_left }
-    {
-        let room = self.spare.take_values();
-        let values = self.evaluate_all(world, active, stack, indexed, items, room)?;
-        self.call_with(world, active, stack, name, values)
-    }
-
-    /// Calls a built-in function, its arguments evaluated.
-    #[cycle(evaluation)]
-    #[inline(always)]
-    pub(crate) fn call_with(
-        &mut self,
-        world: &mut World,
-        active: &mut Activation,
-        stack: &CallStack<'_>,
-        name: &FunctionName,
-        values: Gathered,
-    ) -> Result<Value, Failure>
-        ensures meaning { (indexed : Option (Bor ValueModel)) (items : Items) → IsKnownFailure result → Applies Faults (context_of stack.now indexed) (call name.now items) values [] (state_of self.old world.old active.old) (seen_answer result) (state_of self.new world.new active.new) }
-        ensures ticks { self.new.ticks_left ≤ self.old.ticks_left }
-    {
-        let function = name.function();
-        let Some(caller) = verb_caller(function) else {
-            return self.call_function(world, active, stack, function, values);
-        };
-        self.call_caller(world, active, stack, caller, values)
-    }
-
-    // Calls a function that calls verbs, its arguments evaluated. Not inlined, so that nested calls need no stack
-    // space for it.
-    #[cycle(evaluation)]
-    #[inline(never)]
-    fn call_caller(
-        &mut self,
-        world: &mut World,
-        active: &Activation,
-        stack: &CallStack<'_>,
-        caller: Function,
-        values: Gathered,
-    ) -> Result<Value, Failure>
-        ensures meaning { (indexed : Option (Bor ValueModel)) (name : List ℕ) (items : Items) → caller_of name ≡ Some caller → IsKnownFailure result → Applies Faults (context_of stack.now indexed) (call name items) values [] (state_of self.old world.old active.now) (seen_answer result) (state_of self.new world.new active.now) }
-        ensures ticks { self.new.ticks_left ≤ self.old.ticks_left }
-    {
-        let first = start_call(self.alloc(), world, stack, active, caller, values)?;
-        self.proceed(world, active, stack, first)
-    }
-
-    // Continues a function that calls verbs until it ends. Not inlined, as `call_function` and `start_call`, so that
-    // nested calls need no stack space for it.
-    #[cycle(evaluation)]
-    #[inline(never)]
-    fn proceed<'a>(
+    pub(crate) fn proceed<'a>(
         &mut self,
         world: &mut World,
         active: &Activation,

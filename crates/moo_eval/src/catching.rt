@@ -15,7 +15,7 @@ use moo_syntax_lower::{Node, NodeCodes, NodeItem};
 use moo_value::{ErrorCode, Value};
 use moo_world::World;
 
-/// How the body of a catch ended, if it was not stopped.
+/// Holds how the body of a catch ended, if it was not stopped.
 #[derive(Drop)]
 pub(crate) enum Attempt {
     Value(Value),

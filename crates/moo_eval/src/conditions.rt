@@ -47,7 +47,7 @@ impl Task {
         self.node_passes(world, active, stack, indexed, test)
     }
 
-    // Returns whether the value of a condition is true that `try_test` has declined.
+    // Returns whether the value of a condition that `try_test` has declined is true.
     #[cycle(evaluation)]
     #[inline(never)]
     fn node_passes(
@@ -73,14 +73,65 @@ impl Task {
                 if let Some(passes) = self.try_comparison(active, test) {
                     return Ok(passes);
                 }
-                let value = self.evaluate_tried(world, active, stack, indexed, test)?;
+                if let Some(passes) = self.try_property_test(world, active, test) {
+                    return Ok(passes);
+                }
+                self.value_passes(world, active, stack, indexed, test)
+            }
+        }
+    }
+
+    // Returns whether the value of a condition that `try_comparison` has declined is true.
+    #[cycle(evaluation)]
+    #[inline(always)]
+    fn value_passes(
+        &mut self,
+        world: &mut World,
+        active: &mut Activation,
+        stack: &CallStack<'_>,
+        indexed: Option<&Value>,
+        test: &Node,
+    ) -> Result<bool, Stop>
+        ensures ok { IfOk result (λ b. (v : Tree) × Evaluates Faults (context_of stack.now indexed.entry) (source test.now) (state_of self.old world.old active.old) (Ok v) (state_of self.new world.new active.new) × (is_true v ≡ b)) }
+        ensures err { IfErr result (λ stop. HadMemory stop → Evaluates Faults (context_of stack.now indexed.entry) (source test.now) (state_of self.old world.old active.old) (Err (stop_of stop)) (state_of self.new world.new active.new)) }
+        ensures ticks { self.new.ticks_left ≤ self.old.ticks_left }
+    {
+        if let Node::Binary(operator, left, right) = test {
+            return self.binary_passes(world, active, stack, indexed, *operator, left, right);
+        }
+        let value = self.evaluate_tried(world, active, stack, indexed, test)?;
+        Ok(is_true(&value))
+    }
+
+    // Returns whether the value of an operator is true. Inlined, so that its value is looked at where it is made.
+    #[cycle(evaluation)]
+    #[inline(always)]
+    fn binary_passes(
+        &mut self,
+        world: &mut World,
+        active: &mut Activation,
+        stack: &CallStack<'_>,
+        indexed: Option<&Value>,
+        operator: BinaryOperator,
+        left: &Node,
+        right: &Node,
+    ) -> Result<bool, Stop>
+        ensures ok { IfOk result (λ b. (v : Tree) × Evaluates Faults (context_of stack.now indexed.entry) (binary operator (source left.now) (source right.now)) (state_of self.old world.old active.old) (Ok v) (state_of self.new world.new active.new) × (is_true v ≡ b)) }
+        ensures err { IfErr result (λ stop. HadMemory stop → Evaluates Faults (context_of stack.now indexed.entry) (binary operator (source left.now) (source right.now)) (state_of self.old world.old active.old) (Err (stop_of stop)) (state_of self.new world.new active.new)) }
+        ensures ticks { self.new.ticks_left ≤ self.old.ticks_left }
+    {
+        self.take_tick(active, stack)?;
+        match self.binary(world, active, stack, indexed, operator, left, right) {
+            Ok(value) => Ok(is_true(&value)),
+            Err(failure) => {
+                let value = self.settled(active, stack, failure)?;
                 Ok(is_true(&value))
             }
         }
     }
 
-    // Returns whether the value of an operator between two variables or literals is true, and takes its ticks. `None` if
-    // another part, an error or too few ticks are in the way; then nothing has changed.
+    // Returns whether the value of an operator between variables, literals or (for `==` and `!=`) elements is true. Takes
+    // its ticks. `None` for other parts, an error, or too few ticks; then nothing has changed.
     #[inline(always)]
     fn try_comparison(&mut self, active: &Activation, test: &Node) -> Option<bool>
         ensures some { IfSome result (λ b. (w : WorldModel) (c : Context) → (v : Tree) × Evaluates Faults c (source test.now) (state_of self.old w active.now) (Ok v) (state_of self.new w active.now) × (is_true v ≡ b)) }
@@ -200,7 +251,7 @@ impl Task {
 
     // Returns whether the value of `left && right` or `left || right` is true.
     #[cycle(evaluation)]
-    #[inline(never)]
+    #[inline(always)]
     fn logic_passes(
         &mut self,
         world: &mut World,
@@ -225,7 +276,7 @@ impl Task {
 
     // Returns whether the value of `!operand` is true.
     #[cycle(evaluation)]
-    #[inline(never)]
+    #[inline(always)]
     fn not_passes(
         &mut self,
         world: &mut World,
@@ -255,7 +306,7 @@ fn is_compared(node: &Node) -> bool {
     is_leaf(node) || matches!(node, Node::Index(..))
 }
 
-// Is true if a first operand decides, of which only whether it is true is known.
+// Is true if the first operand decides; `first` is whether it is true.
 #[inline]
 fn decides(operator: LogicOperator, first: bool) -> bool
     ensures { (v : Tree) → is_true v ≡ first → is_decided operator v ≡ result }

@@ -1,5 +1,5 @@
 //! Runs `x = x + a;`.
-ghost use Rattle.std.specs.Prelude.{◌≡◌, ◌≤◌, None, Ok, Err, IsTrue, IsFalse, IfErr, OnOk};
+ghost use Rattle.std.specs.Prelude.{◌≡◌, ◌≤◌, None, Ok, Err, IsTrue, IsFalse, IfOk, IfErr, OnOk};
 ghost use Rattle.moo_syntax_ast.specs.declared.operator.BinaryOperator.TheVariants.{Add};
 ghost use Rattle.moo_syntax_ast.specs.Tree.{variable, binary, assign, performs};
 ghost use Rattle.moo_syntax_lower.specs.Source.{source};
@@ -9,42 +9,38 @@ ghost use Rattle.moo_eval_frame.specs.State.{Context};
 ghost use Rattle.moo_eval_frame.specs.Seen.{context_of, failure_of, seen_flow, HadMemoryIn, IsKnown};
 ghost use Rattle.moo_builtin.specs.Telling.{Faults};
 ghost use Rattle.moo_eval_semantics.specs.Meaning.{Computes, Does};
-ghost use Rattle.moo_eval.specs.Growth.{IsLengthened};
+ghost use Rattle.moo_eval.specs.SetTo.{IsSetTo};
 ghost use Rattle.moo_eval.specs.Seen.{state_of};
 
 use crate::interpreter::Task;
+use crate::leaves::try_value;
 use moo_eval_access::set_sum;
 use moo_eval_frame::{Activation, CallStack, Failure, Flow, Stop};
 use moo_eval_integer::try_add_integer;
 use moo_syntax_ast::Name;
 use moo_syntax_lower::Node;
+use moo_value::Value;
 use moo_world::World;
+use std::alloc::AllocError;
 
 impl Task {
-    /// Runs `name = name + last`, if the assignment's own value is not used: by integers alone if that can be.
-    #[cycle(evaluation)]
+    // Runs `name = name + last` by integers alone, takes its ticks, and returns true. Returns false, and changes nothing,
+    // if that can't be.
     #[inline(always)]
-    pub(crate) fn extend(
-        &mut self,
-        world: &mut World,
-        active: &mut Activation,
-        stack: &CallStack<'_>,
-        name: &Name,
-        last: &Node,
-    ) -> Result<Flow, Stop>
-        ensures meaning { IsKnown result → Does Faults (context_of stack.now None) (performs (assign (variable name.now) (binary Add (variable name.now) (source last.now)))) (state_of self.old world.old active.old) (seen_flow result) (state_of self.new world.new active.new) }
+    pub(crate) fn try_add(&mut self, active: &mut Activation, name: &Name, last: &Node) -> bool
+        ensures added { IsTrue result → (w : WorldModel) (c : Context) → Does Faults c (performs (assign (variable name.now) (binary Add (variable name.now) (source last.now)))) (state_of self.old w active.old) (Ok next) (state_of self.new w active.new) }
+        ensures kept { IsFalse result → (w : WorldModel) → state_of self.new w active.new ≡ state_of self.old w active.old }
         ensures ticks { self.new.ticks_left ≤ self.old.ticks_left }
     {
-        if self.try_add(active, name, last) {
-            return Ok(Flow::Next);
+        if !may_be_integer(last) {
+            return false;
         }
-        self.extend_value(world, active, stack, name, last)
+        self.try_sum(active, name, last)
     }
 
-    // Runs `name = name + last` by integers alone, takes its ticks, and returns true. False if that can't be; then nothing
-    // has changed. Not inlined, so that nested statements need no stack space for it.
+    // Adds an integer to a variable, as `try_add` does. Not inlined, so that nested statements need no stack space for it.
     #[inline(never)]
-    fn try_add(&mut self, active: &mut Activation, name: &Name, last: &Node) -> bool
+    fn try_sum(&mut self, active: &mut Activation, name: &Name, last: &Node) -> bool
         ensures added { IsTrue result → (w : WorldModel) (c : Context) → Does Faults c (performs (assign (variable name.now) (binary Add (variable name.now) (source last.now)))) (state_of self.old w active.old) (Ok next) (state_of self.new w active.new) }
         ensures kept { IsFalse result → (w : WorldModel) → state_of self.new w active.new ≡ state_of self.old w active.old }
         ensures ticks { self.new.ticks_left ≤ self.old.ticks_left }
@@ -61,11 +57,63 @@ impl Task {
         true
     }
 
-    // Runs `name = name + last`, if the assignment's own value is not used. A string that nothing but the variable holds
-    // grows in place. Not inlined, so that nested statements need no stack space for it.
+    // Runs `name = name + last`, if the assignment's own value is not used: at once if that can be. Not inlined, so that
+    // nested statements need no stack space for it.
     #[cycle(evaluation)]
     #[inline(never)]
-    fn extend_value(
+    pub(crate) fn extend_value(
+        &mut self,
+        world: &mut World,
+        active: &mut Activation,
+        stack: &CallStack<'_>,
+        name: &Name,
+        last: &Node,
+    ) -> Result<Flow, Stop>
+        ensures meaning { IsKnown result → Does Faults (context_of stack.now None) (performs (assign (variable name.now) (binary Add (variable name.now) (source last.now)))) (state_of self.old world.old active.old) (seen_flow result) (state_of self.new world.new active.new) }
+        ensures ticks { self.new.ticks_left ≤ self.old.ticks_left }
+    {
+        let extended = self.try_extend(active, name, last)?;
+        if extended {
+            return Ok(Flow::Next);
+        }
+        self.extend_parts(world, active, stack, name, last)
+    }
+
+    // Appends a string to the one in a variable, and returns whether it did. `last` is a variable, a literal or an
+    // element. The ticks are those of `name = name + last`. It doesn't if that can't be done at once; then nothing has
+    // changed.
+    #[inline(always)]
+    fn try_extend(
+        &mut self,
+        active: &mut Activation,
+        name: &Name,
+        last: &Node,
+    ) -> Result<bool, AllocError>
+        ensures extended { IfOk result (λ done. IsTrue done → (w : WorldModel) (c : Context) → Does Faults c (performs (assign (variable name.now) (binary Add (variable name.now) (source last.now)))) (state_of self.old w active.old) (Ok next) (state_of self.new w active.new)) }
+        ensures kept { IfOk result (λ done. IsFalse done → (w : WorldModel) → state_of self.new w active.new ≡ state_of self.old w active.old) }
+        ensures ticks { self.new.ticks_left ≤ self.old.ticks_left }
+    {
+        let mut left = self.ticks_left.left() as u32;
+        if left < 3 {
+            return Ok(false);
+        }
+        left -= 3;
+        let Some(Value::Str(last)) = try_value(&mut self.spare.letters, active, &mut left, last)
+        else {
+            return Ok(false);
+        };
+        let extended = active.variables.try_extend(self.alloc(), name, &last)?;
+        if !extended {
+            return Ok(false);
+        }
+        self.ticks_left.leave(left);
+        Ok(true)
+    }
+
+    // Runs `name = name + last` part by part. A string that nothing but the variable holds grows in place.
+    #[cycle(evaluation)]
+    #[inline(always)]
+    fn extend_parts(
         &mut self,
         world: &mut World,
         active: &mut Activation,
@@ -98,7 +146,7 @@ impl Task {
         name: &Name,
         last: &Node,
     ) -> Result<(), Failure>
-        ensures ok { OnOk result (IsLengthened Faults (context_of stack.now None) name.now (binary Add (variable name.now) (source last.now)) (state_of self.old world.old active.old) (state_of self.new world.new active.new)) }
+        ensures ok { OnOk result (IsSetTo Faults (context_of stack.now None) name.now (binary Add (variable name.now) (source last.now)) (state_of self.old world.old active.old) (state_of self.new world.new active.new)) }
         ensures err { IfErr result (λ failure. HadMemoryIn failure → Computes Faults (context_of stack.now None) (binary Add (variable name.now) (source last.now)) (state_of self.old world.old active.old) (Err (failure_of failure)) (state_of self.new world.new active.new)) }
         ensures ticks { self.new.ticks_left ≤ self.old.ticks_left }
     {
@@ -107,4 +155,18 @@ impl Task {
         set_sum(self.alloc(), &mut active.variables, name, first, &last)?;
         Ok(())
     }
+}
+
+// Is true for a node that may be computed from integers alone.
+#[inline(always)]
+fn may_be_integer(node: &Node) -> bool {
+    matches!(
+        node,
+        Node::Variable(_)
+            | Node::Integer(_)
+            | Node::Arithmetic(..)
+            | Node::Binary(..)
+            | Node::Index(..)
+            | Node::Call(..)
+    )
 }

@@ -1,7 +1,7 @@
 //! Evaluates expressions.
 ghost use Rattle.std.specs.Prelude.{◌≡◌, ◌-◌, ◌<◌, ◌≤◌, ℕ, List, [], ◌++◌, None, Ok, Err, IfOk, IfErr, OnOk, OnErr};
 ghost use Rattle.moo_syntax_lower.specs.Source.{source, source_items};
-ghost use Rattle.moo_value.specs.View.{tree as tree_of};
+ghost use Rattle.moo_value.specs.View.{tree as tree_of, trees};
 ghost use Rattle.moo_eval_frame.specs.Outcome.{out_of_ticks, settled};
 ghost use Rattle.moo_eval_semantics.specs.Meaning.{Evaluates, Computes, EvaluatesAll};
 ghost use Rattle.moo_eval_frame.specs.Seen.{context_of, trace_of, stop_of, failure_of, seen_value, seen_answer, seen_by, HadMemory, HadMemoryIn, IsKnown, IsKnownFailure};
@@ -15,7 +15,7 @@ ghost use Rattle.moo_eval_call.specs.Turns.{stage_turns, progress_turns};
 ghost use Rattle.moo_eval.specs.Seen.{state_of};
 
 use crate::spare::SpareMemory;
-use moo_eval_call::{Progress, Stage, Ticks, call_function, resume_call};
+use moo_eval_call::{Progress, Stage, Ticks, call_function, call_values, resume_call};
 use moo_eval_frame::{Activation, CallStack, Failure, Gathered, Notice, Stop, settle};
 use moo_syntax_function::Function;
 use moo_syntax_lower::{Node, NodeItem};
@@ -72,7 +72,7 @@ impl Task {
         Ok(())
     }
 
-    /// Takes the ticks of so many literals. If too few are left, all are taken, since the last one's tick was missing.
+    /// Takes `count` ticks. If fewer are left, it takes those and returns the end of the task.
     #[inline(always)]
     pub(crate) fn take_ticks(
         &mut self,
@@ -174,6 +174,31 @@ impl Task {
         );
         self.spare.keep_values(room);
         answer
+    }
+
+    /// Calls a built-in function with values among which no list was spliced in. They may be moved out.
+    #[inline(always)]
+    pub(crate) fn call_values(
+        &mut self,
+        world: &mut World,
+        active: &mut Activation,
+        stack: &CallStack<'_>,
+        function: Option<Function>,
+        values: &mut [Value],
+    ) -> Result<Value, Failure>
+        ensures call { (name : List ℕ) → function_of name ≡ function → IsKnownFailure result → CallsFunction Faults (context_of stack.now None) name (trees values.old) (state_of self.old world.old active.old) (seen_answer result) (state_of self.new world.new active.new) }
+        ensures ticks { self.new.ticks_left ≡ self.old.ticks_left }
+    {
+        call_values(
+            self.alloc,
+            world,
+            active,
+            stack,
+            &self.ticks_left,
+            &mut self.notices,
+            function,
+            values,
+        )
     }
 
     /// Continues a function that calls verbs at a stage; it may leave notices. Each call brings the function nearer

@@ -5,11 +5,12 @@ ghost use Rattle.moo_value.specs.Tree.{string as string_tree};
 ghost use Rattle.moo_value.specs.View.{tree};
 ghost use Rattle.moo_value.specs.declared.value.Value.{Value as ValueModel};
 ghost use Rattle.moo_value.specs.declared.error_code.ErrorCode.TheVariants.{VariableNotFound};
-ghost use Rattle.moo_syntax_ast.specs.Tree.{variable};
+ghost use Rattle.moo_syntax_ast.specs.Tree.{variable, index};
 ghost use Rattle.moo_syntax_lower.specs.Source.{source};
 ghost use Rattle.moo_eval_frame.specs.State.{Context};
 ghost use Rattle.moo_eval_frame.specs.Outcome.{fails, settled};
 ghost use Rattle.moo_eval_frame.specs.Seen.{context_of, seen_value, trace_of, variables_of, IsKnown};
+ghost use Rattle.moo_eval_integer.specs.Integers.{GivesValue};
 ghost use Rattle.moo_eval.specs.Leaves.{GivesLeaf};
 ghost use Rattle.moo_world_table.specs.World.{World};
 ghost use Rattle.moo_builtin.specs.Telling.{Faults};
@@ -18,13 +19,14 @@ ghost use Rattle.moo_eval.specs.Seen.{state_of};
 
 use crate::interpreter::Task;
 use moo_eval_frame::{Activation, CallStack, Failure, Stop, settle};
+use moo_eval_integer::{Letters, element_of};
 use moo_syntax_ast::Name;
 use moo_syntax_lower::Node;
 use moo_value::{ErrorCode, MooStr, Value};
 
 impl Task {
-    /// Returns the value of a variable, which takes a tick, whatever `$` measures.
-    #[inline(never)]
+    /// Returns the value of a variable, which takes a tick, whatever `$` measures. Inlined, so that it needs no call.
+    #[inline(always)]
     pub(crate) fn variable(
         &mut self,
         active: &Activation,
@@ -74,6 +76,48 @@ pub(crate) fn is_leaf(node: &Node) -> bool {
         node,
         Node::Variable(_) | Node::Integer(_) | Node::Object(_) | Node::Error(_) | Node::Str(_)
     )
+}
+
+/// Returns the value of a variable, a literal or an element of a variable, and takes its ticks from `left`. `None` for
+/// another node, if there is no such value, or if ticks or memory are missing. Then `left` may have fallen.
+#[inline(always)]
+pub(crate) fn try_value(
+    letters: &mut Letters,
+    active: &Activation,
+    left: &mut u32,
+    node: &Node,
+) -> Option<Value>
+    ensures value { IfSome result (λ v. GivesValue (variables_of active.now.variables) left.old (source node.now) (tree v) left.new) }
+    ensures kept { IfNone result (letters.new ≡ letters.old) }
+    ensures ticks { left.new ≤ left.old }
+{
+    if let Node::Index(base, place) = node {
+        return try_element_value(letters, active, left, base, place);
+    }
+    if *left == 0 {
+        return None;
+    }
+    let value = leaf_value(active, node)?;
+    *left -= 1;
+    Some(value)
+}
+
+#[inline(always)]
+fn try_element_value(
+    letters: &mut Letters,
+    active: &Activation,
+    left: &mut u32,
+    base: &Node,
+    place: &Node,
+) -> Option<Value>
+    ensures value { IfSome result (λ v. GivesValue (variables_of active.now.variables) left.old (index (source base.now) (source place.now)) (tree v) left.new) }
+    ensures kept { IfNone result (letters.new ≡ letters.old) }
+    ensures ticks { left.new ≤ left.old }
+{
+    match base {
+        Node::Variable(name) => element_of(letters, active, left, name, place),
+        _ => None,
+    }
 }
 
 /// Returns the value of a variable or of a literal, if it has one.

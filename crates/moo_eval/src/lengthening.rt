@@ -1,20 +1,25 @@
 //! Runs `x = {@x, a};` and `x = {a, @x};`.
-ghost use Rattle.std.specs.Prelude.{◌≤◌, None, Err, IfErr, OnOk};
+ghost use Rattle.std.specs.Prelude.{◌≡◌, ◌≤◌, None, Ok, Err, IsTrue, IsFalse, IfOk, IfErr, OnOk};
 ghost use Rattle.moo_syntax_ast.specs.Tree.{variable, assign, performs, list, splice, element, no_items};
 ghost use Rattle.moo_syntax_lower.specs.Source.{source};
 ghost use Rattle.moo_eval_semantics.specs.Meaning.{Computes, Does};
+ghost use Rattle.moo_world_table.specs.World.{World as WorldModel};
+ghost use Rattle.moo_eval_frame.specs.Outcome.{next};
+ghost use Rattle.moo_eval_frame.specs.State.{Context};
 ghost use Rattle.moo_eval_frame.specs.Seen.{context_of, failure_of, seen_flow, HadMemoryIn, IsKnown};
-ghost use Rattle.moo_eval.specs.Growth.{IsLengthened};
+ghost use Rattle.moo_eval.specs.SetTo.{IsSetTo};
 ghost use Rattle.moo_builtin.specs.Telling.{Faults};
 ghost use Rattle.moo_eval.specs.Seen.{state_of};
 
 use crate::interpreter::Task;
+use crate::leaves::try_value;
 use moo_eval_access::{set_longer, set_prepended};
 use moo_eval_frame::{Activation, CallStack, Failure, Flow, Stop};
 use moo_syntax_ast::Name;
 use moo_syntax_lower::Node;
 use moo_value::{ErrorCode, Value};
 use moo_world::World;
+use std::alloc::AllocError;
 
 impl Task {
     /// Runs `name = {@name, last}`, if the assignment's own value is not used. Not inlined, so that nested statements
@@ -22,6 +27,57 @@ impl Task {
     #[cycle(evaluation)]
     #[inline(never)]
     pub(crate) fn lengthen(
+        &mut self,
+        world: &mut World,
+        active: &mut Activation,
+        stack: &CallStack<'_>,
+        name: &Name,
+        last: &Node,
+    ) -> Result<Flow, Stop>
+        ensures meaning { IsKnown result → Does Faults (context_of stack.now None) (performs (assign (variable name.now) (list (splice (variable name.now) (element (source last.now) no_items))))) (state_of self.old world.old active.old) (seen_flow result) (state_of self.new world.new active.new) }
+        ensures ticks { self.new.ticks_left ≤ self.old.ticks_left }
+    {
+        let lengthened = self.try_lengthen(active, name, last)?;
+        if lengthened {
+            return Ok(Flow::Next);
+        }
+        self.lengthen_parts(world, active, stack, name, last)
+    }
+
+    // Appends a value to the list in a variable, and returns whether it did. `last` is a variable, a literal or an
+    // element. The ticks are those of `name = {@name, last}`. It doesn't if that can't be done at once; then nothing has
+    // changed.
+    #[inline(always)]
+    fn try_lengthen(
+        &mut self,
+        active: &mut Activation,
+        name: &Name,
+        last: &Node,
+    ) -> Result<bool, AllocError>
+        ensures lengthened { IfOk result (λ done. IsTrue done → (w : WorldModel) (c : Context) → Does Faults c (performs (assign (variable name.now) (list (splice (variable name.now) (element (source last.now) no_items))))) (state_of self.old w active.old) (Ok next) (state_of self.new w active.new)) }
+        ensures kept { IfOk result (λ done. IsFalse done → (w : WorldModel) → state_of self.new w active.new ≡ state_of self.old w active.old) }
+        ensures ticks { self.new.ticks_left ≤ self.old.ticks_left }
+    {
+        let mut left = self.ticks_left.left() as u32;
+        if left < 3 {
+            return Ok(false);
+        }
+        left -= 3;
+        let Some(value) = try_value(&mut self.spare.letters, active, &mut left, last) else {
+            return Ok(false);
+        };
+        let pushed = active.variables.try_push(self.alloc(), name, value)?;
+        if !pushed {
+            return Ok(false);
+        }
+        self.ticks_left.leave(left);
+        Ok(true)
+    }
+
+    // Runs `name = {@name, last}` part by part.
+    #[cycle(evaluation)]
+    #[inline(always)]
+    fn lengthen_parts(
         &mut self,
         world: &mut World,
         active: &mut Activation,
@@ -54,7 +110,7 @@ impl Task {
         name: &Name,
         last: &Node,
     ) -> Result<(), Failure>
-        ensures ok { OnOk result (IsLengthened Faults (context_of stack.now None) name.now (list (splice (variable name.now) (element (source last.now) no_items))) (state_of self.old world.old active.old) (state_of self.new world.new active.new)) }
+        ensures ok { OnOk result (IsSetTo Faults (context_of stack.now None) name.now (list (splice (variable name.now) (element (source last.now) no_items))) (state_of self.old world.old active.old) (state_of self.new world.new active.new)) }
         ensures err { IfErr result (λ failure. HadMemoryIn failure → Computes Faults (context_of stack.now None) (list (splice (variable name.now) (element (source last.now) no_items))) (state_of self.old world.old active.old) (Err (failure_of failure)) (state_of self.new world.new active.new)) }
         ensures ticks { self.new.ticks_left ≤ self.old.ticks_left }
     {
@@ -104,7 +160,7 @@ impl Task {
         name: &Name,
         first: &Node,
     ) -> Result<(), Failure>
-        ensures ok { OnOk result (IsLengthened Faults (context_of stack.now None) name.now (list (element (source first.now) (splice (variable name.now) no_items))) (state_of self.old world.old active.old) (state_of self.new world.new active.new)) }
+        ensures ok { OnOk result (IsSetTo Faults (context_of stack.now None) name.now (list (element (source first.now) (splice (variable name.now) no_items))) (state_of self.old world.old active.old) (state_of self.new world.new active.new)) }
         ensures err { IfErr result (λ failure. HadMemoryIn failure → Computes Faults (context_of stack.now None) (list (element (source first.now) (splice (variable name.now) no_items))) (state_of self.old world.old active.old) (Err (failure_of failure)) (state_of self.new world.new active.new)) }
         ensures ticks { self.new.ticks_left ≤ self.old.ticks_left }
     {

@@ -10,6 +10,7 @@ mod conditions;
 mod deciding;
 mod element;
 mod extension;
+mod functions;
 mod hooks;
 mod interpreter;
 pub mod laws;

@@ -1,22 +1,23 @@
 //! Runs loops.
-ghost use Rattle.std.specs.Prelude.{◌≤◌, ◌<◌, ◌∷◌, [], None, Some, OnOk};
+ghost use Rattle.std.specs.Prelude.{◌≡◌, ◌≤◌, ◌<◌, ◌∷◌, [], None, Some, OnOk};
 ghost use Rattle.moo_value.specs.View.{tree as value_tree, trees};
 ghost use Rattle.moo_syntax_ast.specs.Tree.{for_list, for_range};
 ghost use Rattle.moo_syntax_lower.specs.Source.{source};
 ghost use Rattle.moo_syntax_lower.specs.Blocks.{source_block};
 ghost use Rattle.moo_eval_semantics.specs.Meaning.{Does, Turns, Loops, Visits, Counts};
-ghost use Rattle.moo_eval_frame.specs.Variables.{bind};
-ghost use Rattle.moo_eval_frame.specs.Seen.{context_of, seen_flow, seen_turn, IsKnown};
+ghost use Rattle.moo_eval_frame.specs.Variables.{bind, with_variable};
+ghost use Rattle.moo_eval_frame.specs.Seen.{context_of, seen_flow, seen_turn, variables_of, IsKnown};
 ghost use Rattle.moo_builtin.specs.Telling.{Faults};
 ghost use Rattle.moo_eval.specs.Seen.{state_of};
 
 use crate::interpreter::Task;
 use moo_builtin_operator::spliced;
-use moo_eval_frame::{Activation, CallStack, Flow, Span, Stop, after_turn, no_turn};
+use moo_eval_frame::{Activation, CallStack, Flow, Span, Stop, Variables, after_turn, no_turn};
 use moo_syntax_ast::Name;
 use moo_syntax_lower::{Node, NodeStmt};
 use moo_value::{MooStr, Value};
 use moo_world::World;
+use std::alloc::AllocError;
 
 impl Task {
     // Runs a turn of a `while`, which takes a tick as it begins. Returns how the loop ends, or `None` if it goes on.
@@ -59,7 +60,7 @@ impl Task {
         ensures fewer { OnOk result (self.new.ticks_left < self.old.ticks_left) }
     {
         self.take_tick(active, stack)?;
-        active.variables.set(name, value)?;
+        set_value(&mut active.variables, name, value)?;
         let flow = self.run_block(world, active, stack, body)?;
         if let Flow::Next = flow {
             return Ok(None);
@@ -183,4 +184,25 @@ impl Task {
         }
         Ok(Flow::Next)
     }
+}
+
+// Sets a variable to a value, in place if both are integers.
+#[inline(always)]
+fn set_value(variables: &mut Variables, name: &Name, value: Value) -> Result<(), AllocError>
+    ensures { OnOk result (variables_of variables.new ≡ with_variable (variables_of variables.old) (bind name.now (value_tree value))) }
+{
+    if let Value::Int(number) = &value {
+        if variables.try_put_integer(name, *number) {
+            return Ok(());
+        }
+    }
+    set_anew(variables, name, value)
+}
+
+// Sets a variable. Not inlined, so that a turn with an integer stays short.
+#[inline(never)]
+fn set_anew(variables: &mut Variables, name: &Name, value: Value) -> Result<(), AllocError>
+    ensures { OnOk result (variables_of variables.new ≡ with_variable (variables_of variables.old) (bind name.now (value_tree value))) }
+{
+    variables.set(name, value)
 }

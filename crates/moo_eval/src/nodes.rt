@@ -38,11 +38,14 @@ impl Task {
         if let Some(value) = self.try_node(active, node) {
             return Ok(value);
         }
+        if let Some(value) = self.try_property(world, active, node) {
+            return Ok(value);
+        }
         self.evaluate_parts(world, active, stack, indexed, node)
     }
 
-    /// Evaluates an operator of arithmetic, an element of a variable or the length of one at once, and takes its ticks.
-    /// `None` if that can't be, or for another node; then nothing has changed.
+    /// Evaluates at once an operator of arithmetic, the length of a variable, or an element of a variable or of an element
+    /// of one. Takes its ticks. `None` if that can't be, or for another node; then nothing has changed.
     #[inline(always)]
     pub(crate) fn try_node(&mut self, active: &Activation, node: &Node) -> Option<Value>
         ensures some { IfSome result (λ v. (w : WorldModel) (c : Context) → Evaluates Faults c (source node.now) (state_of self.old w active.now) (Ok (tree v)) (state_of self.new w active.now)) }

@@ -101,7 +101,7 @@ impl Task {
         Some(value)
     }
 
-    // Returns `base[place]` as `try_element` does, where the base is an element.
+    // Returns `base[place]` as `try_element` does, if the base is an element.
     #[inline(always)]
     fn try_inner_element(&mut self, active: &Activation, base: &Node, place: &Node) -> Option<Value>
         ensures some { IfSome result (λ v. (w : WorldModel) (c : Context) → Evaluates Faults c (index (source base.now) (source place.now)) (state_of self.old w active.now) (Ok (tree v)) (state_of self.new w active.now)) }

@@ -1,17 +1,21 @@
 //! Evaluates properties, and runs assignments to them.
 ghost use Rattle.std.specs.Prelude.{◌≡◌, ◌≤◌, ◌<◌, ◌-◌, None, Some, Ok, Err, IfSome, IfNone, IfErr, OnOk};
 ghost use Rattle.moo_value.specs.Tree.{Tree, object};
+ghost use Rattle.moo_value.specs.View.{tree};
 ghost use Rattle.moo_syntax_ast.specs.declared.tree.Literal.TheVariants.{Str};
-ghost use Rattle.moo_syntax_ast.specs.Tree.{literal, property, assign, performs};
+ghost use Rattle.moo_syntax_ast.specs.Tree.{Expr, literal, property, assign, performs};
 ghost use Rattle.moo_syntax_lower.specs.Source.{source};
+ghost use Rattle.moo_builtin_operator.specs.Truth.{is_true};
+ghost use Rattle.moo_eval_frame.specs.State.{Context};
 ghost use Rattle.moo_eval_frame.specs.Seen.{indexed_of, variables_of, context_of, failure_of, seen_answer, seen_flow, HadMemoryIn, IsKnown, IsKnownFailure};
 ghost use Rattle.moo_builtin.specs.Telling.{Faults};
-ghost use Rattle.moo_eval_semantics.specs.Meaning.{Computes, Does};
+ghost use Rattle.moo_eval_semantics.specs.Meaning.{Computes, Does, Evaluates};
 ghost use Rattle.moo_eval.specs.Leaves.{GivesLeaf};
 ghost use Rattle.moo_eval.specs.Seen.{state_of};
 
 use crate::interpreter::Task;
-use moo_eval_access::{read_property, read_written, write_property, write_written};
+use moo_builtin_operator::is_true;
+use moo_eval_access::{read_known, read_property, read_written, write_property, write_written};
 use moo_eval_frame::{Activation, CallStack, Failure, Flow, Stop};
 use moo_syntax_ast::Text;
 use moo_syntax_lower::Node;
@@ -19,6 +23,52 @@ use moo_value::Value;
 use moo_world::World;
 
 impl Task {
+    /// Reads a property whose name is a literal, and takes its ticks. The object is a literal, or in a variable. `None` if
+    /// that can't be, or for another node; then nothing has changed.
+    #[inline(always)]
+    pub(crate) fn try_property(
+        &mut self,
+        world: &World,
+        active: &Activation,
+        node: &Node,
+    ) -> Option<Value>
+        ensures some { IfSome result (λ v. (c : Context) → Evaluates Faults c (source node.now) (state_of self.old world.now active.now) (Ok (tree v)) (state_of self.new world.now active.now)) }
+        ensures none { IfNone result (self.new ≡ self.old) }
+        ensures ticks { self.new.ticks_left ≤ self.old.ticks_left }
+    {
+        let (object, name) = literal_property(active, node)?;
+        let ticks = self.ticks_left.left() as u32;
+        if ticks < 3 {
+            return None;
+        }
+        let value = read_known(self.alloc(), world, active.programmer, object, name)?;
+        self.ticks_left.leave(ticks - 3);
+        Some(value)
+    }
+
+    /// Returns whether the value of a property is true, read as by `try_property`, but without a copy. It declines a built-in
+    /// property too.
+    #[inline(always)]
+    pub(crate) fn try_property_test(
+        &mut self,
+        world: &World,
+        active: &Activation,
+        node: &Node,
+    ) -> Option<bool>
+        ensures some { IfSome result (λ b. (c : Context) → (v : Tree) × Evaluates Faults c (source node.now) (state_of self.old world.now active.now) (Ok v) (state_of self.new world.now active.now) × (is_true v ≡ b)) }
+        ensures none { IfNone result (self.new ≡ self.old) }
+        ensures ticks { self.new.ticks_left ≤ self.old.ticks_left }
+    {
+        let (object, name) = literal_property(active, node)?;
+        let left = self.ticks_left.left() as u32;
+        if left < 3 {
+            return None;
+        }
+        let passes = is_true(world.readable_known(active.programmer, object, name)?);
+        self.ticks_left.leave(left - 3);
+        Some(passes)
+    }
+
     /// Reads a property.
     #[cycle(evaluation)]
     #[inline(always)]
@@ -35,54 +85,12 @@ impl Task {
         ensures ticks { self.new.ticks_left ≤ self.old.ticks_left }
     {
         match as_text(name) {
-            Some(name) => self.literal_property(world, active, stack, indexed, base, name),
+            Some(name) => self.written_property(world, active, stack, indexed, base, name),
             None => self.computed_property(world, active, stack, indexed, base, name),
         }
     }
 
-    // Reads a property whose name is a literal. An object in a variable is read at once.
-    #[cycle(evaluation)]
-    #[inline(never)]
-    fn literal_property(
-        &mut self,
-        world: &mut World,
-        active: &mut Activation,
-        stack: &CallStack<'_>,
-        indexed: Option<&Value>,
-        base: &Node,
-        name: &Text,
-    ) -> Result<Value, Failure>
-        ensures meaning { IsKnownFailure result → Computes Faults (context_of stack.now indexed.entry) (property (source base.now) (literal (Str name.now))) (state_of self.old world.old active.old) (seen_answer result) (state_of self.new world.new active.new) }
-        ensures ticks { self.new.ticks_left ≤ self.old.ticks_left }
-    {
-        match self.try_object(active, base) {
-            Some(object) => {
-                let base = Value::Obj(object);
-                read_written(self.alloc(), world, active.programmer, &base, name)
-            }
-            None => self.written_property(world, active, stack, indexed, base, name),
-        }
-    }
-
-    // Returns the object in a variable, or a literal one, and takes the ticks of it and of a literal name. `None` if that
-    // can't be; then nothing has changed.
-    #[inline(always)]
-    fn try_object(&mut self, active: &Activation, base: &Node) -> Option<i32>
-        ensures some { IfSome result (λ o. GivesLeaf (variables_of active.now.variables) (source base.now) (object o) × (1 < self.old.ticks_left) × (self.new ≡ record self.old { ticks_left = self.old.ticks_left - 2 })) }
-        ensures none { IfNone result (self.new ≡ self.old) }
-        ensures ticks { self.new.ticks_left ≤ self.old.ticks_left }
-    {
-        let object = object_of(active, base)?;
-        let ticks = self.ticks_left.left() as u32;
-        if ticks < 2 {
-            return None;
-        }
-        self.ticks_left.leave(ticks - 2);
-        Some(object)
-    }
-
-    // Reads a property whose name is a literal: evaluates the object first. Not inlined, so that other properties need no
-    // stack space for it.
+    // Reads a property whose name is a literal. Not inlined, so that other expressions need no stack space for it.
     #[cycle(evaluation)]
     #[inline(never)]
     fn written_property(
@@ -187,9 +195,22 @@ pub(crate) fn as_text(node: &Node) -> Option<&Text>
     }
 }
 
-// Returns the object in a variable, or the literal one that a node is.
+// Returns the object and the name of a property whose name is a literal, of an object in a variable or of a literal one.
 #[inline(always)]
-fn object_of(active: &Activation, node: &Node) -> Option<i32>
+fn literal_property<'a>(active: &Activation, node: &'a Node) -> Option<(i32, &'a Text)>
+    ensures { IfSome result (λ p. (b : Expr) × (source node.now ≡ property b (literal (Str p.1.now))) × GivesLeaf (variables_of active.now.variables) b (object p.0)) }
+{
+    let Node::Property(base, name) = node else {
+        return None;
+    };
+    let name = as_text(name)?;
+    let object = object_of(active, base)?;
+    Some((object, name))
+}
+
+/// Returns the object in a variable, or the literal one that a node is.
+#[inline(always)]
+pub(crate) fn object_of(active: &Activation, node: &Node) -> Option<i32>
     ensures { IfSome result (λ o. GivesLeaf (variables_of active.now.variables) (source node.now) (object o)) }
 {
     match node {

@@ -1,14 +1,16 @@
 //! Runs assignments of the elements of a list to names.
-ghost use Rattle.std.specs.Prelude.{◌≤◌, None, Result, Err, IfOk, IfErr, map};
+ghost use Rattle.std.specs.Prelude.{◌≡◌, ◌≤◌, None, Result, Ok, Err, IsTrue, IsFalse, IfOk, IfErr, IfSome, map};
 ghost use Rattle.moo_syntax_ast.specs.Tree.{assign, performs, list};
 ghost use Rattle.moo_syntax_lower.specs.Source.{source, source_items};
 ghost use Rattle.moo_syntax_lower.specs.Blocks.{named_items};
+ghost use Rattle.moo_value.specs.Tree.{list_of};
 ghost use Rattle.moo_value.specs.View.{tree as value_tree};
 ghost use Rattle.moo_eval_access.specs.Target.{scattered};
 ghost use Rattle.moo_eval_semantics.specs.Meaning.{Does, Puts, SetsDefaults};
-ghost use Rattle.moo_eval_frame.specs.Outcome.{Failure as Failed};
+ghost use Rattle.moo_eval_frame.specs.Outcome.{Failure as Failed, next};
 ghost use Rattle.moo_eval_frame.specs.State.{Context};
-ghost use Rattle.moo_eval_frame.specs.Seen.{context_of, failure_of, seen_done, seen_flow, HadMemoryIn, IsKnown, IsKnownFailure};
+ghost use Rattle.moo_eval_frame.specs.Seen.{context_of, failure_of, seen_done, seen_flow, variables_of, HadMemoryIn, IsKnown, IsKnownFailure};
+ghost use Rattle.moo_eval.specs.Leaves.{GivesLeaf};
 ghost use Rattle.moo_world_table.specs.World.{World as WorldModel};
 ghost use Rattle.moo_eval_access.specs.State.{State};
 ghost use Rattle.moo_builtin.specs.Telling.{Faults};
@@ -18,11 +20,13 @@ ghost use Rattle.moo_eval_frame.specs.SeenScatter.{left_out_of};
 use crate::interpreter::Task;
 use moo_eval_frame::{
     Activation, CallStack, Failure, Flow, LeftOut, Stop, dealt, missing, set_names, set_shares,
+    try_set_names,
 };
 use moo_syntax_ast::Name;
 use moo_syntax_lower::{Node, NodeItem};
-use moo_value::Value;
+use moo_value::{MooList, Value};
 use moo_world::World;
+use std::alloc::AllocError;
 
 impl Task {
     /// Runs `{x, y} = value` of variables alone, if the assignment's own value is not used. Not inlined, so that nested
@@ -30,6 +34,55 @@ impl Task {
     #[cycle(evaluation)]
     #[inline(never)]
     pub(crate) fn scatter_names(
+        &mut self,
+        world: &mut World,
+        active: &mut Activation,
+        stack: &CallStack<'_>,
+        names: &[Name],
+        value: &Node,
+    ) -> Result<Flow, Stop>
+        ensures meaning { IsKnown result → Does Faults (context_of stack.now None) (performs (assign (list (named_items names.now)) (source value.now))) (state_of self.old world.old active.old) (seen_flow result) (state_of self.new world.new active.new) }
+        ensures ticks { self.new.ticks_left ≤ self.old.ticks_left }
+    {
+        let scattered = self.try_scatter(active, names, value)?;
+        if scattered {
+            return Ok(Flow::Next);
+        }
+        self.scatter_value(world, active, stack, names, value)
+    }
+
+    // Sets these names to the elements of `args`, with the ticks of `{x, y} = args`, and returns whether it did. It doesn't
+    // for another value or if that can't be done at once; then nothing has changed.
+    #[inline(always)]
+    fn try_scatter(
+        &mut self,
+        active: &mut Activation,
+        names: &[Name],
+        value: &Node,
+    ) -> Result<bool, AllocError>
+        ensures set { IfOk result (λ done. IsTrue done → (w : WorldModel) (c : Context) → Does Faults c (performs (assign (list (named_items names.now)) (source value.now))) (state_of self.old w active.old) (Ok next) (state_of self.new w active.new)) }
+        ensures kept { IfOk result (λ done. IsFalse done → (w : WorldModel) → state_of self.new w active.new ≡ state_of self.old w active.old) }
+        ensures ticks { self.new.ticks_left ≤ self.old.ticks_left }
+    {
+        let Some(list) = list_of_args(active, value) else {
+            return Ok(false);
+        };
+        let left = self.ticks_left.left() as u32;
+        if left < 2 {
+            return Ok(false);
+        }
+        let dealt = try_set_names(active, names, &list)?;
+        if !dealt {
+            return Ok(false);
+        }
+        self.ticks_left.leave(left - 2);
+        Ok(true)
+    }
+
+    // Runs `{x, y} = value` of variables alone, for any value.
+    #[cycle(evaluation)]
+    #[inline(always)]
+    fn scatter_value(
         &mut self,
         world: &mut World,
         active: &mut Activation,
@@ -129,5 +182,22 @@ impl Task {
             active.variables.set(default.name, value)?;
         }
         Ok(())
+    }
+}
+
+// Returns the list in `args`, if that is the node.
+#[inline(always)]
+fn list_of_args(active: &Activation, node: &Node) -> Option<MooList>
+    ensures { IfSome result (λ list. GivesLeaf (variables_of active.now.variables) (source node.now) (list_of list)) }
+{
+    let Node::Variable(name) = node else {
+        return None;
+    };
+    let Value::List(list) = active.variables.args_named(name)? else {
+        return None;
+    };
+    match list.try_clone() {
+        Ok(copy) => Some(copy),
+        Err(_) => None,
     }
 }

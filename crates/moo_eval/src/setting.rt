@@ -1,5 +1,5 @@
-//! Evaluates the value that a property is set to. It drops the property's value before, if that is safe, so that a list
-//! that nothing but the property holds is changed in place, as by `a.l = {@a.l, x};` or `a.l = setadd(a.l, x);`.
+//! Evaluates the value that a property is set to, as by `a.l = {@a.l, x};` or `a.l = setadd(a.l, x);`. It drops the
+//! property's old value first, if that is safe. Then a list that only the property holds is changed in place.
 ghost use Rattle.std.specs.Prelude.{◌≡◌, ◌≤◌, ◌∷◌, [], None, Some, Ok, Err, IfOk, IfErr, IfSome};
 ghost use Rattle.moo_value.specs.Tree.{string};
 ghost use Rattle.moo_value.specs.View.{tree};
@@ -190,8 +190,8 @@ impl Task {
     }
 }
 
-// Returns whether a list has two items, of which one is a property's value that is spliced in, or whether the first
-// argument of a call is a property's value.
+// Is true for a list of two items, one of them a property's value that is spliced in. Is true too for a call of two
+// arguments, if the first is a property's value.
 #[inline(always)]
 fn is_of_property(node: &Node) -> bool {
     match node {

@@ -1,12 +1,16 @@
 //! Runs statements.
-ghost use Rattle.std.specs.Prelude.{◌≡◌, ◌≢◌, ◌≤◌, ◌<◌, None, OnOk, IfSome};
-ghost use Rattle.moo_syntax_ast.specs.Tree.{assign, property, performs, branches, no_statement};
+ghost use Rattle.std.specs.Prelude.{◌≡◌, ◌≢◌, ◌≤◌, ◌<◌, None, Ok, Err, option_map, OnOk, IfOk, IfErr, IfSome, IsTrue, IsFalse};
+ghost use Rattle.moo_syntax_ast.specs.Tree.{assign, property, performs, branches, elseif, no_statement};
 ghost use Rattle.moo_syntax_lower.specs.declared.statement.NodeStmt.TheVariants.{Return};
 ghost use Rattle.moo_syntax_lower.specs.Source.{source};
 ghost use Rattle.moo_syntax_lower.specs.Blocks.{source_statement, source_block, source_arm_list};
-ghost use Rattle.moo_eval_semantics.specs.Meaning.{Runs, Does, RunsAll, Selects};
-ghost use Rattle.moo_eval_frame.specs.Seen.{context_of, seen_flow, IsKnown};
+ghost use Rattle.moo_world_table.specs.World.{World as WorldModel};
+ghost use Rattle.moo_eval_semantics.specs.Meaning.{Does, RunsAll, Selects};
+ghost use Rattle.moo_eval_frame.specs.Outcome.{next};
+ghost use Rattle.moo_eval_frame.specs.State.{Context};
+ghost use Rattle.moo_eval_frame.specs.Seen.{context_of, seen_flow, stop_of, HadMemory, IsKnown};
 ghost use Rattle.moo_builtin.specs.Telling.{Faults};
+ghost use Rattle.moo_eval.specs.Chosen.{IsChosen};
 ghost use Rattle.moo_eval.specs.Seen.{state_of};
 
 use crate::interpreter::Task;
@@ -18,24 +22,23 @@ use moo_value::Value;
 use moo_world::World;
 
 impl Task {
-    // Runs a statement, which takes a tick as it begins.
-    #[cycle(evaluation)]
+    // Runs an assignment to a variable or to an element at once, by integers alone, and takes its ticks, except the
+    // statement's own. Returns whether it did. If not, nothing has changed.
     #[inline(always)]
-    fn run(
-        &mut self,
-        world: &mut World,
-        active: &mut Activation,
-        stack: &CallStack<'_>,
-        statement: &NodeStmt,
-    ) -> Result<Flow, Stop>
-        ensures meaning { IsKnown result → Runs Faults (context_of stack.now None) (source_statement statement.now) (state_of self.old world.old active.old) (seen_flow result) (state_of self.new world.new active.new) }
+    fn try_statement(&mut self, active: &mut Activation, statement: &NodeStmt) -> bool
+        ensures done { IsTrue result → (w : WorldModel) (c : Context) → Does Faults c (source_statement statement.now) (state_of self.old w active.old) (Ok next) (state_of self.new w active.new) }
+        ensures kept { IsFalse result → (w : WorldModel) → state_of self.new w active.new ≡ state_of self.old w active.old }
         ensures ticks { self.new.ticks_left ≤ self.old.ticks_left }
-        ensures fewer { OnOk result (self.new.ticks_left < self.old.ticks_left) }
     {
-        self.take_tick(active, stack)?;
-        self.perform(world, active, stack, statement)
+        match statement {
+            NodeStmt::Set(name, value) => self.try_assign(active, name, value),
+            NodeStmt::Extend(name, last) => self.try_add(active, name, last),
+            NodeStmt::Put(name, place, value) => self.try_put(active, name, place, value),
+            _ => false,
+        }
     }
 
+    // Runs a statement that `try_statement` has declined.
     #[cycle(evaluation)]
     #[inline(always)]
     fn perform(
@@ -51,15 +54,15 @@ impl Task {
         match statement {
             NodeStmt::Return(value) => self.give(world, active, stack, value),
             NodeStmt::Expression(node) => self.evaluate_alone(world, active, stack, node),
-            NodeStmt::Set(name, value) => self.assign_alone(world, active, stack, name, value),
+            NodeStmt::Set(name, value) => self.assign_value(world, active, stack, name, value),
             NodeStmt::Lengthen(name, last) => self.lengthen(world, active, stack, name, last),
             NodeStmt::Prepend(name, first) => self.prepend(world, active, stack, name, first),
-            NodeStmt::Extend(name, last) => self.extend(world, active, stack, name, last),
+            NodeStmt::Extend(name, last) => self.extend_value(world, active, stack, name, last),
             NodeStmt::Update(name, called, items) => {
                 self.update(world, active, stack, name, called, items)
             }
             NodeStmt::Put(name, place, value) => {
-                self.set_place(world, active, stack, name, place, value)
+                self.set_element(world, active, stack, name, place, value)
             }
             NodeStmt::ScatterNames(names, value) => {
                 self.scatter_names(world, active, stack, names, value)
@@ -109,6 +112,7 @@ impl Task {
 
     // Evaluates an expression whose value is not used.
     #[cycle(evaluation)]
+    #[inline(always)]
     fn evaluate_alone(
         &mut self,
         world: &mut World,
@@ -162,7 +166,11 @@ impl Task {
         ensures meaning { IsKnown result → Does Faults (context_of stack.now None) (performs (source node.now)) (state_of self.old world.old active.old) (seen_flow result) (state_of self.new world.new active.new) }
         ensures ticks { self.new.ticks_left ≤ self.old.ticks_left }
     {
-        let _value = self.evaluate(world, active, stack, None, node)?;
+        let is_put = self.try_put_inner(active, node)?;
+        if is_put {
+            return Ok(Flow::Next);
+        }
+        let _value = self.evaluate_parts(world, active, stack, None, node)?;
         Ok(Flow::Next)
     }
 
@@ -198,7 +206,11 @@ impl Task {
         ensures fewer { OnOk result (source_block statements.now ≢ no_statement → self.new.ticks_left < self.old.ticks_left) }
     {
         for statement in statements {
-            match self.run(world, active, stack, statement)? {
+            self.take_tick(active, stack)?;
+            if self.try_statement(active, statement) {
+                continue;
+            }
+            match self.perform(world, active, stack, statement)? {
                 Flow::Next => {}
                 flow => return Ok(flow),
             }
@@ -221,23 +233,47 @@ impl Task {
         ensures meaning { IsKnown result → Does Faults (context_of stack.now None) (branches (source test.now) (source_block body.now) (source_arm_list arms.now)) (state_of self.old world.old active.old) (seen_flow result) (state_of self.new world.new active.new) }
         ensures ticks { self.new.ticks_left ≤ self.old.ticks_left }
     {
-        let passes = self.passes(world, active, stack, None, test)?;
-        if passes {
-            return self.run_all(world, active, stack, body);
+        match self.choose(world, active, stack, test, body, arms)? {
+            Some(chosen) => self.run_block(world, active, stack, chosen),
+            None => Ok(Flow::Next),
         }
-        self.select(world, active, stack, arms)
     }
 
+    // Returns the statements of the first arm of an `if` whose condition is true, or `None` if there is none.
     #[cycle(evaluation)]
     #[inline(always)]
-    fn select(
+    fn choose<'a>(
         &mut self,
         world: &mut World,
         active: &mut Activation,
         stack: &CallStack<'_>,
-        arms: &[NodeArm],
-    ) -> Result<Flow, Stop>
-        ensures meaning { IsKnown result → Selects Faults (context_of stack.now None) (source_arm_list arms.now) (state_of self.old world.old active.old) (seen_flow result) (state_of self.new world.new active.new) }
+        test: &Node,
+        body: &'a [NodeStmt],
+        arms: &'a [NodeArm],
+    ) -> Result<Option<&'a [NodeStmt]>, Stop>
+        ensures ok { IfOk result (λ chosen. IsChosen Faults (context_of stack.now None) (elseif (source test.now) (source_block body.now) (source_arm_list arms.now)) (state_of self.old world.old active.old) (option_map (λ body. source_block body.now) chosen) (state_of self.new world.new active.new)) }
+        ensures err { IfErr result (λ stop. HadMemory stop → Selects Faults (context_of stack.now None) (elseif (source test.now) (source_block body.now) (source_arm_list arms.now)) (state_of self.old world.old active.old) (Err (stop_of stop)) (state_of self.new world.new active.new)) }
+        ensures ticks { self.new.ticks_left ≤ self.old.ticks_left }
+    {
+        let passes = self.passes(world, active, stack, None, test)?;
+        if passes {
+            return Ok(Some(body));
+        }
+        self.select(world, active, stack, arms)
+    }
+
+    // Returns the statements of the first of these arms whose condition is true, or `None` if there is none.
+    #[cycle(evaluation)]
+    #[inline(always)]
+    fn select<'a>(
+        &mut self,
+        world: &mut World,
+        active: &mut Activation,
+        stack: &CallStack<'_>,
+        arms: &'a [NodeArm],
+    ) -> Result<Option<&'a [NodeStmt]>, Stop>
+        ensures ok { IfOk result (λ chosen. IsChosen Faults (context_of stack.now None) (source_arm_list arms.now) (state_of self.old world.old active.old) (option_map (λ body. source_block body.now) chosen) (state_of self.new world.new active.new)) }
+        ensures err { IfErr result (λ stop. HadMemory stop → Selects Faults (context_of stack.now None) (source_arm_list arms.now) (state_of self.old world.old active.old) (Err (stop_of stop)) (state_of self.new world.new active.new)) }
         ensures ticks { self.new.ticks_left ≤ self.old.ticks_left }
     {
         for arm in arms {
@@ -245,13 +281,13 @@ impl Task {
                 NodeArm::ElseIf(test, body) => {
                     let passes = self.passes(world, active, stack, None, test)?;
                     if passes {
-                        return self.run_all(world, active, stack, body);
+                        return Ok(Some(body));
                     }
                 }
-                NodeArm::Else(body) => return self.run_all(world, active, stack, body),
+                NodeArm::Else(body) => return Ok(Some(body)),
             }
         }
-        Ok(Flow::Next)
+        Ok(None)
     }
 }
 

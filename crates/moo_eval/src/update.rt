@@ -4,7 +4,7 @@ ghost use Rattle.moo_syntax_ast.specs.Tree.{variable, assign, performs, call};
 ghost use Rattle.moo_syntax_lower.specs.Source.{source_items};
 ghost use Rattle.moo_eval_semantics.specs.Meaning.{Computes, Does};
 ghost use Rattle.moo_eval_frame.specs.Seen.{context_of, failure_of, seen_flow, HadMemoryIn, IsKnown};
-ghost use Rattle.moo_eval.specs.Growth.{IsLengthened};
+ghost use Rattle.moo_eval.specs.SetTo.{IsSetTo};
 ghost use Rattle.moo_builtin.specs.Telling.{Faults};
 ghost use Rattle.moo_eval.specs.Seen.{state_of};
 
@@ -57,7 +57,7 @@ impl Task {
         called: &FunctionName,
         items: &[NodeItem],
     ) -> Result<(), Failure>
-        ensures ok { OnOk result (IsLengthened Faults (context_of stack.now None) name.now (call called.now (source_items items.now)) (state_of self.old world.old active.old) (state_of self.new world.new active.new)) }
+        ensures ok { OnOk result (IsSetTo Faults (context_of stack.now None) name.now (call called.now (source_items items.now)) (state_of self.old world.old active.old) (state_of self.new world.new active.new)) }
         ensures err { IfErr result (λ failure. HadMemoryIn failure → Computes Faults (context_of stack.now None) (call called.now (source_items items.now)) (state_of self.old world.old active.old) (Err (failure_of failure)) (state_of self.new world.new active.new)) }
         ensures ticks { self.new.ticks_left ≤ self.old.ticks_left }
     {

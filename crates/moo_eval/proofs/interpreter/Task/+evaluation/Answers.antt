@@ -19,8 +19,9 @@ use Rattle.moo_eval_access.specs.SeenTarget.{path_of}
 use Rattle.moo_eval.proofs.Hooking.{comes_on}
 use Rattle.moo_eval.proofs.Caught.{guards_end, attempt_stops, attempt_gives, attempt_caught, attempt_goes_on, attempt_spent}
 use Rattle.moo_syntax_ast.specs.Tree as program
+use Rattle.moo_syntax_ast.specs.declared.tree.Literal.TheVariants.{Str}
 use Rattle.moo_syntax_ast.specs.declared.operator.BinaryOperator.TheVariants.{Add}
-use Rattle.moo_syntax_ast.specs.Tree.{variable, binary, splice, element, no_items}
+use Rattle.moo_syntax_ast.specs.Tree.{variable, binary, splice, element, no_items, no_handler}
 use Rattle.moo_eval.proofs.Lengthened.{lengthened, longer, too_long, first_stops, first_fails, unspliced, second_stops, set_longer, set_error, not_set}
 use Rattle.moo_eval.proofs.Prepended as front
 use Rattle.moo_eval.specs.Element.{sets_place}
@@ -35,14 +36,15 @@ use Rattle.moo_value.specs.Tree.{list_of}
 use Rattle.std.proofs.lemmas.Bool.{false≢true}
 use Rattle.moo_eval.proofs.Properties as property
 use Rattle.moo_builtin_operator.specs.Truth.{is_true, truth_value}
+use Rattle.moo_eval.proofs.ObjectCalls.{named}
 use Rattle.moo_eval.proofs.Passing.{undecided, decided, operand_stops, negated, not_stops, truth_of, if_err}
+use Rattle.moo_eval.proofs.Choosing.{passed}
 use Rattle.moo_eval.proofs.Spliced.{plain_rest, not_spliced}
-use Rattle.moo_eval.proofs.Known.{errors_given, errors_end, seen_listed, HasValues}
+use Rattle.moo_eval.proofs.Known.{codes_given, errors_given, errors_end, seen_listed}
 use Rattle.moo_eval_frame.specs.Seen.{code_values, seen_answers, trace_of}
 use Rattle.moo_eval_frame.specs.Catching.{guards}
 use Rattle.moo_eval_frame.specs.Outcome.{out_of_ticks}
 use Rattle.moo_value.specs.Tree.{error}
-use Rattle.moo_eval.proofs.interpreter.Task.+evaluation.Goals.{prepare-in-Any, prepare-in-Known+in_ok-take_ticks-in-Known, prepare-in-Listed+in_ok-values-in-Listed}
 use Rattle.moo_eval.specs.Arguments.{is_splice}
 use Rattle.moo_eval.proofs.Exits.{none_left, refused, gathered, unlisted, same_state, optional_ends, goes_on-not, state_at, guarded_on, property_put, runs_from}
 use Rattle.moo_eval_frame.proofs.Rest.{drop_next}
@@ -58,6 +60,22 @@ use Rattle.moo_eval_frame.specs.Handling.{guarded}
 use Rattle.moo_eval_semantics.specs.Operands.{before}
 use Rattle.moo_eval.proofs.interpreter.Task.+evaluation.Goals as goal
 use Rattle.moo_eval.proofs.interpreter.Task.+evaluation.Goals.{evaluate_all-in-Element+in_ok-value-in-Element+in_ok-push-in-Element, evaluate_all-in-Splice+in_ok-value-in-Splice+in_ok-splice-in-Splice}
+
+pub binary_passes-returns-in-Ok-clause-ok : goal.binary_passes-returns-in-Ok-clause-ok
+binary_passes-returns-in-Ok-clause-ok t c =
+    (tree c.in-Ok.value, begins c.in_ok-take_tick.ensures.taken (rw (c.in_ok-take_tick.ensures.left, c.in-Ok.is) at (c.binary.ensures.meaning (rw c.in-Ok.is tt))) refl, sym c.is_true.ensures)
+
+pub binary_passes-returns-in_ok-value-in-Err-clause-ok : goal.binary_passes-returns-in_ok-value-in-Err-clause-ok
+binary_passes-returns-in_ok-value-in-Err-clause-ok t c =
+    (tree c.in_ok-value-in-Err.value, begins c.in_ok-take_tick.ensures.taken (rw (c.in_ok-take_tick.ensures.left, c.in-Err.is) at (c.binary.ensures.meaning (rw c.in-Err.is (c.in_ok-value-in-Err.ensures.known tt)))) (c.in_ok-value-in-Err.ensures.outcome tt), sym c.is_true-in-Err.ensures)
+
+pub binary_passes-returns-in_err-value-in-Err-clause-err : goal.binary_passes-returns-in_err-value-in-Err-clause-err
+binary_passes-returns-in_err-value-in-Err-clause-err t c =
+    let p = err_from_is_err_and c.from_residual-in_err-value-in-Err.result c.from_residual-in_err-value-in-Err.ensures.1 in rw (p.1, p.2) (λ k. begins c.in_ok-take_tick.ensures.taken (rw (c.in_ok-take_tick.ensures.left, c.in-Err.is) at (c.binary.ensures.meaning (rw c.in-Err.is (c.in_err-value-in-Err.ensures.known k)))) (c.in_err-value-in-Err.ensures.outcome k))
+
+pub binary_passes-returns-in_err-take_tick-clause-err : goal.binary_passes-returns-in_err-take_tick-clause-err
+binary_passes-returns-in_err-take_tick-clause-err t c =
+    let p = err_from_is_err_and c.from_residual.result c.from_residual.ensures.1 in rw (p.1, p.2) (λ k. let h = c.in_err-take_tick.ensures.spent k in rw (c.in_err-take_tick.ensures.kept, h.1) (spent h.0))
 
 pub logic_passes-returns-clause-ok : goal.logic_passes-returns-clause-ok
 logic_passes-returns-clause-ok t c =
@@ -281,8 +299,8 @@ pub evaluate_elements-returns-in-Optional-clause-meaning : goal.evaluate_element
 evaluate_elements-returns-in-Optional-clause-meaning t c =
     λ k. c.loop-item.invariant.rest (Err (fails TypeMismatch)) _ (rw (drop_next c.args.items.now c.loop-item.item-index c.item-item.result c.loop-item-test.true c.item-item.is) (optional_ends c.item-item.result _ (⊎_elim (λ p. rw p.1 tt) (λ p. rw p.2 tt) c.in-Optional.is)))
 
-pub call_literal-returns-in_err-evaluate_arguments-clause-meaning : goal.call_literal-returns-in_err-evaluate_arguments-clause-meaning
-call_literal-returns-in_err-evaluate_arguments-clause-meaning t c =
+pub call_evaluated-returns-in_err-evaluate_arguments-clause-meaning : goal.call_evaluated-returns-in_err-evaluate_arguments-clause-meaning
+call_evaluated-returns-in_err-evaluate_arguments-clause-meaning t c =
     let p = err_from_is_err_and c.from_residual-in_err-evaluate_arguments.result c.from_residual-in_err-evaluate_arguments.ensures.1 in
     rw (p.1, p.2) (λ k. ⊎_elim
     (λ e. operands_end (element_then (c.in_ok-base.ensures.meaning tt) (element_then (literal_read c.in_ok-take_tick.ensures.taken) (rw c.in_ok-take_tick.ensures.left at e) refl) refl))
@@ -321,8 +339,28 @@ pub assign_path-returns-clause-meaning : goal.assign_path-returns-clause-meaning
 assign_path-returns-clause-meaning t c =
     λ k. applies no_more no_more (assign_is (assigns (c.in_ok-path.ensures.meaning tt) (c.in_ok-value.ensures.meaning tt) (c.in_ok-store.ensures.meaning tt) refl))
 
-pub call-returns-in_err-values-clause-meaning : goal.call-returns-in_err-values-clause-meaning
-call-returns-in_err-values-clause-meaning t c =
+pub call_unary-returns-in_err-value-clause-meaning : goal.call_unary-returns-in_err-value-clause-meaning
+call_unary-returns-in_err-value-clause-meaning t c =
+    let p = err_from_is_err_and c.from_residual.result c.from_residual.ensures.1 in rw (p.1, p.2) (λ k. operands_end (element_stops (c.in_err-value.ensures.meaning k)))
+
+pub call_unary-returns-clause-meaning : goal.call_unary-returns-clause-meaning
+call_unary-returns-clause-meaning t c =
+    λ k. applies (element_then (c.in_ok-value.ensures.meaning tt) no_more refl) no_more (call_is c.requires (c.call_values.ensures.call c.args.name.now (sym c.function.ensures) k))
+
+pub call_any-returns-in_err-evaluate_elements-clause-meaning : goal.call_any-returns-in_err-evaluate_elements-clause-meaning
+call_any-returns-in_err-evaluate_elements-clause-meaning t c =
+    let p = err_from_is_err_and c.from_residual.result c.from_residual.ensures.1 in rw (p.1, p.2) (λ k. operands_end (c.in_err-evaluate_elements.ensures.meaning k))
+
+pub call_any-returns-in-Some-clause-meaning : goal.call_any-returns-in-Some-clause-meaning
+call_any-returns-in-Some-clause-meaning t c =
+    λ k. applies (c.in_ok-evaluate_elements.ensures.meaning tt) no_more (rw c.of-values.ensures at (c.call_caller.ensures.meaning c.args.indexed c.args.name.now (source_items c.args.items.now) (ap verb_caller (sym c.function-function.ensures) ∙ sym c.verb_caller.ensures ∙ c.in-Some.is) k))
+
+pub call_any-returns-clause-meaning : goal.call_any-returns-clause-meaning
+call_any-returns-clause-meaning t c =
+    λ k. applies (c.in_ok-evaluate_elements.ensures.meaning tt) no_more (call_is (ap verb_caller (sym c.function-function.ensures) ∙ sym c.verb_caller.ensures ∙ c.in_default.is) (rw c.deref_mut.ensures.value at (c.call_values-answer.ensures.call c.args.name.now (sym c.function-function.ensures) k)))
+
+pub call_spliced-returns-in_err-values-clause-meaning : goal.call_spliced-returns-in_err-values-clause-meaning
+call_spliced-returns-in_err-values-clause-meaning t c =
     let p = err_from_is_err_and c.from_residual.result c.from_residual.ensures.1 in rw (p.1, p.2) (λ k. operands_end (c.in_err-values.ensures.meaning k))
 
 pub call_with-returns-in_default-clause-meaning : goal.call_with-returns-in_default-clause-meaning
@@ -333,8 +371,8 @@ pub call_with-returns-clause-meaning : goal.call_with-returns-clause-meaning
 call_with-returns-clause-meaning t c =
     λ indexed items k. c.call_caller.ensures.meaning indexed c.args.name.now items (ap verb_caller (sym c.function-function.ensures) ∙ sym c.verb_caller.ensures ∙ c.in-Some.is) k
 
-pub call-returns-clause-meaning : goal.call-returns-clause-meaning
-call-returns-clause-meaning t c =
+pub call_spliced-returns-clause-meaning : goal.call_spliced-returns-clause-meaning
+call_spliced-returns-clause-meaning t c =
     λ k. applies (c.in_ok-values.ensures.meaning tt) no_more (c.call_with.ensures.meaning c.args.indexed (source_items c.args.items.now) k)
 
 pub call_caller-returns-in_err-first-clause-meaning : goal.call_caller-returns-in_err-first-clause-meaning
@@ -523,75 +561,85 @@ store-returns-in_err-whole-in-Scatter-clause-meaning t c =
 
 pub run_block-returns-in_err-flow-clause-meaning : goal.run_block-returns-in_err-flow-clause-meaning
 run_block-returns-in_err-flow-clause-meaning t c =
-    let p = err_from_is_err_and c.from_residual.result c.from_residual.ensures.1 in rw (p.1, p.2) (λ k. c.loop-statement.invariant.rest (Err (stop_of c.in_err-flow.field-0.0)) _ (rw (drop_next c.args.statements.now c.loop-statement.statement-index c.statement-item.result c.loop-statement-test.true c.statement-item.is) (leaves (c.in_err-flow.ensures.meaning k) refl)))
+    let p = err_from_is_err_and c.from_residual-in_err-flow.result c.from_residual-in_err-flow.ensures.1 in
+    rw (p.1, p.2) (λ k. c.loop-statement.invariant.rest (Err (stop_of c.in_err-flow.field-0.0)) _ (rw (drop_next c.args.statements.now c.loop-statement.statement-index c.statement-item.result c.loop-statement-test.true c.statement-item.is) (leaves (statement_begins c.in_ok-take_tick.ensures.taken (rw c.in_ok-take_tick.ensures.left at (does_from (c.try_statement.ensures.kept c.if-try_statement.false c.loop-statement.world) (c.in_err-flow.ensures.meaning k)))) refl)))
 
 pub run_block-loop-statement-preserved : goal.run_block-loop-statement-preserved
 run_block-loop-statement-preserved t c =
-    record { ticks = omega arith; fewer = λ z. omega (arith, c.in_ok-flow.ensures.fewer); rest = λ o s d. c.loop-statement.invariant.rest o s (rw (drop_next c.args.statements.now c.loop-statement.statement-index c.statement-item.result c.loop-statement-test.true c.statement-item.is) (proceeds (rw c.in-Next.is at (c.in_ok-flow.ensures.meaning tt)) d)) }
+    let tick = c.in_ok-take_tick.ensures in
+    let left = ap (λ (x : Task). x.ticks_left) tick.left in
+    record {
+      ticks = omega (arith, left);
+      fewer = λ z. omega (arith, left, tick.taken);
+      rest = λ o s d. c.loop-statement.invariant.rest o s (rw (drop_next c.args.statements.now c.loop-statement.statement-index c.statement-item.result c.loop-statement-test.true c.statement-item.is) (proceeds (statement_begins tick.taken (rw tick.left at (does_from (c.try_statement.ensures.kept c.if-try_statement.false c.loop-statement.world) (rw c.in-Next.is at (c.in_ok-flow.ensures.meaning tt))))) d));
+    }
+
+pub run_block-returns-in_err-take_tick-clause-meaning : goal.run_block-returns-in_err-take_tick-clause-meaning
+run_block-returns-in_err-take_tick-clause-meaning t c =
+    let p = err_from_is_err_and c.from_residual.result c.from_residual.ensures.1 in
+    rw (p.1, p.2) (λ k. let h = c.in_err-take_tick.ensures.spent k in c.loop-statement.invariant.rest (Err (stop_of c.in_err-take_tick.field-0.0)) _ (rw (drop_next c.args.statements.now c.loop-statement.statement-index c.statement-item.result c.loop-statement-test.true c.statement-item.is, c.in_err-take_tick.ensures.kept, h.1) (leaves (statement_spent h.0) refl)))
+
+pub run_block-loop-statement-preserved-then-try_statement : goal.run_block-loop-statement-preserved-then-try_statement
+run_block-loop-statement-preserved-then-try_statement t c =
+    let tick = c.in_ok-take_tick.ensures in
+    let left = ap (λ (x : Task). x.ticks_left) tick.left in
+    record {
+      ticks = omega (arith, left);
+      fewer = λ z. omega (arith, left, tick.taken);
+      rest = λ o s d. c.loop-statement.invariant.rest o s (rw (drop_next c.args.statements.now c.loop-statement.statement-index c.statement-item.result c.loop-statement-test.true c.statement-item.is) (proceeds (statement_begins tick.taken (rw tick.left at (c.try_statement.ensures.done c.if-try_statement.true c.loop-statement.world (context_of c.args.stack.now None)))) d));
+    }
 
 pub run_block-returns-clause-meaning : goal.run_block-returns-clause-meaning
 run_block-returns-clause-meaning t c =
     λ k. c.loop-statement.invariant.rest (Ok next) _ (rw (drop_of_length-le c.args.statements.now c.loop-statement-test.false) ends)
 
-pub branch-returns-clause-meaning : goal.branch-returns-clause-meaning
-branch-returns-clause-meaning t c =
-    λ k. selects (arm_passed c.in_ok-passes.ensures.ok.1 (c.in_ok-passes.ensures.ok.2 ∙ c.if-passes.false) (c.select.ensures.meaning k))
+pub branch-returns-in-Some-clause-meaning : goal.branch-returns-in-Some-clause-meaning
+branch-returns-in-Some-clause-meaning t c =
+    λ k. selects ((rw c.in-Some.is at c.in_ok-chosen.ensures.ok) _ _ (c.run_block.ensures.meaning k))
 
-pub branch-returns-then-passes-clause-meaning : goal.branch-returns-then-passes-clause-meaning
-branch-returns-then-passes-clause-meaning t c =
-    λ k. selects (arm_runs c.in_ok-passes.ensures.ok.1 (c.in_ok-passes.ensures.ok.2 ∙ c.if-passes.true) (c.run_all.ensures.meaning k))
+pub branch-returns-in-None-clause-meaning : goal.branch-returns-in-None-clause-meaning
+branch-returns-in-None-clause-meaning t c =
+    λ k. selects (rw c.in-None.is at c.in_ok-chosen.ensures.ok)
 
-pub branch-returns-in_err-passes-clause-meaning : goal.branch-returns-in_err-passes-clause-meaning
-branch-returns-in_err-passes-clause-meaning t c =
-    let p = err_from_is_err_and c.from_residual.result c.from_residual.ensures.1 in rw (p.1, p.2) (λ k. selects (test_stops (c.in_err-passes.ensures.err k)))
+pub branch-returns-in_err-chosen-clause-meaning : goal.branch-returns-in_err-chosen-clause-meaning
+branch-returns-in_err-chosen-clause-meaning t c =
+    let p = err_from_is_err_and c.from_residual.result c.from_residual.ensures.1 in rw (p.1, p.2) (λ k. selects (c.in_err-chosen.ensures.err k))
 
-pub select-returns-clause-meaning : goal.select-returns-clause-meaning
-select-returns-clause-meaning t c =
-    λ k. c.loop-arm.invariant.rest (Ok next) _ (rw (drop_of_length-le c.args.arms.now c.loop-arm-test.false) none_selected)
+pub choose-returns-clause-ok : goal.choose-returns-clause-ok
+choose-returns-clause-ok t c =
+    IfOk-weaker c.select.result _ _ (λ chosen h. passed _ _ _ c.in_ok-passes.ensures.ok.1 (c.in_ok-passes.ensures.ok.2 ∙ c.if-passes.false) _ h) c.select.ensures.ok
 
-pub select-returns-in-Else-clause-meaning : goal.select-returns-in-Else-clause-meaning
-select-returns-in-Else-clause-meaning t c =
-    λ k. c.loop-arm.invariant.rest _ _ (rw (drop_next c.args.arms.now c.loop-arm.arm-index c.arm-item.result c.loop-arm-test.true c.arm-item.is, c.in-Else.is, row_block, ← c.deref-in-Else.ensures.value) (else_runs (c.run_all-in-Else.ensures.meaning k)))
+pub choose-returns-clause-err : goal.choose-returns-clause-err
+choose-returns-clause-err t c =
+    if_err c.select.result (λ e h k. arm_passed c.in_ok-passes.ensures.ok.1 (c.in_ok-passes.ensures.ok.2 ∙ c.if-passes.false) (h k)) c.select.ensures.err
 
-pub select-returns-in_err-passes-in-ElseIf-clause-meaning : goal.select-returns-in_err-passes-in-ElseIf-clause-meaning
-select-returns-in_err-passes-in-ElseIf-clause-meaning t c =
+pub choose-returns-then-passes-clause-ok : goal.choose-returns-then-passes-clause-ok
+choose-returns-then-passes-clause-ok t c =
+    λ o s d. arm_runs c.in_ok-passes.ensures.ok.1 (c.in_ok-passes.ensures.ok.2 ∙ c.if-passes.true) d
+
+pub choose-returns-in_err-passes-clause-err : goal.choose-returns-in_err-passes-clause-err
+choose-returns-in_err-passes-clause-err t c =
+    let p = err_from_is_err_and c.from_residual.result c.from_residual.ensures.1 in rw (p.1, p.2) (λ k. test_stops (c.in_err-passes.ensures.err k))
+
+pub select-returns-clause-ok : goal.select-returns-clause-ok
+select-returns-clause-ok t c =
+    c.loop-arm.invariant.rest (Ok next) _ (rw (drop_of_length-le c.args.arms.now c.loop-arm-test.false) none_selected)
+
+pub select-returns-in-Else-clause-ok : goal.select-returns-in-Else-clause-ok
+select-returns-in-Else-clause-ok t c =
+    λ o s d. c.loop-arm.invariant.rest o s (rw (drop_next c.args.arms.now c.loop-arm.arm-index c.arm-item.result c.loop-arm-test.true c.arm-item.is, c.in-Else.is, row_block, ← c.deref-in-Else.ensures.value) (else_runs d))
+
+pub select-returns-then-passes-clause-ok : goal.select-returns-then-passes-clause-ok
+select-returns-then-passes-clause-ok t c =
+    λ o s d. c.loop-arm.invariant.rest o s (rw (drop_next c.args.arms.now c.loop-arm.arm-index c.arm-item.result c.loop-arm-test.true c.arm-item.is, c.in-ElseIf.is, row_block, ← c.deref.ensures, ← c.deref-then-passes.ensures.value) (arm_runs c.in_ok-passes-in-ElseIf.ensures.ok.1 (c.in_ok-passes-in-ElseIf.ensures.ok.2 ∙ c.if-passes.true) d))
+
+pub select-returns-in_err-passes-in-ElseIf-clause-err : goal.select-returns-in_err-passes-in-ElseIf-clause-err
+select-returns-in_err-passes-in-ElseIf-clause-err t c =
     let p = err_from_is_err_and c.from_residual.result c.from_residual.ensures.1 in rw (p.1, p.2) (λ k. c.loop-arm.invariant.rest (Err (stop_of c.in_err-passes-in-ElseIf.field-0.0)) _ (rw (drop_next c.args.arms.now c.loop-arm.arm-index c.arm-item.result c.loop-arm-test.true c.arm-item.is, c.in-ElseIf.is, ← c.deref.ensures) (test_stops (c.in_err-passes-in-ElseIf.ensures.err k))))
 
 pub select-loop-arm-preserved : goal.select-loop-arm-preserved
 select-loop-arm-preserved t c =
     record { ticks = omega arith; rest = λ o s d. c.loop-arm.invariant.rest o s (rw (drop_next c.args.arms.now c.loop-arm.arm-index c.arm-item.result c.loop-arm-test.true c.arm-item.is, c.in-ElseIf.is, ← c.deref.ensures) (arm_passed c.in_ok-passes-in-ElseIf.ensures.ok.1 (c.in_ok-passes-in-ElseIf.ensures.ok.2 ∙ c.if-passes.false) d)) }
-
-pub turn-returns-clause-meaning : goal.turn-returns-clause-meaning
-turn-returns-clause-meaning t c =
-    λ k. turns c.in_ok-take_tick.ensures.taken (ap (λ x. state_of x c.args.world.now c.args.active.now) (sym c.in_ok-take_tick.ensures.left)) (c.in_ok-flow.ensures.meaning tt) (sym (c.after_turn.ensures ∙ ap (λ x. after_turn x (Ok (flow_of c.in_ok-flow.flow))) c.as_ref.ensures.value))
-
-pub turn-returns-in-Next-clause-meaning : goal.turn-returns-in-Next-clause-meaning
-turn-returns-in-Next-clause-meaning t c =
-    λ k. turns c.in_ok-take_tick.ensures.taken (ap (λ x. state_of x c.args.world.now c.args.active.now) (sym c.in_ok-take_tick.ensures.left)) (rw c.in-Next.is at (c.in_ok-flow.ensures.meaning tt)) refl
-
-pub turn-returns-in_err-take_tick-clause-meaning : goal.turn-returns-in_err-take_tick-clause-meaning
-turn-returns-in_err-take_tick-clause-meaning t c =
-    let p = err_from_is_err_and c.from_residual.result c.from_residual.ensures.1 in rw (p.1, p.2) (λ k. let h = c.in_err-take_tick.ensures.spent k in rw (c.in_err-take_tick.ensures.kept, h.1) (turn_spent h.0))
-
-pub turn-returns-in_err-flow-clause-meaning : goal.turn-returns-in_err-flow-clause-meaning
-turn-returns-in_err-flow-clause-meaning t c =
-    let p = err_from_is_err_and c.from_residual-in_err-flow.result c.from_residual-in_err-flow.ensures.1 in rw (p.1, p.2) (λ k. turns c.in_ok-take_tick.ensures.taken (ap (λ x. state_of x c.args.world.now c.args.active.now) (sym c.in_ok-take_tick.ensures.left)) (c.in_err-flow.ensures.meaning k) refl)
-
-pub visit-returns-clause-meaning : goal.visit-returns-clause-meaning
-visit-returns-clause-meaning t c =
-    λ k. turns c.in_ok-take_tick.ensures.taken (let left = sym c.in_ok-take_tick.ensures.left in state_at (ap (λ (x : Task). x.ticks_left) left) (ap (λ (x : Task). x.notices.items) left) (sym c.in_ok-set.ensures)) (c.in_ok-flow.ensures.meaning tt) (sym (c.after_turn.ensures ∙ ap (λ x. after_turn (Some x) (Ok (flow_of c.in_ok-flow.flow))) c.text.ensures))
-
-pub visit-returns-in-Next-clause-meaning : goal.visit-returns-in-Next-clause-meaning
-visit-returns-in-Next-clause-meaning t c =
-    λ k. turns c.in_ok-take_tick.ensures.taken (let left = sym c.in_ok-take_tick.ensures.left in state_at (ap (λ (x : Task). x.ticks_left) left) (ap (λ (x : Task). x.notices.items) left) (sym c.in_ok-set.ensures)) (rw c.in-Next.is at (c.in_ok-flow.ensures.meaning tt)) refl
-
-pub visit-returns-in_err-take_tick-clause-meaning : goal.visit-returns-in_err-take_tick-clause-meaning
-visit-returns-in_err-take_tick-clause-meaning t c =
-    let p = err_from_is_err_and c.from_residual.result c.from_residual.ensures.1 in rw (p.1, p.2) (λ k. let h = c.in_err-take_tick.ensures.spent k in rw (c.in_err-take_tick.ensures.kept, h.1) (turn_spent h.0))
-
-pub visit-returns-in_err-flow-clause-meaning : goal.visit-returns-in_err-flow-clause-meaning
-visit-returns-in_err-flow-clause-meaning t c =
-    let p = err_from_is_err_and c.from_residual-in_err-flow.result c.from_residual-in_err-flow.ensures.1 in rw (p.1, p.2) (λ k. turns c.in_ok-take_tick.ensures.taken (let left = sym c.in_ok-take_tick.ensures.left in state_at (ap (λ (x : Task). x.ticks_left) left) (ap (λ (x : Task). x.notices.items) left) (sym c.in_ok-set.ensures)) (c.in_err-flow.ensures.meaning k) refl)
 
 pub for_list-returns-in-Ok-clause-meaning : goal.for_list-returns-in-Ok-clause-meaning
 for_list-returns-in-Ok-clause-meaning t c =
@@ -621,21 +669,9 @@ pub try_finally-returns-clause-meaning : goal.try_finally-returns-clause-meaning
 try_finally-returns-clause-meaning t c =
     λ k. let h = c.runs_finally.ensures.known c.if-not-runs_finally.false in finally_runs (c.run_all-outcome.ensures.meaning h) (sym (c.runs_finally.ensures.outcome h) ∙ c.if-not-runs_finally.false) (c.run_all-last.ensures.meaning (c.after_finally.ensures.known k)) (sym c.after_finally.ensures.outcome)
 
-pub try_except-returns-in_err-guarded-clause-meaning : goal.try_except-returns-in_err-guarded-clause-meaning
-try_except-returns-in_err-guarded-clause-meaning t c =
+pub run_with_handlers-returns-in_err-guarded-clause-meaning : goal.run_with_handlers-returns-in_err-guarded-clause-meaning
+run_with_handlers-returns-in_err-guarded-clause-meaning t c =
     let p = err_from_is_err_and c.from_residual.result c.from_residual.ensures.1 in rw (p.1, p.2) (λ k. unprepared (c.in_err-guarded.ensures.meaning k))
-
-pub try_except-returns-in-Ok-clause-meaning : goal.try_except-returns-in-Ok-clause-meaning
-try_except-returns-in-Ok-clause-meaning t c =
-    λ k. tries (c.in_ok-guarded.ensures.meaning tt) (c.in-Ok.ensures.meaning tt) nothing_raised
-
-pub try_except-returns-in-Err-Raised-clause-meaning : goal.try_except-returns-in-Err-Raised-clause-meaning
-try_except-returns-in-Err-Raised-clause-meaning t c =
-    λ k. tries (c.in_ok-guarded.ensures.meaning tt) ((rw c.in-Err-Raised.field-0-is at c.in-Err-Raised.ensures.meaning) tt) (handles refl (rw c.deref.ensures.value at (c.handle.ensures.meaning k)))
-
-pub try_except-returns-in-Err-OutOfTicks-clause-meaning : goal.try_except-returns-in-Err-OutOfTicks-clause-meaning
-try_except-returns-in-Err-OutOfTicks-clause-meaning t c =
-    λ k. tries (c.in_ok-guarded.ensures.meaning tt) ((rw c.in-Err-OutOfTicks.field-0-is at c.in-Err-OutOfTicks.ensures.meaning) tt) ticks_out
 
 pub perform-returns-in-Return-clause-meaning : goal.perform-returns-in-Return-clause-meaning
 perform-returns-in-Return-clause-meaning t c =
@@ -679,11 +715,13 @@ perform-returns-in-TryFinally-clause-meaning t c =
 
 pub run_block-returns-in_default : goal.run_block-returns-in_default
 run_block-returns-in_default t c =
-    record { meaning = λ k. c.loop-statement.invariant.rest (Ok (flow_of c.in_ok-flow.flow)) _ (rw (drop_next c.args.statements.now c.loop-statement.statement-index c.statement-item.result c.loop-statement-test.true c.statement-item.is) (leaves (c.in_ok-flow.ensures.meaning tt) (goes_on-not _ c.in_default.not-Next))); ticks = omega arith; fewer = λ some. omega (arith, c.in_ok-flow.ensures.fewer) }
-
-pub select-returns-then-passes-clause-meaning : goal.select-returns-then-passes-clause-meaning
-select-returns-then-passes-clause-meaning t c =
-    λ k. c.loop-arm.invariant.rest _ _ (rw (drop_next c.args.arms.now c.loop-arm.arm-index c.arm-item.result c.loop-arm-test.true c.arm-item.is, c.in-ElseIf.is, row_block, ← c.deref.ensures, ← c.deref-then-passes.ensures.value) (arm_runs c.in_ok-passes-in-ElseIf.ensures.ok.1 (c.in_ok-passes-in-ElseIf.ensures.ok.2 ∙ c.if-passes.true) (c.run_all.ensures.meaning k)))
+    let tick = c.in_ok-take_tick.ensures in
+    let left = ap (λ (x : Task). x.ticks_left) tick.left in
+    record {
+      meaning = λ k. c.loop-statement.invariant.rest (Ok (flow_of c.in_ok-flow.flow)) _ (rw (drop_next c.args.statements.now c.loop-statement.statement-index c.statement-item.result c.loop-statement-test.true c.statement-item.is) (leaves (statement_begins tick.taken (rw tick.left at (does_from (c.try_statement.ensures.kept c.if-try_statement.false c.loop-statement.world) (c.in_ok-flow.ensures.meaning tt)))) (goes_on-not _ c.in_default.not-Next)));
+      ticks = omega (arith, left);
+      fewer = λ some. omega (arith, left, tick.taken);
+    }
 
 pub for_list-returns-clause-meaning : goal.for_list-returns-clause-meaning
 for_list-returns-clause-meaning t c =
@@ -696,26 +734,10 @@ for_range-returns-clause-meaning t c =
 pub prepare-loop-handler-preserved : goal.prepare-loop-handler-preserved
 prepare-loop-handler-preserved t c =
     let parts = c.handler_parts-parts.result in
-    let vs = code_values parts.codes.now c.match-parts.values.items in
-    let h : HasValues Faults (context_of c.args.stack.now None) (source_codes parts.codes.now) (state_of c.loop-handler.self c.loop-handler.world c.loop-handler.active) (state_of c.match-parts.self c.match-parts.world c.match-parts.active) vs = elim c.match-parts.branch [
-      | prepare-in-Any w ↦ (Ok [], rw (w.in-Any.is, w.self-is, w.world-is, w.active-is) no_more, rw (w.in-Any.is, w.values-is, w.new-values.ensures.items) refl)
-      | prepare-in-Known+in_ok-take_ticks-in-Known w ↦ (
-        Ok (map (λ e. error e) w.in-Known.errors.items),
-        rw (w.in-Known.is, w.self-is, w.world-is, w.active-is, w.in_ok-take_ticks-in-Known.ensures.left) (errors_given w.in-Known.errors.items (state_of c.loop-handler.self c.loop-handler.world c.loop-handler.active) (c.loop-handler.self.ticks_left - w.len.result) (omega (arith, w.in_ok-take_ticks-in-Known.ensures.taken, w.len.ensures, w.in-Known.errors.ok.0)) (omega (arith, w.len.ensures, w.in-Known.errors.ok.0))),
-        rw w.in-Known.is refl,
-      )
-      | prepare-in-Listed+in_ok-values-in-Listed w ↦ (
-        seen_answers w.evaluate_codes-outcome.result,
-        rw (w.in-Listed.is, row_items, ← w.deref.ensures.value, w.self-is, w.world-is, w.active-is) (w.evaluate_codes-outcome.ensures.meaning (w.in_ok-values-in-Listed.ensures.known tt)),
-        rw (w.in-Listed.is, w.active-is, w.values-is) (w.in_ok-values-in-Listed.ensures.outcome tt),
-      )
-    ] in
+    let vs = code_values parts.codes.now c.in_ok-values.values.items in
+    let h = c.in_ok-values.ensures.meaning tt in
     record {
-      ticks = elim c.match-parts.branch [
-        | prepare-in-Any w ↦ omega (arith, c.loop-handler.invariant.ticks, ap (λ (x : Task). x.ticks_left) w.self-is)
-        | prepare-in-Known+in_ok-take_ticks-in-Known w ↦ omega (arith, c.loop-handler.invariant.ticks, ap (λ (x : Task). x.ticks_left) w.self-is, ap (λ (x : Task). x.ticks_left) w.in_ok-take_ticks-in-Known.ensures.left)
-        | prepare-in-Listed+in_ok-values-in-Listed w ↦ omega (arith, c.loop-handler.invariant.ticks, ap (λ (x : Task). x.ticks_left) w.self-is, w.evaluate_codes-outcome.ensures.ticks)
-      ];
+      ticks = omega (arith, c.loop-handler.invariant.ticks, c.in_ok-values.ensures.ticks);
       rest = λ o s d.
           let g = guarded (option_copied parts.name) (source_codes parts.codes.now) (source_block parts.body.now) vs in
           subst (λ r. Prepares Faults (context_of c.args.stack.now None) (source_handler_list c.args.handlers.now) (state_of c.args.self.now c.args.world.now c.args.active.now) r s)
@@ -723,22 +745,39 @@ prepare-loop-handler-preserved t c =
           (c.loop-handler.invariant.rest _ s (rw (drop_next c.args.handlers.now c.loop-handler.handler-index c.handler-item.result c.loop-handler-test.true c.handler-item.is, c.handler_parts-parts.ensures (source_handler_list (drop (c.loop-handler.handler-index + 1) c.args.handlers.now))) (codes_then h.1 h.2 d refl)));
     }
 
-pub prepare-returns-in_err-take_ticks-in-Known-clause-meaning : goal.prepare-returns-in_err-take_ticks-in-Known-clause-meaning
-prepare-returns-in_err-take_ticks-in-Known-clause-meaning t c =
+pub prepare-returns-in_err-values-clause-meaning : goal.prepare-returns-in_err-values-clause-meaning
+prepare-returns-in_err-values-clause-meaning t c =
     let p = err_from_is_err_and c.from_residual.result c.from_residual.ensures.1 in
     rw (p.1, p.2) (λ k.
-    let h = c.in_err-take_ticks-in-Known.ensures.spent k in
-    let e : EvaluatesAll Faults (context_of c.args.stack.now None) (guards (source_codes c.handler_parts-parts.result.codes.now)) (state_of c.loop-handler.self c.loop-handler.world c.loop-handler.active) (Err (stops (out_of_ticks (trace_of c.args.stack.now c.loop-handler.active)))) (state_of c.take_ticks.new.self c.loop-handler.world c.loop-handler.active) =
-    rw (c.in-Known.is, c.in_err-take_ticks-in-Known.ensures.emptied) (errors_end c.in-Known.errors.items (state_of c.loop-handler.self c.loop-handler.world c.loop-handler.active) c.loop-handler.self.ticks_left refl (omega (arith, h.0, c.len.ensures, c.in-Known.errors.ok.0))) in
-    c.loop-handler.invariant.rest (Err (stop_of c.in_err-take_ticks-in-Known.field-0.0)) _ (rw (drop_next c.args.handlers.now c.loop-handler.handler-index c.handler-item.result c.loop-handler-test.true c.handler-item.is, c.handler_parts-parts.ensures (source_handler_list (drop (c.loop-handler.handler-index + 1) c.args.handlers.now))) (codes_stop e (ap Err (sym h.1)))))
+    let h = c.in_err-values.ensures.meaning k in
+    c.loop-handler.invariant.rest (Err (stop_of c.in_err-values.field-0.0)) _ (rw (drop_next c.args.handlers.now c.loop-handler.handler-index c.handler-item.result c.loop-handler-test.true c.handler-item.is, c.handler_parts-parts.ensures (source_handler_list (drop (c.loop-handler.handler-index + 1) c.args.handlers.now))) (codes_stop h.1 h.2)))
 
-pub prepare-returns-in_err-values-in-Listed-clause-meaning : goal.prepare-returns-in_err-values-in-Listed-clause-meaning
-prepare-returns-in_err-values-in-Listed-clause-meaning t c =
-    let p = err_from_is_err_and c.from_residual-in_err-values-in-Listed.result c.from_residual-in_err-values-in-Listed.ensures.1 in
+pub code_values-returns-in-Any-clause-meaning : goal.code_values-returns-in-Any-clause-meaning
+code_values-returns-in-Any-clause-meaning t c = λ k. (Ok [], rw c.in-Any.is no_more, rw (c.in-Any.is, c.new.ensures.items) refl)
+
+pub code_values-returns-in_ok-take_ticks-in-Known-clause-meaning : goal.code_values-returns-in_ok-take_ticks-in-Known-clause-meaning
+code_values-returns-in_ok-take_ticks-in-Known-clause-meaning t c = λ k. (
+  Ok (map (λ e. error e) c.in-Known.errors.items),
+  rw (c.in-Known.is, c.in_ok-take_ticks-in-Known.ensures.left) (errors_given c.in-Known.errors.items (state_of c.args.self.now c.args.world.now c.args.active.now) (c.args.self.now.ticks_left - c.len.result) (omega (arith, c.in_ok-take_ticks-in-Known.ensures.taken, c.len.ensures, c.in-Known.errors.ok.0)) (omega (arith, c.len.ensures, c.in-Known.errors.ok.0))),
+  rw c.in-Known.is refl,
+)
+
+pub code_values-returns-in_err-take_ticks-in-Known-clause-meaning : goal.code_values-returns-in_err-take_ticks-in-Known-clause-meaning
+code_values-returns-in_err-take_ticks-in-Known-clause-meaning t c =
+    let p = err_from_is_err_and c.from_residual.result c.from_residual.ensures.1 in
     rw (p.1, p.2) (λ k.
-    let e : EvaluatesAll Faults (context_of c.args.stack.now None) (guards (source_codes c.handler_parts-parts.result.codes.now)) (state_of c.loop-handler.self c.loop-handler.world c.loop-handler.active) (seen_answers c.evaluate_codes-outcome.result) (state_of c.evaluate_codes-outcome.new.self c.evaluate_codes-outcome.new.world c.evaluate_codes-outcome.new.active) =
-    rw (c.in-Listed.is, row_items, ← c.deref.ensures.value) (c.evaluate_codes-outcome.ensures.meaning (c.in_err-values-in-Listed.ensures.known k)) in
-    c.loop-handler.invariant.rest (Err (stop_of c.in_err-values-in-Listed.field-0.0)) _ (rw (drop_next c.args.handlers.now c.loop-handler.handler-index c.handler-item.result c.loop-handler-test.true c.handler-item.is, c.handler_parts-parts.ensures (source_handler_list (drop (c.loop-handler.handler-index + 1) c.args.handlers.now))) (codes_stop e (c.in_err-values-in-Listed.ensures.outcome k))))
+    let h = c.in_err-take_ticks-in-Known.ensures.spent k in (
+      Err (stops (out_of_ticks (trace_of c.args.stack.now c.args.active.now))),
+      rw (c.in-Known.is, c.in_err-take_ticks-in-Known.ensures.emptied) (errors_end c.in-Known.errors.items (state_of c.args.self.now c.args.world.now c.args.active.now) c.args.self.now.ticks_left refl (omega (arith, h.0, c.len.ensures, c.in-Known.errors.ok.0))),
+      ap Err (sym h.1),
+    ))
+
+pub code_values-returns-in-Listed-clause-meaning : goal.code_values-returns-in-Listed-clause-meaning
+code_values-returns-in-Listed-clause-meaning t c = λ k. (
+  seen_answers c.evaluate_codes-outcome.result,
+  rw (c.in-Listed.is, row_items, ← c.deref.ensures.value) (c.evaluate_codes-outcome.ensures.meaning (c.settle_codes.ensures.known k)),
+  c.settle_codes.ensures.outcome k ∙ codes_given c.args.codes.now (λ vs. rw c.in-Listed.is refl) c.settle_codes.result,
+)
 
 pub prepare-returns-clause-meaning : goal.prepare-returns-clause-meaning
 prepare-returns-clause-meaning t c =
@@ -764,14 +803,6 @@ pub assign_variable-returns-in_err-value-clause-meaning : goal.assign_variable-r
 assign_variable-returns-in_err-value-clause-meaning t c =
     let p = err_from_is_err_and c.from_residual.result c.from_residual.ensures.1 in rw (p.1, p.2) (λ k. unassigned (c.in_err-value.ensures.meaning k))
 
-pub assign_alone-returns-then-try_assign-clause-meaning : goal.assign_alone-returns-then-try_assign-clause-meaning
-assign_alone-returns-then-try_assign-clause-meaning t c =
-    λ k. c.try_assign.ensures.assigned c.if-try_assign.true c.args.world.now (context_of c.args.stack.now None)
-
-pub assign_alone-returns-clause-meaning : goal.assign_alone-returns-clause-meaning
-assign_alone-returns-clause-meaning t c =
-    λ k. does_from (c.try_assign.ensures.kept c.if-try_assign.false c.args.world.now) (c.assign_value.ensures.meaning k)
-
 pub assign_value-returns-clause-meaning : goal.assign_value-returns-clause-meaning
 assign_value-returns-clause-meaning t c =
     λ k. performed c.in_ok-take_tick.ensures.taken (assigned (rw c.in_ok-take_tick.ensures.left at (c.in_ok-value.ensures.meaning tt)) (same_state (sym c.in_ok-set.ensures) refl))
@@ -784,53 +815,45 @@ pub assign_value-returns-in_err-value-clause-meaning : goal.assign_value-returns
 assign_value-returns-in_err-value-clause-meaning t c =
     let p = err_from_is_err_and c.from_residual-in_err-value.result c.from_residual-in_err-value.ensures.1 in rw (p.1, p.2) (λ k. unperformed c.in_ok-take_tick.ensures.taken (unassigned (rw c.in_ok-take_tick.ensures.left at (c.in_err-value.ensures.meaning k))))
 
-pub lengthen-returns-in-Ok-clause-meaning : goal.lengthen-returns-in-Ok-clause-meaning
-lengthen-returns-in-Ok-clause-meaning t c =
+pub lengthen_parts-returns-in-Ok-clause-meaning : goal.lengthen_parts-returns-in-Ok-clause-meaning
+lengthen_parts-returns-in-Ok-clause-meaning t c =
     λ k. set_longer c.in_ok-take_tick.ensures.taken (rw c.in_ok-take_tick.ensures.left at c.in_ok-take_tick-2.ensures.taken) (rw (c.in_ok-take_tick-2.ensures.left, c.in_ok-take_tick.ensures.left) at c.in-Ok.ensures.ok)
 
-pub lengthen-returns-in_ok-set-in-Err-clause-meaning : goal.lengthen-returns-in_ok-set-in-Err-clause-meaning
-lengthen-returns-in_ok-set-in-Err-clause-meaning t c =
+pub lengthen_parts-returns-in_ok-set-in-Err-clause-meaning : goal.lengthen_parts-returns-in_ok-set-in-Err-clause-meaning
+lengthen_parts-returns-in_ok-set-in-Err-clause-meaning t c =
     λ k. set_error c.in_ok-take_tick.ensures.taken (rw c.in_ok-take_tick.ensures.left at c.in_ok-take_tick-2.ensures.taken) (rw (c.in_ok-take_tick-2.ensures.left, c.in_ok-take_tick.ensures.left) at (c.in-Err.ensures.err (c.in_ok-value-in-Err.ensures.known tt))) (c.in_ok-value-in-Err.ensures.outcome tt) (same_state (sym c.in_ok-set-in-Err.ensures) refl)
 
-pub lengthen-returns-in_err-value-in-Err-clause-meaning : goal.lengthen-returns-in_err-value-in-Err-clause-meaning
-lengthen-returns-in_err-value-in-Err-clause-meaning t c =
+pub lengthen_parts-returns-in_err-value-in-Err-clause-meaning : goal.lengthen_parts-returns-in_err-value-in-Err-clause-meaning
+lengthen_parts-returns-in_err-value-in-Err-clause-meaning t c =
     let p = err_from_is_err_and c.from_residual-in_err-value-in-Err.result c.from_residual-in_err-value-in-Err.ensures.1 in rw (p.1, p.2) (λ k. not_set c.in_ok-take_tick.ensures.taken (rw c.in_ok-take_tick.ensures.left at c.in_ok-take_tick-2.ensures.taken) (rw (c.in_ok-take_tick-2.ensures.left, c.in_ok-take_tick.ensures.left) at (c.in-Err.ensures.err (c.in_err-value-in-Err.ensures.known k))) (c.in_err-value-in-Err.ensures.outcome k))
 
-pub lengthen-returns-in_err-take_tick-clause-meaning : goal.lengthen-returns-in_err-take_tick-clause-meaning
-lengthen-returns-in_err-take_tick-clause-meaning t c =
+pub lengthen_parts-returns-in_err-take_tick-clause-meaning : goal.lengthen_parts-returns-in_err-take_tick-clause-meaning
+lengthen_parts-returns-in_err-take_tick-clause-meaning t c =
     let p = err_from_is_err_and c.from_residual.result c.from_residual.ensures.1 in rw (p.1, p.2) (λ k. let h = c.in_err-take_tick.ensures.spent k in rw (c.in_err-take_tick.ensures.kept, h.1) (evaluates (spent h.0) refl))
 
-pub lengthen-returns-in_err-take_tick-2-clause-meaning : goal.lengthen-returns-in_err-take_tick-2-clause-meaning
-lengthen-returns-in_err-take_tick-2-clause-meaning t c =
+pub lengthen_parts-returns-in_err-take_tick-2-clause-meaning : goal.lengthen_parts-returns-in_err-take_tick-2-clause-meaning
+lengthen_parts-returns-in_err-take_tick-2-clause-meaning t c =
     let p = err_from_is_err_and c.from_residual-in_err-take_tick-2.result c.from_residual-in_err-take_tick-2.ensures.1 in rw (p.1, p.2) (λ k. let h = c.in_err-take_tick-2.ensures.spent k in rw (c.in_err-take_tick-2.ensures.kept, c.in_ok-take_tick.ensures.left, h.1) (unperformed c.in_ok-take_tick.ensures.taken (unassigned (spent (rw c.in_ok-take_tick.ensures.left at h.0)))))
 
-pub extend_value-returns-in-Ok-clause-meaning : goal.extend_value-returns-in-Ok-clause-meaning
-extend_value-returns-in-Ok-clause-meaning t c =
+pub extend_parts-returns-in-Ok-clause-meaning : goal.extend_parts-returns-in-Ok-clause-meaning
+extend_parts-returns-in-Ok-clause-meaning t c =
     λ k. set_longer c.in_ok-take_tick.ensures.taken (rw c.in_ok-take_tick.ensures.left at c.in_ok-take_tick-2.ensures.taken) (rw (c.in_ok-take_tick-2.ensures.left, c.in_ok-take_tick.ensures.left) at c.in-Ok.ensures.ok)
 
-pub extend_value-returns-in_ok-set-in-Err-clause-meaning : goal.extend_value-returns-in_ok-set-in-Err-clause-meaning
-extend_value-returns-in_ok-set-in-Err-clause-meaning t c =
+pub extend_parts-returns-in_ok-set-in-Err-clause-meaning : goal.extend_parts-returns-in_ok-set-in-Err-clause-meaning
+extend_parts-returns-in_ok-set-in-Err-clause-meaning t c =
     λ k. set_error c.in_ok-take_tick.ensures.taken (rw c.in_ok-take_tick.ensures.left at c.in_ok-take_tick-2.ensures.taken) (rw (c.in_ok-take_tick-2.ensures.left, c.in_ok-take_tick.ensures.left) at (c.in-Err.ensures.err (c.in_ok-value-in-Err.ensures.known tt))) (c.in_ok-value-in-Err.ensures.outcome tt) (same_state (sym c.in_ok-set-in-Err.ensures) refl)
 
-pub extend_value-returns-in_err-value-in-Err-clause-meaning : goal.extend_value-returns-in_err-value-in-Err-clause-meaning
-extend_value-returns-in_err-value-in-Err-clause-meaning t c =
+pub extend_parts-returns-in_err-value-in-Err-clause-meaning : goal.extend_parts-returns-in_err-value-in-Err-clause-meaning
+extend_parts-returns-in_err-value-in-Err-clause-meaning t c =
     let p = err_from_is_err_and c.from_residual-in_err-value-in-Err.result c.from_residual-in_err-value-in-Err.ensures.1 in rw (p.1, p.2) (λ k. not_set c.in_ok-take_tick.ensures.taken (rw c.in_ok-take_tick.ensures.left at c.in_ok-take_tick-2.ensures.taken) (rw (c.in_ok-take_tick-2.ensures.left, c.in_ok-take_tick.ensures.left) at (c.in-Err.ensures.err (c.in_err-value-in-Err.ensures.known k))) (c.in_err-value-in-Err.ensures.outcome k))
 
-pub extend_value-returns-in_err-take_tick-clause-meaning : goal.extend_value-returns-in_err-take_tick-clause-meaning
-extend_value-returns-in_err-take_tick-clause-meaning t c =
+pub extend_parts-returns-in_err-take_tick-clause-meaning : goal.extend_parts-returns-in_err-take_tick-clause-meaning
+extend_parts-returns-in_err-take_tick-clause-meaning t c =
     let p = err_from_is_err_and c.from_residual.result c.from_residual.ensures.1 in rw (p.1, p.2) (λ k. let h = c.in_err-take_tick.ensures.spent k in rw (c.in_err-take_tick.ensures.kept, h.1) (evaluates (spent h.0) refl))
 
-pub extend_value-returns-in_err-take_tick-2-clause-meaning : goal.extend_value-returns-in_err-take_tick-2-clause-meaning
-extend_value-returns-in_err-take_tick-2-clause-meaning t c =
+pub extend_parts-returns-in_err-take_tick-2-clause-meaning : goal.extend_parts-returns-in_err-take_tick-2-clause-meaning
+extend_parts-returns-in_err-take_tick-2-clause-meaning t c =
     let p = err_from_is_err_and c.from_residual-in_err-take_tick-2.result c.from_residual-in_err-take_tick-2.ensures.1 in rw (p.1, p.2) (λ k. let h = c.in_err-take_tick-2.ensures.spent k in rw (c.in_err-take_tick-2.ensures.kept, c.in_ok-take_tick.ensures.left, h.1) (unperformed c.in_ok-take_tick.ensures.taken (unassigned (spent (rw c.in_ok-take_tick.ensures.left at h.0)))))
-
-pub extend-returns-then-try_add-clause-meaning : goal.extend-returns-then-try_add-clause-meaning
-extend-returns-then-try_add-clause-meaning t c =
-    λ k. c.try_add.ensures.added c.if-try_add.true c.args.world.now (context_of c.args.stack.now None)
-
-pub extend-returns-clause-meaning : goal.extend-returns-clause-meaning
-extend-returns-clause-meaning t c =
-    λ k. does_from (c.try_add.ensures.kept c.if-try_add.false c.args.world.now) (c.extend_value.ensures.meaning k)
 
 pub put_extended-returns-clause-ok : goal.put_extended-returns-clause-ok
 put_extended-returns-clause-ok t c =
@@ -852,7 +875,7 @@ put_extended-returns-in_err-set_sum-clause-err t c =
 
 pub perform-returns-in-Extend-clause-meaning : goal.perform-returns-in-Extend-clause-meaning
 perform-returns-in-Extend-clause-meaning t c =
-    λ k. rw (c.in-Extend.is, ← c.deref-in-Extend.ensures) (c.extend.ensures.meaning k)
+    λ k. rw (c.in-Extend.is, ← c.deref-in-Extend.ensures) (c.extend_value.ensures.meaning k)
 
 pub update-returns-in-Ok-clause-meaning : goal.update-returns-in-Ok-clause-meaning
 update-returns-in-Ok-clause-meaning t c =
@@ -919,14 +942,6 @@ put_longer-returns-in_err-set_longer-clause-err t c =
     let p = err_from_is_err_and c.from_residual-in_err-set_longer.result c.from_residual-in_err-set_longer.ensures.1 in
     rw (p.1, p.2) (λ k. subst (λ s. Computes Faults (context_of c.args.stack.now None) (program.list (splice (variable c.args.name.now) (element (source c.args.last.now) no_items))) (state_of c.args.self.now c.args.world.now c.args.active.now) (Err (failure_of c.in_err-set_longer.field-0.0)) s) (same_state (sym (c.in_err-set_longer.ensures.kept k)) refl) (too_long c.in-List.list (rw c.in-List.is at (c.in_ok-found.ensures.meaning None c.args.world.now tt)) (c.in_ok-last.ensures.meaning tt) (c.in_err-set_longer.ensures.err k)))
 
-pub set_place-returns-then-try_put-clause-meaning : goal.set_place-returns-then-try_put-clause-meaning
-set_place-returns-then-try_put-clause-meaning t c =
-    λ k. c.try_put.ensures.put c.if-try_put.true c.args.world.now (context_of c.args.stack.now None)
-
-pub set_place-returns-clause-meaning : goal.set_place-returns-clause-meaning
-set_place-returns-clause-meaning t c =
-    λ k. does_from (c.try_put.ensures.kept c.if-try_put.false c.args.world.now) (c.set_element.ensures.meaning k)
-
 pub set_element-returns-in-Ok-clause-meaning : goal.set_element-returns-in-Ok-clause-meaning
 set_element-returns-in-Ok-clause-meaning t c =
     λ k. put_alone c.in_ok-take_tick.ensures.taken (rw c.in_ok-take_tick.ensures.left at c.in-Ok.ensures.ok)
@@ -964,13 +979,18 @@ put_at-returns-in_err-set_at-clause-err t c =
     let p = err_from_is_err_and c.from_residual-in_err-set_at.result c.from_residual-in_err-set_at.ensures.1 in
     rw (p.1, p.2) (λ k. subst (λ s. Computes Faults (context_of c.args.stack.now None) (sets_place c.args.name.now (source c.args.place.now) (source c.args.value.now)) (state_of c.args.self.now c.args.world.now c.args.active.now) (Err (failure_of c.in_err-set_at.field-0.0)) s) (same_state (sym (c.in_err-set_at.ensures.kept k)) refl) (not_put (c.in_ok-container.ensures.value tt) (c.in_ok-place.ensures.meaning tt) (c.in_ok-value.ensures.meaning tt) (c.in_err-set_at.ensures.err k)))
 
+pub drop_value-returns-then-is_put-clause-meaning : goal.drop_value-returns-then-is_put-clause-meaning
+drop_value-returns-then-is_put-clause-meaning t c =
+    λ k. c.in_ok-is_put.ensures.put c.if-is_put.true c.args.world.now (context_of c.args.stack.now None)
+
 pub drop_value-returns-clause-meaning : goal.drop_value-returns-clause-meaning
-drop_value-returns-clause-meaning t c = λ k. evaluates (c.in_ok-_value.ensures.meaning tt) refl
+drop_value-returns-clause-meaning t c =
+    λ k. does_from (c.in_ok-is_put.ensures.kept c.if-is_put.false c.args.world.now) (evaluates (c.in_ok-_value.ensures.meaning tt) refl)
 
 pub drop_value-returns-in_err-_value-clause-meaning : goal.drop_value-returns-in_err-_value-clause-meaning
 drop_value-returns-in_err-_value-clause-meaning t c =
-    let p = err_from_is_err_and c.from_residual.result c.from_residual.ensures.1 in
-    rw (p.1, p.2) (λ k. evaluates (c.in_err-_value.ensures.meaning k) refl)
+    let p = err_from_is_err_and c.from_residual-in_err-_value.result c.from_residual-in_err-_value.ensures.1 in
+    rw (p.1, p.2) (λ k. does_from (c.in_ok-is_put.ensures.kept c.if-is_put.false c.args.world.now) (evaluates (c.in_err-_value.ensures.meaning k) refl))
 
 pub proceed-returns-in-Answer-clause-meaning : goal.proceed-returns-in-Answer-clause-meaning
 proceed-returns-in-Answer-clause-meaning t c =
@@ -1018,60 +1038,8 @@ pub store-returns-in-Variable-clause-meaning : goal.store-returns-in-Variable-cl
 store-returns-in-Variable-clause-meaning t c =
     λ k. rw c.in-Variable.is (rw c.in_ok-value.ensures.value at (c.store_variable.ensures (context_of c.args.stack.now c.args.indexed) c.args.world.now k))
 
-pub repeat-returns-then-not-passes-clause-meaning : goal.repeat-returns-then-not-passes-clause-meaning
-repeat-returns-then-not-passes-clause-meaning t c =
-    λ k. c.turns.invariant.rest (Ok next) _ (loop_ends c.in_ok-passes.ensures.ok.1 (c.in_ok-passes.ensures.ok.2 ∙ c.if-not-passes.true))
-
-pub repeat-returns-in-Some-clause-meaning : goal.repeat-returns-in-Some-clause-meaning
-repeat-returns-in-Some-clause-meaning t c =
-    λ k. c.turns.invariant.rest (Ok (flow_of c.in-Some.flow)) _ (loop_left c.in_ok-passes.ensures.ok.1 (c.in_ok-passes.ensures.ok.2 ∙ c.if-not-passes.false) (rw c.in-Some.is at (c.in_ok-flow.ensures.meaning tt)))
-
-pub repeat-returns-in_err-passes-clause-meaning : goal.repeat-returns-in_err-passes-clause-meaning
-repeat-returns-in_err-passes-clause-meaning t c =
-    let p = err_from_is_err_and c.from_residual.result c.from_residual.ensures.1 in rw (p.1, p.2) (λ k. c.turns.invariant.rest (Err (stop_of c.in_err-passes.field-0.0)) _ (loop_stops (c.in_err-passes.ensures.err k)))
-
-pub repeat-turns-preserved : goal.repeat-turns-preserved
-repeat-turns-preserved t c =
-    record { ticks = omega arith; rest = λ o s d. c.turns.invariant.rest o s (loop_then c.in_ok-passes.ensures.ok.1 (c.in_ok-passes.ensures.ok.2 ∙ c.if-not-passes.false) (rw (none_left c.in_ok-flow.field-0 c.in_default.not-Some) at (c.in_ok-flow.ensures.meaning tt)) d) }
-
-pub repeat-returns-in_err-flow-clause-meaning : goal.repeat-returns-in_err-flow-clause-meaning
-repeat-returns-in_err-flow-clause-meaning t c =
-    let p = err_from_is_err_and c.from_residual-in_err-flow.result c.from_residual-in_err-flow.ensures.1 in rw (p.1, p.2) (λ k. c.turns.invariant.rest (Err (stop_of c.in_err-flow.field-0.0)) _ (loop_left c.in_ok-passes.ensures.ok.1 (c.in_ok-passes.ensures.ok.2 ∙ c.if-not-passes.false) (c.in_err-flow.ensures.meaning k)))
-
-pub visit_all-returns-clause-meaning : goal.visit_all-returns-clause-meaning
-visit_all-returns-clause-meaning t c =
-    λ k. c.loop-value.invariant.rest (Ok next) _ (rw (drop_of_length-le c.args.values.now c.loop-value-test.false) all_visited)
-
-pub visit_all-returns-in-Some-clause-meaning : goal.visit_all-returns-in-Some-clause-meaning
-visit_all-returns-in-Some-clause-meaning t c =
-    λ k. c.loop-value.invariant.rest (Ok (flow_of c.in-Some.flow)) _ (rw (drop_next c.args.values.now c.loop-value.value-index c.value-item.result c.loop-value-test.true c.value-item.is) (visit_left (rw (c.in-Some.is, c.in_ok-value.ensures.value) at (c.in_ok-flow.ensures.meaning tt))))
-
-pub visit_all-loop-value-preserved : goal.visit_all-loop-value-preserved
-visit_all-loop-value-preserved t c =
-    record { ticks = omega arith; rest = λ o s d. c.loop-value.invariant.rest o s (rw (drop_next c.args.values.now c.loop-value.value-index c.value-item.result c.loop-value-test.true c.value-item.is) (visit_then (rw ((none_left c.in_ok-flow.field-0 c.in_default.not-Some), c.in_ok-value.ensures.value) at (c.in_ok-flow.ensures.meaning tt)) d)) }
-
-pub visit_all-returns-in_err-flow-clause-meaning : goal.visit_all-returns-in_err-flow-clause-meaning
-visit_all-returns-in_err-flow-clause-meaning t c =
-    let p = err_from_is_err_and c.from_residual-in_err-flow.result c.from_residual-in_err-flow.ensures.1 in rw (p.1, p.2) (λ k. c.loop-value.invariant.rest (Err (stop_of c.in_err-flow.field-0.0)) _ (rw (drop_next c.args.values.now c.loop-value.value-index c.value-item.result c.loop-value-test.true c.value-item.is) (visit_left (rw c.in_ok-value.ensures.value at (c.in_err-flow.ensures.meaning k)))))
-
-pub count-returns-in_err-flow-clause-meaning : goal.count-returns-in_err-flow-clause-meaning
-count-returns-in_err-flow-clause-meaning t c =
-    let p = err_from_is_err_and c.from_residual.result c.from_residual.ensures.1 in rw (p.1, p.2) (λ k. let f : SFits w32 c.args.span.low = search rules in let g : SFits w32 c.args.span.high = search rules in let h = reached (to_z w64 c.numbers.number-bits) c.from.result c.args.span.high true g c.from.ensures c.numbers-test.true in let e = c.value-value.ensures ∙ ap (numbered c.args.span.are_objects) (narrow c.args.span.low c.args.span.high (to_z w64 c.numbers.number-bits) f g c.numbers.invariant.low h) in c.numbers.invariant.rest (Err (stop_of c.in_err-flow.field-0.0)) _ (count_left h (rw e at (c.in_err-flow.ensures.meaning k))))
-
-pub count-returns-in-Some-clause-meaning : goal.count-returns-in-Some-clause-meaning
-count-returns-in-Some-clause-meaning t c =
-    λ k. let f : SFits w32 c.args.span.low = search rules in let g : SFits w32 c.args.span.high = search rules in let h = reached (to_z w64 c.numbers.number-bits) c.from.result c.args.span.high true g c.from.ensures c.numbers-test.true in let e = c.value-value.ensures ∙ ap (numbered c.args.span.are_objects) (narrow c.args.span.low c.args.span.high (to_z w64 c.numbers.number-bits) f g c.numbers.invariant.low h) in c.numbers.invariant.rest (Ok (flow_of c.in-Some.flow)) _ (count_left h (rw (c.in-Some.is, e) at (c.in_ok-flow.ensures.meaning tt)))
-
-pub count-numbers-preserved : goal.count-numbers-preserved
-count-numbers-preserved t c =
-    let f : SFits w32 c.args.span.low = search rules in let g : SFits w32 c.args.span.high = search rules in let h = reached (to_z w64 c.numbers.number-bits) c.from.result c.args.span.high true g c.from.ensures c.numbers-test.true in let e = c.value-value.ensures ∙ ap (numbered c.args.span.are_objects) (narrow c.args.span.low c.args.span.high (to_z w64 c.numbers.number-bits) f g c.numbers.invariant.low h) in let q = next_number c.args.span.low c.args.span.high (to_z w64 c.numbers.number-bits) f g c.numbers.invariant.low h in record { ticks = omega arith; low = subst (λ x. c.args.span.low ≤ℤ x) (sym q) (not_below c.args.span.low (to_z w64 c.numbers.number-bits) c.numbers.invariant.low); rest = λ o s d. c.numbers.invariant.rest o s (count_then h (rw (c.in_default.is, e) at (c.in_ok-flow.ensures.meaning tt)) (subst (λ x. Counts Faults (context_of c.args.stack.now None) c.args.name.now c.args.span x (source_block c.args.body.now) (state_of c.visit.new.self c.visit.new.world c.visit.new.active) o s) q d)) }
-
-pub count-returns-clause-meaning : goal.count-returns-clause-meaning
-count-returns-clause-meaning t c =
-    λ k. let g : SFits w32 c.args.span.high = search rules in let h = reached (to_z w64 c.numbers.number-bits) c.from.result c.args.span.high false g c.from.ensures c.numbers-test.false in c.numbers.invariant.rest (Ok next) _ (all_counted h)
-
-pub call_literal-returns-in_err-base-clause-meaning : goal.call_literal-returns-in_err-base-clause-meaning
-call_literal-returns-in_err-base-clause-meaning t c =
+pub call_evaluated-returns-in_err-base-clause-meaning : goal.call_evaluated-returns-in_err-base-clause-meaning
+call_evaluated-returns-in_err-base-clause-meaning t c =
     let p = err_from_is_err_and c.from_residual.result c.from_residual.ensures.1 in rw (p.1, p.2) (λ k. operands_end (element_stops (c.in_err-base.ensures.meaning k)))
 
 pub call_computed-returns-in_err-base-clause-meaning : goal.call_computed-returns-in_err-base-clause-meaning
@@ -1082,12 +1050,12 @@ pub call_computed-returns-in_err-name-clause-meaning : goal.call_computed-return
 call_computed-returns-in_err-name-clause-meaning t c =
     let p = err_from_is_err_and c.from_residual-in_err-name.result c.from_residual-in_err-name.ensures.1 in rw (p.1, p.2) (λ k. operands_end (element_then (c.in_ok-base.ensures.meaning tt) (element_stops (c.in_err-name.ensures.meaning k)) refl))
 
-pub call_literal-returns-in_err-take_tick-clause-meaning : goal.call_literal-returns-in_err-take_tick-clause-meaning
-call_literal-returns-in_err-take_tick-clause-meaning t c =
+pub call_evaluated-returns-in_err-take_tick-clause-meaning : goal.call_evaluated-returns-in_err-take_tick-clause-meaning
+call_evaluated-returns-in_err-take_tick-clause-meaning t c =
     let p = err_from_is_err_and c.from_residual-in_err-take_tick.result c.from_residual-in_err-take_tick.ensures.1 in rw (p.1, p.2) (λ k. let h = c.in_err-take_tick.ensures.spent k in rw (c.in_err-take_tick.ensures.kept, h.1) (operands_end (element_then (c.in_ok-base.ensures.meaning tt) (element_stops (spent h.0)) refl)))
 
-pub call_literal-returns-clause-meaning : goal.call_literal-returns-clause-meaning
-call_literal-returns-clause-meaning t c =
+pub call_evaluated-returns-clause-meaning : goal.call_evaluated-returns-clause-meaning
+call_evaluated-returns-clause-meaning t c =
     λ k. (applies (element_then (c.in_ok-base.ensures.meaning tt) (element_then (literal_read c.in_ok-take_tick.ensures.taken) (rw c.in_ok-take_tick.ensures.left at (c.in_ok-evaluate_arguments.ensures.meaning tt)) refl) refl) no_more (c.call_written.ensures.meaning c.args.indexed _ _ _ k))
 
 pub call_computed-returns-clause-meaning : goal.call_computed-returns-clause-meaning
@@ -1099,21 +1067,13 @@ run_called-returns-clause-meaning t c =
     let f : SFits w32 c.args.called.stack.running.programmer = search rules in
     λ caller k. record { outcome = _; last = _; runs = runs_from (same_state c.in_ok-begun.ensures (to_z-of_z w32 c.args.called.stack.running.programmer f)) c.code-statements.ensures (c.run_all-outcome.ensures.meaning (c.answered.ensures.known k)); leaves = refl; gives = c.answered.ensures.answer }
 
-pub run-returns-clause-meaning : goal.run-returns-clause-meaning
-run-returns-clause-meaning t c =
-    λ k. statement_begins c.in_ok-take_tick.ensures.taken (rw c.in_ok-take_tick.ensures.left at (c.perform.ensures.meaning k))
-
-pub run-returns-in_err-take_tick-clause-meaning : goal.run-returns-in_err-take_tick-clause-meaning
-run-returns-in_err-take_tick-clause-meaning t c =
-    let p = err_from_is_err_and c.from_residual.result c.from_residual.ensures.1 in rw (p.1, p.2) (λ k. let h = c.in_err-take_tick.ensures.spent k in rw (c.in_err-take_tick.ensures.kept, h.1) (statement_spent h.0))
-
 pub run_called-returns-clause-fewer : goal.run_called-returns-clause-fewer
 run_called-returns-clause-fewer t c =
     λ begins. comes_on _ c.answered.result c.run_all-outcome.result c.answered.ensures.comes (on_ok_weaker c.run_all-outcome.result (λ h. h (λ e. begins (sym c.code-statements.ensures ∙ e))) c.run_all-outcome.ensures.fewer)
 
 pub perform-returns-in-Set-clause-meaning : goal.perform-returns-in-Set-clause-meaning
 perform-returns-in-Set-clause-meaning t c =
-    λ k. rw (c.in-Set.is, ← c.deref-in-Set.ensures) (c.assign_alone.ensures.meaning k)
+    λ k. rw (c.in-Set.is, ← c.deref-in-Set.ensures) (c.assign_value.ensures.meaning k)
 
 pub perform-returns-in-Lengthen-clause-meaning : goal.perform-returns-in-Lengthen-clause-meaning
 perform-returns-in-Lengthen-clause-meaning t c =
@@ -1121,7 +1081,7 @@ perform-returns-in-Lengthen-clause-meaning t c =
 
 pub perform-returns-in-Put-clause-meaning : goal.perform-returns-in-Put-clause-meaning
 perform-returns-in-Put-clause-meaning t c =
-    λ k. rw (c.in-Put.is, ← c.deref-in-Put.ensures, ← c.deref-in-Put-2.ensures) (c.set_place.ensures.meaning k)
+    λ k. rw (c.in-Put.is, ← c.deref-in-Put.ensures, ← c.deref-in-Put-2.ensures) (c.set_element.ensures.meaning k)
 
 pub assign-returns-in-Variable-clause-meaning : goal.assign-returns-in-Variable-clause-meaning
 assign-returns-in-Variable-clause-meaning t c = λ k. rw c.in-Variable.is (c.assign_variable.ensures.meaning k)
@@ -1153,17 +1113,6 @@ written_property-returns-in_err-take_tick-clause-meaning t c =
 pub written_property-returns-clause-meaning : goal.written_property-returns-clause-meaning
 written_property-returns-clause-meaning t c =
     λ k. rw (c.in_ok-take_tick.ensures.left) (applies (element_then (c.in_ok-base.ensures.meaning tt) (element_then (literal_read c.in_ok-take_tick.ensures.taken) no_more refl) refl) no_more (let f : SFits w32 c.evaluate.new.active.programmer = search rules in property_is (rw (to_z-of_z w32 c.evaluate.new.active.programmer f) at (c.read_written.ensures.value k))))
-
-pub literal_property-returns-in-Some-clause-meaning : goal.literal_property-returns-in-Some-clause-meaning
-literal_property-returns-in-Some-clause-meaning t c =
-    let h = c.in-Some.ensures.some in
-    let object : SFits w32 c.in-Some.object = search rules in
-    let programmer : SFits w32 c.args.active.now.programmer = search rules in
-    λ k. rw h.2 (property.property_computed (variables_of c.args.active.now.variables) c.args.name.now h.0 (rw (to_z-of_z w32 c.in-Some.object object, to_z-of_z w32 c.args.active.now.programmer programmer) at (c.read_written.ensures.value k)) refl h.1)
-
-pub literal_property-returns-in-None-clause-meaning : goal.literal_property-returns-in-None-clause-meaning
-literal_property-returns-in-None-clause-meaning t c =
-    λ k. rw c.in-None.ensures.none at (c.written_property.ensures.meaning k)
 
 pub put_property-returns-in_err-base-clause-err : goal.put_property-returns-in_err-base-clause-err
 put_property-returns-in_err-base-clause-err t c =
@@ -1259,26 +1208,26 @@ put_prepended-returns-in_err-set_prepended-clause-err t c =
     let p = err_from_is_err_and c.from_residual-in_err-set_prepended.result c.from_residual-in_err-set_prepended.ensures.1 in
     rw (p.1, p.2) (λ k. subst (λ s. Computes Faults (context_of c.args.stack.now None) (program.list (element (source c.args.first.now) (splice (variable c.args.name.now) no_items))) (state_of c.args.self.now c.args.world.now c.args.active.now) (Err (failure_of c.in_err-set_prepended.field-0.0)) s) (same_state (sym (c.in_err-set_prepended.ensures.kept k)) refl) (front.too_long c.in-List.list (c.in_ok-first.ensures.meaning tt) (rw c.in-List.is at (c.in_ok-found.ensures.meaning None c.evaluate.new.world tt)) (c.in_err-set_prepended.ensures.err k)))
 
-pub scatter_names-returns-in_err-take_tick-clause-meaning : goal.scatter_names-returns-in_err-take_tick-clause-meaning
-scatter_names-returns-in_err-take_tick-clause-meaning t c =
+pub scatter_value-returns-in_err-take_tick-clause-meaning : goal.scatter_value-returns-in_err-take_tick-clause-meaning
+scatter_value-returns-in_err-take_tick-clause-meaning t c =
     let p = err_from_is_err_and c.from_residual.result c.from_residual.ensures.1 in rw (p.1, p.2) (λ k. let h = c.in_err-take_tick.ensures.spent k in rw (c.in_err-take_tick.ensures.kept, h.1) (evaluates (spent h.0) refl))
 
-pub scatter_names-returns-in_err-value-clause-meaning : goal.scatter_names-returns-in_err-value-clause-meaning
-scatter_names-returns-in_err-value-clause-meaning t c =
+pub scatter_value-returns-in_err-value-clause-meaning : goal.scatter_value-returns-in_err-value-clause-meaning
+scatter_value-returns-in_err-value-clause-meaning t c =
     let p = err_from_is_err_and c.from_residual-in_err-value.result c.from_residual-in_err-value.ensures.1 in rw (p.1, p.2) (λ k. unperformed c.in_ok-take_tick.ensures.taken (property.undealt (rw c.in_ok-take_tick.ensures.left at (c.in_err-value.ensures.meaning k))))
 
-pub scatter_names-returns-in-Ok-clause-meaning : goal.scatter_names-returns-in-Ok-clause-meaning
-scatter_names-returns-in-Ok-clause-meaning t c =
+pub scatter_value-returns-in-Ok-clause-meaning : goal.scatter_value-returns-in-Ok-clause-meaning
+scatter_value-returns-in-Ok-clause-meaning t c =
     let h = c.in-Ok.ensures.ok in
     λ k. performed c.in_ok-take_tick.ensures.taken (property.dealt (rw c.in_ok-take_tick.ensures.left at (c.in_ok-value.ensures.meaning tt)) (property.names_set c.args.names.now h.1 (same_state (sym h.2) (sym c.in-Ok.ensures.programmer))) refl)
 
-pub scatter_names-returns-in_err-_error-in-Err-clause-meaning : goal.scatter_names-returns-in_err-_error-in-Err-clause-meaning
-scatter_names-returns-in_err-_error-in-Err-clause-meaning t c =
+pub scatter_value-returns-in_err-_error-in-Err-clause-meaning : goal.scatter_value-returns-in_err-_error-in-Err-clause-meaning
+scatter_value-returns-in_err-_error-in-Err-clause-meaning t c =
     let p = err_from_is_err_and c.from_residual-in_err-_error-in-Err.result c.from_residual-in_err-_error-in-Err.ensures.1 in
     rw (p.1, p.2) (λ k. let h = c.in-Err.ensures.err (c.in_err-_error-in-Err.ensures.known k) in stopped c.in_ok-take_tick.ensures.taken (property.dealt (rw c.in_ok-take_tick.ensures.left at (c.in_ok-value.ensures.meaning tt)) (property.names_kept h.1 h.2 (ap (λ (a : Activation). state_of c.evaluate.new.self c.evaluate.new.world a) h.3)) refl) (c.in_err-_error-in-Err.ensures.outcome k))
 
-pub scatter_names-returns-clause-meaning : goal.scatter_names-returns-clause-meaning
-scatter_names-returns-clause-meaning t c =
+pub scatter_value-returns-clause-meaning : goal.scatter_value-returns-clause-meaning
+scatter_value-returns-clause-meaning t c =
     let h = c.in-Err.ensures.err (c.in_ok-_error-in-Err.ensures.known tt) in
     λ k. passed_over c.in_ok-take_tick.ensures.taken (property.dealt (rw c.in_ok-take_tick.ensures.left at (c.in_ok-value.ensures.meaning tt)) (property.names_kept h.1 h.2 (ap (λ (a : Activation). state_of c.evaluate.new.self c.evaluate.new.world a) h.3)) refl) (c.in_ok-_error-in-Err.ensures.outcome tt)
 
@@ -1501,3 +1450,157 @@ compute_call-returns-clause-ok t c =
 pub compute_call-returns-clause-err : goal.compute_call-returns-clause-err
 compute_call-returns-clause-err t c =
     answer_failed c.call_with.result (λ k. applies (c.in_ok-values.ensures.meaning tt) no_more (rw (c.of-values.ensures, c.in_ok-args.ensures) at (c.call_with.ensures.meaning None (source_items c.args.items.now) k)))
+
+pub extend_value-returns-then-extended-clause-meaning : goal.extend_value-returns-then-extended-clause-meaning
+extend_value-returns-then-extended-clause-meaning t c =
+    λ k. c.in_ok-extended.ensures.extended c.if-extended.true c.args.world.now (context_of c.args.stack.now None)
+
+pub extend_value-returns-clause-meaning : goal.extend_value-returns-clause-meaning
+extend_value-returns-clause-meaning t c =
+    λ k. does_from (c.in_ok-extended.ensures.kept c.if-extended.false c.args.world.now) (c.extend_parts.ensures.meaning k)
+
+pub lengthen-returns-then-lengthened-clause-meaning : goal.lengthen-returns-then-lengthened-clause-meaning
+lengthen-returns-then-lengthened-clause-meaning t c =
+    λ k. c.in_ok-lengthened.ensures.lengthened c.if-lengthened.true c.args.world.now (context_of c.args.stack.now None)
+
+pub lengthen-returns-clause-meaning : goal.lengthen-returns-clause-meaning
+lengthen-returns-clause-meaning t c =
+    λ k. does_from (c.in_ok-lengthened.ensures.kept c.if-lengthened.false c.args.world.now) (c.lengthen_parts.ensures.meaning k)
+
+pub scatter_names-returns-then-scattered-clause-meaning : goal.scatter_names-returns-then-scattered-clause-meaning
+scatter_names-returns-then-scattered-clause-meaning t c =
+    λ k. c.in_ok-scattered.ensures.set c.if-scattered.true c.args.world.now (context_of c.args.stack.now None)
+
+pub scatter_names-returns-clause-meaning : goal.scatter_names-returns-clause-meaning
+scatter_names-returns-clause-meaning t c =
+    λ k. does_from (c.in_ok-scattered.ensures.kept c.if-scattered.false c.args.world.now) (c.scatter_value.ensures.meaning k)
+
+pub run_with_handler-returns-in_err-values-clause-meaning : goal.run_with_handler-returns-in_err-values-clause-meaning
+run_with_handler-returns-in_err-values-clause-meaning t c =
+    let p = err_from_is_err_and c.from_residual.result c.from_residual.ensures.1 in
+    rw (p.1, p.2) (λ k. let h = c.in_err-values.ensures.meaning k in rw (c.handler_parts-parts.ensures no_handler) (unprepared (codes_stop h.1 h.2)))
+
+pub run_with_handler-returns-clause-meaning : goal.run_with_handler-returns-clause-meaning
+run_with_handler-returns-clause-meaning t c =
+    λ k. let h = c.in_ok-values.ensures.meaning tt in
+    rw (c.handler_parts-parts.ensures no_handler) (tries (codes_then h.1 h.2 no_codes refl) (c.run_all-outcome.ensures.meaning (c.end_try.ensures.known k)) (rw (c.from_ref.ensures.value, c.with_values-guarded.ensures) at (c.end_try.ensures.meaning k)))
+
+pub run_with_handlers-returns-clause-meaning : goal.run_with_handlers-returns-clause-meaning
+run_with_handlers-returns-clause-meaning t c =
+    λ k. tries (c.in_ok-guarded.ensures.meaning tt) (c.run_all-outcome.ensures.meaning (c.end_try.ensures.known k)) (rw c.deref.ensures.value at (c.end_try.ensures.meaning k))
+
+pub end_try-returns-in-Ok-clause-meaning : goal.end_try-returns-in-Ok-clause-meaning
+end_try-returns-in-Ok-clause-meaning t c = λ k. rw c.in-Ok.is nothing_raised
+
+pub end_try-returns-in-Err-Raised-clause-meaning : goal.end_try-returns-in-Err-Raised-clause-meaning
+end_try-returns-in-Err-Raised-clause-meaning t c = λ k. rw (c.in-Err-Raised.is, c.in-Err-Raised.field-0-is) (handles refl (c.handle.ensures.meaning k))
+
+pub end_try-returns-in-Err-OutOfTicks-clause-meaning : goal.end_try-returns-in-Err-OutOfTicks-clause-meaning
+end_try-returns-in-Err-OutOfTicks-clause-meaning t c = λ k. rw (c.in-Err-OutOfTicks.is, c.in-Err-OutOfTicks.field-0-is) ticks_out
+
+pub call_literal-returns-in-None-clause-meaning : goal.call_literal-returns-in-None-clause-meaning
+call_literal-returns-in-None-clause-meaning t c =
+    λ k. rw c.in-None.ensures.none at (c.call_evaluated.ensures.meaning k)
+
+pub call_literal-returns-in_err-evaluate_arguments-in-Some-clause-meaning : goal.call_literal-returns-in_err-evaluate_arguments-in-Some-clause-meaning
+call_literal-returns-in_err-evaluate_arguments-in-Some-clause-meaning t c =
+    let p = err_from_is_err_and c.from_residual.result c.from_residual.ensures.1 in
+    let h = c.in-Some.ensures.some in
+    rw (p.1, p.2) (λ k. ⊎_elim
+    (λ e. operands_end (named (variables_of c.args.active.now.variables) c.args.name.now h.0 refl h.1 (rw h.2 at e)))
+    (λ d. applies (named (variables_of c.args.active.now.variables) c.args.name.now h.0 refl h.1 (rw h.2 at d.1)) no_more (verb_fails (unlisted _ _ d.2)))
+    (c.in_err-evaluate_arguments-in-Some.ensures.meaning k))
+
+pub call_literal-returns-in_ok-evaluate_arguments-in-Some-clause-meaning : goal.call_literal-returns-in_ok-evaluate_arguments-in-Some-clause-meaning
+call_literal-returns-in_ok-evaluate_arguments-in-Some-clause-meaning t c =
+    let h = c.in-Some.ensures.some in
+    let this : SFits w32 c.in-Some.this = search rules in
+    λ k. applies (named (variables_of c.args.active.now.variables) c.args.name.now h.0 refl h.1 (rw h.2 at (c.in_ok-evaluate_arguments-in-Some.ensures.meaning tt))) no_more (rw (to_z-of_z w32 c.in-Some.this this) at (c.call_written.ensures.meaning c.args.indexed (source c.args.base.now) (program.literal (Str c.args.name.now)) (source_items c.args.items.now) k))
+
+pub turn-returns-clause-meaning : goal.turn-returns-clause-meaning
+turn-returns-clause-meaning t c =
+    λ k. turns c.in_ok-take_tick.ensures.taken (ap (λ x. state_of x c.args.world.now c.args.active.now) (sym c.in_ok-take_tick.ensures.left)) (c.in_ok-flow.ensures.meaning tt) (sym (c.after_turn.ensures ∙ ap (λ x. after_turn x (Ok (flow_of c.in_ok-flow.flow))) c.as_ref.ensures.value))
+
+pub turn-returns-in-Next-clause-meaning : goal.turn-returns-in-Next-clause-meaning
+turn-returns-in-Next-clause-meaning t c =
+    λ k. turns c.in_ok-take_tick.ensures.taken (ap (λ x. state_of x c.args.world.now c.args.active.now) (sym c.in_ok-take_tick.ensures.left)) (rw c.in-Next.is at (c.in_ok-flow.ensures.meaning tt)) refl
+
+pub turn-returns-in_err-take_tick-clause-meaning : goal.turn-returns-in_err-take_tick-clause-meaning
+turn-returns-in_err-take_tick-clause-meaning t c =
+    let p = err_from_is_err_and c.from_residual.result c.from_residual.ensures.1 in rw (p.1, p.2) (λ k. let h = c.in_err-take_tick.ensures.spent k in rw (c.in_err-take_tick.ensures.kept, h.1) (turn_spent h.0))
+
+pub turn-returns-in_err-flow-clause-meaning : goal.turn-returns-in_err-flow-clause-meaning
+turn-returns-in_err-flow-clause-meaning t c =
+    let p = err_from_is_err_and c.from_residual-in_err-flow.result c.from_residual-in_err-flow.ensures.1 in rw (p.1, p.2) (λ k. turns c.in_ok-take_tick.ensures.taken (ap (λ x. state_of x c.args.world.now c.args.active.now) (sym c.in_ok-take_tick.ensures.left)) (c.in_err-flow.ensures.meaning k) refl)
+
+pub visit-returns-clause-meaning : goal.visit-returns-clause-meaning
+visit-returns-clause-meaning t c =
+    λ k. turns c.in_ok-take_tick.ensures.taken (let left = sym c.in_ok-take_tick.ensures.left in state_at (ap (λ (x : Task). x.ticks_left) left) (ap (λ (x : Task). x.notices.items) left) (sym c.in_ok-set_value.ensures)) (c.in_ok-flow.ensures.meaning tt) (sym (c.after_turn.ensures ∙ ap (λ x. after_turn (Some x) (Ok (flow_of c.in_ok-flow.flow))) c.text.ensures))
+
+pub visit-returns-in-Next-clause-meaning : goal.visit-returns-in-Next-clause-meaning
+visit-returns-in-Next-clause-meaning t c =
+    λ k. turns c.in_ok-take_tick.ensures.taken (let left = sym c.in_ok-take_tick.ensures.left in state_at (ap (λ (x : Task). x.ticks_left) left) (ap (λ (x : Task). x.notices.items) left) (sym c.in_ok-set_value.ensures)) (rw c.in-Next.is at (c.in_ok-flow.ensures.meaning tt)) refl
+
+pub visit-returns-in_err-take_tick-clause-meaning : goal.visit-returns-in_err-take_tick-clause-meaning
+visit-returns-in_err-take_tick-clause-meaning t c =
+    let p = err_from_is_err_and c.from_residual.result c.from_residual.ensures.1 in rw (p.1, p.2) (λ k. let h = c.in_err-take_tick.ensures.spent k in rw (c.in_err-take_tick.ensures.kept, h.1) (turn_spent h.0))
+
+pub visit-returns-in_err-flow-clause-meaning : goal.visit-returns-in_err-flow-clause-meaning
+visit-returns-in_err-flow-clause-meaning t c =
+    let p = err_from_is_err_and c.from_residual-in_err-flow.result c.from_residual-in_err-flow.ensures.1 in rw (p.1, p.2) (λ k. turns c.in_ok-take_tick.ensures.taken (let left = sym c.in_ok-take_tick.ensures.left in state_at (ap (λ (x : Task). x.ticks_left) left) (ap (λ (x : Task). x.notices.items) left) (sym c.in_ok-set_value.ensures)) (c.in_err-flow.ensures.meaning k) refl)
+
+pub repeat-returns-then-not-passes-clause-meaning : goal.repeat-returns-then-not-passes-clause-meaning
+repeat-returns-then-not-passes-clause-meaning t c =
+    λ k. c.turns.invariant.rest (Ok next) _ (loop_ends c.in_ok-passes.ensures.ok.1 (c.in_ok-passes.ensures.ok.2 ∙ c.if-not-passes.true))
+
+pub repeat-returns-in-Some-clause-meaning : goal.repeat-returns-in-Some-clause-meaning
+repeat-returns-in-Some-clause-meaning t c =
+    λ k. c.turns.invariant.rest (Ok (flow_of c.in-Some.flow)) _ (loop_left c.in_ok-passes.ensures.ok.1 (c.in_ok-passes.ensures.ok.2 ∙ c.if-not-passes.false) (rw c.in-Some.is at (c.in_ok-flow.ensures.meaning tt)))
+
+pub repeat-returns-in_err-passes-clause-meaning : goal.repeat-returns-in_err-passes-clause-meaning
+repeat-returns-in_err-passes-clause-meaning t c =
+    let p = err_from_is_err_and c.from_residual.result c.from_residual.ensures.1 in rw (p.1, p.2) (λ k. c.turns.invariant.rest (Err (stop_of c.in_err-passes.field-0.0)) _ (loop_stops (c.in_err-passes.ensures.err k)))
+
+pub repeat-turns-preserved : goal.repeat-turns-preserved
+repeat-turns-preserved t c =
+    record { ticks = omega arith; rest = λ o s d. c.turns.invariant.rest o s (loop_then c.in_ok-passes.ensures.ok.1 (c.in_ok-passes.ensures.ok.2 ∙ c.if-not-passes.false) (rw (none_left c.in_ok-flow.field-0 c.in_default.not-Some) at (c.in_ok-flow.ensures.meaning tt)) d) }
+
+pub repeat-returns-in_err-flow-clause-meaning : goal.repeat-returns-in_err-flow-clause-meaning
+repeat-returns-in_err-flow-clause-meaning t c =
+    let p = err_from_is_err_and c.from_residual-in_err-flow.result c.from_residual-in_err-flow.ensures.1 in rw (p.1, p.2) (λ k. c.turns.invariant.rest (Err (stop_of c.in_err-flow.field-0.0)) _ (loop_left c.in_ok-passes.ensures.ok.1 (c.in_ok-passes.ensures.ok.2 ∙ c.if-not-passes.false) (c.in_err-flow.ensures.meaning k)))
+
+pub visit_all-returns-clause-meaning : goal.visit_all-returns-clause-meaning
+visit_all-returns-clause-meaning t c =
+    λ k. c.loop-value.invariant.rest (Ok next) _ (rw (drop_of_length-le c.args.values.now c.loop-value-test.false) all_visited)
+
+pub visit_all-returns-in-Some-clause-meaning : goal.visit_all-returns-in-Some-clause-meaning
+visit_all-returns-in-Some-clause-meaning t c =
+    λ k. c.loop-value.invariant.rest (Ok (flow_of c.in-Some.flow)) _ (rw (drop_next c.args.values.now c.loop-value.value-index c.value-item.result c.loop-value-test.true c.value-item.is) (visit_left (rw (c.in-Some.is, c.in_ok-value.ensures.value) at (c.in_ok-flow.ensures.meaning tt))))
+
+pub visit_all-loop-value-preserved : goal.visit_all-loop-value-preserved
+visit_all-loop-value-preserved t c =
+    record { ticks = omega arith; rest = λ o s d. c.loop-value.invariant.rest o s (rw (drop_next c.args.values.now c.loop-value.value-index c.value-item.result c.loop-value-test.true c.value-item.is) (visit_then (rw ((none_left c.in_ok-flow.field-0 c.in_default.not-Some), c.in_ok-value.ensures.value) at (c.in_ok-flow.ensures.meaning tt)) d)) }
+
+pub visit_all-returns-in_err-flow-clause-meaning : goal.visit_all-returns-in_err-flow-clause-meaning
+visit_all-returns-in_err-flow-clause-meaning t c =
+    let p = err_from_is_err_and c.from_residual-in_err-flow.result c.from_residual-in_err-flow.ensures.1 in rw (p.1, p.2) (λ k. c.loop-value.invariant.rest (Err (stop_of c.in_err-flow.field-0.0)) _ (rw (drop_next c.args.values.now c.loop-value.value-index c.value-item.result c.loop-value-test.true c.value-item.is) (visit_left (rw c.in_ok-value.ensures.value at (c.in_err-flow.ensures.meaning k)))))
+
+pub count-returns-in_err-flow-clause-meaning : goal.count-returns-in_err-flow-clause-meaning
+count-returns-in_err-flow-clause-meaning t c =
+    let p = err_from_is_err_and c.from_residual.result c.from_residual.ensures.1 in rw (p.1, p.2) (λ k. let f : SFits w32 c.args.span.low = search rules in let g : SFits w32 c.args.span.high = search rules in let h = reached (to_z w64 c.numbers.number-bits) c.from.result c.args.span.high true g c.from.ensures c.numbers-test.true in let e = c.value-value.ensures ∙ ap (numbered c.args.span.are_objects) (narrow c.args.span.low c.args.span.high (to_z w64 c.numbers.number-bits) f g c.numbers.invariant.low h) in c.numbers.invariant.rest (Err (stop_of c.in_err-flow.field-0.0)) _ (count_left h (rw e at (c.in_err-flow.ensures.meaning k))))
+
+pub count-returns-in-Some-clause-meaning : goal.count-returns-in-Some-clause-meaning
+count-returns-in-Some-clause-meaning t c =
+    λ k. let f : SFits w32 c.args.span.low = search rules in let g : SFits w32 c.args.span.high = search rules in let h = reached (to_z w64 c.numbers.number-bits) c.from.result c.args.span.high true g c.from.ensures c.numbers-test.true in let e = c.value-value.ensures ∙ ap (numbered c.args.span.are_objects) (narrow c.args.span.low c.args.span.high (to_z w64 c.numbers.number-bits) f g c.numbers.invariant.low h) in c.numbers.invariant.rest (Ok (flow_of c.in-Some.flow)) _ (count_left h (rw (c.in-Some.is, e) at (c.in_ok-flow.ensures.meaning tt)))
+
+pub count-numbers-preserved : goal.count-numbers-preserved
+count-numbers-preserved t c =
+    let f : SFits w32 c.args.span.low = search rules in let g : SFits w32 c.args.span.high = search rules in let h = reached (to_z w64 c.numbers.number-bits) c.from.result c.args.span.high true g c.from.ensures c.numbers-test.true in let e = c.value-value.ensures ∙ ap (numbered c.args.span.are_objects) (narrow c.args.span.low c.args.span.high (to_z w64 c.numbers.number-bits) f g c.numbers.invariant.low h) in let q = next_number c.args.span.low c.args.span.high (to_z w64 c.numbers.number-bits) f g c.numbers.invariant.low h in record { ticks = omega arith; low = subst (λ x. c.args.span.low ≤ℤ x) (sym q) (not_below c.args.span.low (to_z w64 c.numbers.number-bits) c.numbers.invariant.low); rest = λ o s d. c.numbers.invariant.rest o s (count_then h (rw (c.in_default.is, e) at (c.in_ok-flow.ensures.meaning tt)) (subst (λ x. Counts Faults (context_of c.args.stack.now None) c.args.name.now c.args.span x (source_block c.args.body.now) (state_of c.visit.new.self c.visit.new.world c.visit.new.active) o s) q d)) }
+
+pub count-returns-clause-meaning : goal.count-returns-clause-meaning
+count-returns-clause-meaning t c =
+    λ k. let g : SFits w32 c.args.span.high = search rules in let h = reached (to_z w64 c.numbers.number-bits) c.from.result c.args.span.high false g c.from.ensures c.numbers-test.false in c.numbers.invariant.rest (Ok next) _ (all_counted h)
+
+pub node_passes-returns-in-Some-try_property_test-clause-ok : goal.node_passes-returns-in-Some-try_property_test-clause-ok
+node_passes-returns-in-Some-try_property_test-clause-ok t c =
+    rw c.in_default-try_comparison.ensures.none at (c.in-Some-try_property_test.ensures.some (context_of c.args.stack.now c.args.indexed))

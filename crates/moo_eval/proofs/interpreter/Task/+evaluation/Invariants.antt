@@ -42,6 +42,12 @@ decreases-arithmetic l = 16 * l.self.now.ticks_left + 7
 abbrev pub decreases-node_passes : goal.decreases-node_passes
 decreases-node_passes l = 16 * l.self.now.ticks_left + 6
 
+abbrev pub decreases-value_passes : goal.decreases-value_passes
+decreases-value_passes l = 16 * l.self.now.ticks_left + 5
+
+abbrev pub decreases-binary_passes : goal.decreases-binary_passes
+decreases-binary_passes l = 16 * l.self.now.ticks_left
+
 abbrev pub decreases-logic_passes : goal.decreases-logic_passes
 decreases-logic_passes l = 16 * l.self.now.ticks_left
 
@@ -54,14 +60,14 @@ decreases-evaluate_node l = 16 * l.self.now.ticks_left + 2
 abbrev pub decreases-assign_variable : goal.decreases-assign_variable
 decreases-assign_variable l = 16 * l.self.now.ticks_left + 8
 
-abbrev pub decreases-assign_alone : goal.decreases-assign_alone
-decreases-assign_alone l = 16 * l.self.now.ticks_left + 1
-
 abbrev pub decreases-assign_value : goal.decreases-assign_value
 decreases-assign_value l = 16 * l.self.now.ticks_left
 
 abbrev pub decreases-lengthen : goal.decreases-lengthen
-decreases-lengthen l = 16 * l.self.now.ticks_left
+decreases-lengthen l = 16 * l.self.now.ticks_left + 1
+
+abbrev pub decreases-lengthen_parts : goal.decreases-lengthen_parts
+decreases-lengthen_parts l = 16 * l.self.now.ticks_left
 
 abbrev pub decreases-update : goal.decreases-update
 decreases-update l = 16 * l.self.now.ticks_left
@@ -72,17 +78,14 @@ decreases-put_updated l = 16 * l.self.now.ticks_left + 11
 abbrev pub decreases-put_longer : goal.decreases-put_longer
 decreases-put_longer l = 16 * l.self.now.ticks_left + 6
 
-abbrev pub decreases-extend : goal.decreases-extend
-decreases-extend l = 16 * l.self.now.ticks_left + 1
-
 abbrev pub decreases-extend_value : goal.decreases-extend_value
-decreases-extend_value l = 16 * l.self.now.ticks_left
+decreases-extend_value l = 16 * l.self.now.ticks_left + 1
+
+abbrev pub decreases-extend_parts : goal.decreases-extend_parts
+decreases-extend_parts l = 16 * l.self.now.ticks_left
 
 abbrev pub decreases-put_extended : goal.decreases-put_extended
 decreases-put_extended l = 16 * l.self.now.ticks_left + 7
-
-abbrev pub decreases-set_place : goal.decreases-set_place
-decreases-set_place l = 16 * l.self.now.ticks_left + 1
 
 abbrev pub decreases-set_element : goal.decreases-set_element
 decreases-set_element l = 16 * l.self.now.ticks_left
@@ -142,7 +145,16 @@ abbrev pub decreases-proceed : goal.decreases-proceed
 decreases-proceed l = 16 * l.self.now.ticks_left + 8
 
 abbrev pub decreases-call : goal.decreases-call
-decreases-call l = 16 * l.self.now.ticks_left + 11
+decreases-call l = 16 * l.self.now.ticks_left + 13
+
+abbrev pub decreases-call_unary : goal.decreases-call_unary
+decreases-call_unary l = 16 * l.self.now.ticks_left + 10
+
+abbrev pub decreases-call_any : goal.decreases-call_any
+decreases-call_any l = 16 * l.self.now.ticks_left + 12
+
+abbrev pub decreases-call_spliced : goal.decreases-call_spliced
+decreases-call_spliced l = 16 * l.self.now.ticks_left + 11
 
 abbrev pub decreases-call_with : goal.decreases-call_with
 decreases-call_with l = 16 * l.self.now.ticks_left + 10
@@ -215,29 +227,11 @@ invariant-set_defaults-loop-default l = record {
   rest : (o : Result (Unit {0}) Failure) (s : State) → SetsDefaults Faults (context_of l.stack l.indexed) (map left_out_of (drop l.default-index l.defaults)) (state_of l.self l.world l.active) o s → SetsDefaults Faults (context_of l.stack l.indexed) (map left_out_of l.defaults) (state_of l.fn.self l.fn.world l.fn.active) o s;
 }
 
-abbrev pub decreases-run : goal.decreases-run
-decreases-run l = 16 * l.self.now.ticks_left + 1
-
-abbrev pub decreases-turn : goal.decreases-turn
-decreases-turn l = 16 * l.self.now.ticks_left + 1
-
-abbrev pub decreases-visit : goal.decreases-visit
-decreases-visit l = 16 * l.self.now.ticks_left + 1
-
 abbrev pub decreases-run_block : goal.decreases-run_block
 decreases-run_block l = 16 * l.self.now.ticks_left + 5
 
 abbrev pub decreases-run_all : goal.decreases-run_all
 decreases-run_all l = 16 * l.self.now.ticks_left + 6
-
-abbrev pub decreases-repeat : goal.decreases-repeat
-decreases-repeat l = 16 * l.self.now.ticks_left + 8
-
-abbrev pub decreases-visit_all : goal.decreases-visit_all
-decreases-visit_all l = 16 * l.self.now.ticks_left + 6
-
-abbrev pub decreases-count : goal.decreases-count
-decreases-count l = 16 * l.self.now.ticks_left + 6
 
 abbrev pub decreases-select : goal.decreases-select
 decreases-select l = 16 * l.self.now.ticks_left + 8
@@ -255,16 +249,31 @@ abbrev pub decreases-try_finally : goal.decreases-try_finally
 decreases-try_finally l = 16 * l.self.now.ticks_left + 7
 
 abbrev pub decreases-branch : goal.decreases-branch
-decreases-branch l = 16 * l.self.now.ticks_left + 9
+decreases-branch l = 16 * l.self.now.ticks_left + 10
+
+abbrev pub decreases-choose : goal.decreases-choose
+decreases-choose l = 16 * l.self.now.ticks_left + 9
 
 abbrev pub decreases-try_except : goal.decreases-try_except
-decreases-try_except l = 16 * l.self.now.ticks_left + 10
+decreases-try_except l = 16 * l.self.now.ticks_left + 12
+
+abbrev pub decreases-run_with_handler : goal.decreases-run_with_handler
+decreases-run_with_handler l = 16 * l.self.now.ticks_left + 11
+
+abbrev pub decreases-run_with_handlers : goal.decreases-run_with_handlers
+decreases-run_with_handlers l = 16 * l.self.now.ticks_left + 11
+
+abbrev pub decreases-end_try : goal.decreases-end_try
+decreases-end_try l = 16 * l.self.now.ticks_left + 8
 
 abbrev pub decreases-perform : goal.decreases-perform
-decreases-perform l = 16 * l.self.now.ticks_left + 11
+decreases-perform l = 16 * l.self.now.ticks_left + 13
 
 abbrev pub decreases-prepare : goal.decreases-prepare
-decreases-prepare l = 16 * l.self.now.ticks_left + 9
+decreases-prepare l = 16 * l.self.now.ticks_left + 10
+
+abbrev pub decreases-code_values : goal.decreases-code_values
+decreases-code_values l = 16 * l.self.now.ticks_left + 9
 
 abbrev pub decreases-give : goal.decreases-give
 decreases-give l = 16 * l.self.now.ticks_left + 7
@@ -288,7 +297,7 @@ abbrev pub decreases-evaluate_changed : goal.decreases-evaluate_changed
 decreases-evaluate_changed l = 16 * l.self.now.ticks_left + 4
 
 abbrev pub decreases-compute_changed : goal.decreases-compute_changed
-decreases-compute_changed l = 16 * l.self.now.ticks_left + 13
+decreases-compute_changed l = 16 * l.self.now.ticks_left + 15
 
 abbrev pub decreases-compute_longer : goal.decreases-compute_longer
 decreases-compute_longer l = 16 * l.self.now.ticks_left + 4
@@ -327,33 +336,8 @@ invariant-select-loop-arm l = record {
 }
 
 -- what the loop does from here is what it does from its start
-abbrev pub invariant-repeat-turns : goal.invariant-repeat-turns
-invariant-repeat-turns l = record {
-  ticks : l.self.ticks_left ≤ l.fn.self.ticks_left;
-  rest : (o : Result Flow Stop) (s : State) → Loops Faults (context_of l.stack None) l.own (source l.test) (source_block l.body) (state_of l.self l.world l.active) o s → Loops Faults (context_of l.stack None) l.own (source l.test) (source_block l.body) (state_of l.fn.self l.fn.world l.fn.active) o s;
-}
-
-abbrev pub decreases-repeat-turns : goal.decreases-repeat-turns
-decreases-repeat-turns l = l.self.ticks_left
-
 -- what the rest of the values does is what all do
-abbrev pub invariant-visit_all-loop-value : goal.invariant-visit_all-loop-value
-invariant-visit_all-loop-value l = record {
-  ticks : l.self.ticks_left ≤ l.fn.self.ticks_left;
-  rest : (o : Result Flow Stop) (s : State) → Visits Faults (context_of l.stack None) l.name (trees (drop l.value-index l.values)) (source_block l.body) (state_of l.self l.world l.active) o s → Visits Faults (context_of l.stack None) l.name (trees l.values) (source_block l.body) (state_of l.fn.self l.fn.world l.fn.active) o s;
-}
-
 -- what the loop does from here is what it does from its start
-abbrev pub invariant-count-numbers : goal.invariant-count-numbers
-invariant-count-numbers l = record {
-  ticks : l.self.ticks_left ≤ l.fn.self.ticks_left;
-  low : l.span.low ≤ℤ l.number;
-  rest : (o : Result Flow Stop) (s : State) → Counts Faults (context_of l.stack None) l.name l.span l.number (source_block l.body) (state_of l.self l.world l.active) o s → Counts Faults (context_of l.stack None) l.name l.span l.span.low (source_block l.body) (state_of l.fn.self l.fn.world l.fn.active) o s;
-}
-
-abbrev pub decreases-count-numbers : goal.decreases-count-numbers
-decreases-count-numbers l = l.self.ticks_left
-
 -- what the rest gives, after the handlers so far, is what all give
 abbrev pub invariant-prepare-loop-handler : goal.invariant-prepare-loop-handler
 invariant-prepare-loop-handler l = record {
@@ -379,25 +363,68 @@ abbrev pub decreases-put_prepended : goal.decreases-put_prepended
 decreases-put_prepended l = 16 * l.self.now.ticks_left + 6
 
 abbrev pub decreases-scatter_names : goal.decreases-scatter_names
-decreases-scatter_names l = 16 * l.self.now.ticks_left
+decreases-scatter_names l = 16 * l.self.now.ticks_left + 1
+
+abbrev pub decreases-scatter_value : goal.decreases-scatter_value
+decreases-scatter_value l = 16 * l.self.now.ticks_left
 
 abbrev pub decreases-evaluate_parts : goal.decreases-evaluate_parts
 decreases-evaluate_parts l = 16 * l.self.now.ticks_left
 
 abbrev pub decreases-compute : goal.decreases-compute
-decreases-compute l = 16 * l.self.now.ticks_left + 12
+decreases-compute l = 16 * l.self.now.ticks_left + 14
 
 abbrev pub decreases-call_literal : goal.decreases-call_literal
 decreases-call_literal l = 16 * l.self.now.ticks_left + 10
 
+abbrev pub decreases-call_evaluated : goal.decreases-call_evaluated
+decreases-call_evaluated l = 16 * l.self.now.ticks_left + 9
+
 abbrev pub decreases-call_computed : goal.decreases-call_computed
 decreases-call_computed l = 16 * l.self.now.ticks_left + 10
-
-abbrev pub decreases-literal_property : goal.decreases-literal_property
-decreases-literal_property l = 16 * l.self.now.ticks_left + 7
 
 abbrev pub decreases-written_property : goal.decreases-written_property
 decreases-written_property l = 16 * l.self.now.ticks_left + 6
 
 abbrev pub decreases-computed_property : goal.decreases-computed_property
 decreases-computed_property l = 16 * l.self.now.ticks_left + 7
+
+abbrev pub decreases-turn : goal.decreases-turn
+decreases-turn l = 16 * l.self.now.ticks_left + 1
+
+abbrev pub decreases-visit : goal.decreases-visit
+decreases-visit l = 16 * l.self.now.ticks_left + 1
+
+abbrev pub decreases-repeat : goal.decreases-repeat
+decreases-repeat l = 16 * l.self.now.ticks_left + 8
+
+abbrev pub decreases-visit_all : goal.decreases-visit_all
+decreases-visit_all l = 16 * l.self.now.ticks_left + 6
+
+abbrev pub decreases-count : goal.decreases-count
+decreases-count l = 16 * l.self.now.ticks_left + 6
+
+abbrev pub invariant-repeat-turns : goal.invariant-repeat-turns
+invariant-repeat-turns l = record {
+  ticks : l.self.ticks_left ≤ l.fn.self.ticks_left;
+  rest : (o : Result Flow Stop) (s : State) → Loops Faults (context_of l.stack None) l.own (source l.test) (source_block l.body) (state_of l.self l.world l.active) o s → Loops Faults (context_of l.stack None) l.own (source l.test) (source_block l.body) (state_of l.fn.self l.fn.world l.fn.active) o s;
+}
+
+abbrev pub decreases-repeat-turns : goal.decreases-repeat-turns
+decreases-repeat-turns l = l.self.ticks_left
+
+abbrev pub invariant-visit_all-loop-value : goal.invariant-visit_all-loop-value
+invariant-visit_all-loop-value l = record {
+  ticks : l.self.ticks_left ≤ l.fn.self.ticks_left;
+  rest : (o : Result Flow Stop) (s : State) → Visits Faults (context_of l.stack None) l.name (trees (drop l.value-index l.values)) (source_block l.body) (state_of l.self l.world l.active) o s → Visits Faults (context_of l.stack None) l.name (trees l.values) (source_block l.body) (state_of l.fn.self l.fn.world l.fn.active) o s;
+}
+
+abbrev pub invariant-count-numbers : goal.invariant-count-numbers
+invariant-count-numbers l = record {
+  ticks : l.self.ticks_left ≤ l.fn.self.ticks_left;
+  low : l.span.low ≤ℤ l.number;
+  rest : (o : Result Flow Stop) (s : State) → Counts Faults (context_of l.stack None) l.name l.span l.number (source_block l.body) (state_of l.self l.world l.active) o s → Counts Faults (context_of l.stack None) l.name l.span l.span.low (source_block l.body) (state_of l.fn.self l.fn.world l.fn.active) o s;
+}
+
+abbrev pub decreases-count-numbers : goal.decreases-count-numbers
+decreases-count-numbers l = l.self.ticks_left

@@ -1,4 +1,4 @@
--- Lists that grow in their variable.
+-- Variables that are set to the value of an expression.
 use Rattle.std.specs.Prelude.{◌≡◌, ℕ, List, [], ◌∷◌, Ok}
 use Rattle.moo_value.specs.Tree.{Tree}
 use Rattle.moo_syntax_ast.specs.Tree.{Expr}
@@ -8,9 +8,9 @@ use Rattle.moo_eval_access.specs.State.{State, bound}
 use Rattle.moo_builtin.specs.Telling.{Telling}
 use Rattle.moo_eval_semantics.specs.Meaning.{Computes}
 
--- an expression that makes a variable's list longer has a value, and then the variable is set to it
-pub record IsLengthened (T : Telling) (c : Context) (name : List ℕ) (longer : Expr) (s t : State) : Type 0 where
+-- an expression has a value, and then the variable is set to it
+pub record IsSetTo (T : Telling) (c : Context) (name : List ℕ) (e : Expr) (s t : State) : Type 0 where
   pub value : Tree
   pub between : State
-  pub computes : Computes T c longer s (Ok value) between
+  pub computes : Computes T c e s (Ok value) between
   pub sets : bound (bind name value ∷ []) between ≡ t

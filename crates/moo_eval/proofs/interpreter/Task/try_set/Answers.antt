@@ -5,7 +5,7 @@ use Rattle.moo_eval.specs.Seen.{state_of}
 use Rattle.moo_eval.proofs.Exits.{same_state}
 use Rattle.moo_eval.proofs.Placed.{integer_set}
 use Rattle.moo_eval.proofs.Ticks.{ticks_seen}
-use Rattle.moo_eval.proofs.interpreter.Task.try_assign.Goals as goal
+use Rattle.moo_eval.proofs.interpreter.Task.try_set.Goals as goal
 
 pub returns-clause-assigned : goal.returns-clause-assigned
 returns-clause-assigned c = λ t w k.

@@ -1,6 +1,6 @@
 -- Where a string occurs in another, with letters folded.
-use Rattle.std.proofs.Common.{◌≡◌, ℕ, ◌+◌, ◌-◌, ◌<◌, ◌≤◌, List, [], ◌∷◌, Some, None, length, take, drop, refl, sym, ap, subst, ◌∙◌, arith, ⊎_elim}
-use Rattle.std.proofs.lemmas.List.{length-map, take-map, drop-map}
+use Rattle.std.proofs.Common.{◌≡◌, ℕ, ◌+◌, ◌-◌, ◌<◌, ◌≤◌, List, [], ◌∷◌, Some, None, length, take, drop, slice_index, refl, sym, ap, subst, ◌∙◌, arith, ⊎_elim}
+use Rattle.std.proofs.lemmas.List.{length-map, take-map, drop-map, get_or-map}
 use Rattle.std.proofs.lemmas.Bool.{cases_eq}
 use Rattle.std.specs.Char.{to_ascii_lowercase}
 use Rattle.memchr.specs.Find.{Nowhere, OccursAt, FindsNeedle, matches}
@@ -63,3 +63,13 @@ match_fits text wanted last at found =
 pub not_empty : (s : List ℕ) → ¬ (s ≡ []) → 0 < length s
 not_empty [] h = absurd (h refl)
 not_empty (b ∷ bs) h = omega arith
+
+-- The bytes with which an occurrence begins are alike.
+pub first_alike : (text wanted : List ℕ) (at : ℕ) → 0 < length wanted → at + length wanted ≤ length text → OccursAt (folded text) (folded wanted) at
+    → to_ascii_lowercase (slice_index text at) ≡ to_ascii_lowercase (slice_index wanted 0)
+first_alike text wanted at some fits occurs =
+    let here : at ≡ at + 0 = omega arith in
+    sym (get_or-map to_ascii_lowercase text at 0 0 (omega (arith, some, fits)))
+    ∙ ap (slice_index (folded text)) here
+    ∙ occurs.reads 0 (omega (arith, some, length-map wanted to_ascii_lowercase))
+    ∙ get_or-map to_ascii_lowercase wanted 0 0 0 some

@@ -16,5 +16,6 @@ mod substitution;
 
 pub use call::{Outcome, answer, plain_answer, raised, settled};
 pub use conversion::{append_texts, to_integer, to_literal, to_object, to_text};
+pub use looks::type_number;
 pub use place::{compare, index, last_index};
 pub use substitution::substitute;

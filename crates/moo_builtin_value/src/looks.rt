@@ -20,7 +20,9 @@ pub fn type_of(args: &[Value]) -> Result<Value, OperationFault>
     }
 }
 
-fn type_number(value: &Value) -> i32
+/// Returns the number of a value's type, as `typeof` gives it.
+#[inline(always)]
+pub fn type_number(value: &Value) -> i32
     ensures { result ≡ type_number (tree value.now) }
 {
     match value {

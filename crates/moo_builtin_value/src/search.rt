@@ -1,5 +1,5 @@
 //! Searches one string in another with letters folded, without a copy of either.
-ghost use Rattle.std.specs.Prelude.{◌↔◌, ◌+◌, ◌≤◌, length, IsTrue};
+ghost use Rattle.std.specs.Prelude.{◌↔◌, ◌+◌, ◌≤◌, length, IsTrue, IsFalse};
 ghost use Rattle.memchr.specs.Find.{FindsNeedle, OccursAt};
 ghost use Rattle.moo_value.specs.Compare.{folded};
 
@@ -36,5 +36,17 @@ fn occurs(text: &[u8], wanted: &[u8], at: usize) -> bool
     requires { at + length wanted.now ≤ length text.now }
     ensures { IsTrue result ↔ OccursAt (folded text.now) (folded wanted.now) at }
 {
-    text[at..at + wanted.len()].eq_ignore_ascii_case(wanted)
+    may_occur(text, wanted, at) && text[at..at + wanted.len()].eq_ignore_ascii_case(wanted)
+}
+
+// Is true if the byte at a place of a text is the first one of `wanted`, with letters folded, or if `wanted` is empty.
+#[inline(always)]
+fn may_occur(text: &[u8], wanted: &[u8], at: usize) -> bool
+    requires { at + length wanted.now ≤ length text.now }
+    ensures { IsFalse result → ¬ OccursAt (folded text.now) (folded wanted.now) at }
+{
+    match wanted {
+        [first, ..] => text[at].eq_ignore_ascii_case(first),
+        [] => true,
+    }
 }

@@ -1,13 +1,15 @@
 -- What the functions over the world give.
-use Rattle.std.specs.Prelude.{ℤ, List, Bool, true, false, Option, None, Some, Result, Ok, Err, IsOk, ⊤, if◌then◌else◌}
+use Rattle.std.specs.Prelude.{◌≡◌, ℤ, List, [], ◌∷◌, Bool, true, false, Option, None, Some, Result, Ok, Err, IsOk, ⊤, if◌then◌else◌}
 use Rattle.moo_value.specs.declared.error_code.ErrorCode.{ErrorCode}
 use Rattle.moo_value.specs.declared.error_code.ErrorCode.TheVariants.{TypeMismatch}
-use Rattle.moo_value.specs.Tree.{Tree}
+use Rattle.moo_value.specs.Tree.{Tree, object}
 use Rattle.moo_syntax_function.specs.declared.function.Function.{Function}
 use Rattle.moo_syntax_function.specs.declared.function.Function.TheVariants as function
+use Rattle.moo_syntax_function.specs.Table.{row}
+use Rattle.moo_syntax_function.specs.Check.{refusal}
 use Rattle.moo_builtin_value.specs.TextAnswers.{IsMade}
 use Rattle.moo_world_table.specs.World.{World}
-use Rattle.moo_builtin_world.specs.Objects.{valid, parent, children, max_object, listed_players, is_player, change_parent}
+use Rattle.moo_builtin_world.specs.Objects.{is_valid, valid, parent, children, max_object, listed_players, is_player, change_parent}
 use Rattle.moo_builtin_world.specs.Properties.{properties, property_info, is_clear_property, add_property, set_property_info, clear_property, delete_property}
 use Rattle.moo_builtin_world.specs.Verbs.{listed_verbs, verb_info, verb_args, add_verb, set_verb_info, set_verb_args, delete_verb}
 
@@ -94,3 +96,7 @@ answer f w p args = looked_or w (looking f w p args) (changing f w p args)
 -- the result of a function over the world, and none for a function of another kind
 abbrev pub world_answer : Function → World → ℤ → List Tree → Option (Result (Tree × World) ErrorCode)
 world_answer f w p args = if is_of_world f then Some (answer f w p args) else None
+
+-- a function that looks at the world accepts an object and gives this value for it, whoever calls the function
+abbrev pub Shows : Function → World → ℤ → Tree → Type 0
+Shows f w o t = (refusal (is_valid w) (row f) (object o ∷ []) ≡ None) × ((p : ℤ) → looking f w p (object o ∷ []) ≡ Some (Ok t))

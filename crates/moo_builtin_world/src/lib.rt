@@ -14,5 +14,6 @@ mod verbs;
 
 pub use allowed::numbered_verb;
 pub use call::call_world;
+pub use objects::shown;
 pub use refusing::refusal;
 pub use verbs::chosen;

@@ -1,21 +1,60 @@
 //! Functions on objects and their parents: 'Fundamental Operations on Objects' and 'Operations on Player Objects' of
 //! the LambdaMOO Programmer's Manual, 'Functions over the world' of docs/reference/language.md. Arguments that don't fit the
 //! function's row raise E_TYPE; no call has such arguments.
-ghost use Rattle.std.specs.Prelude.{◌≡◌, ◌<◌, ◌∷◌, [], IfOk, map, pos, All};
+ghost use Rattle.std.specs.Prelude.{◌≡◌, ◌<◌, ◌∷◌, [], IfOk, IfSome, map, pos, All};
 ghost use Rattle.moo_value.specs.Tree.{object};
 ghost use Rattle.moo_value.specs.View.{tree, trees};
 ghost use Rattle.moo_builtin_value.specs.TextAnswers.{Gives};
 ghost use Rattle.moo_world_table.specs.World.{most};
 ghost use Rattle.moo_builtin_world.specs.Objects.{valid, parent, children, max_object, listed_players, is_player, reparented, change_parent};
 ghost use Rattle.moo_builtin_world.specs.Answers.{Does};
+ghost use Rattle.moo_builtin_world.specs.Calls.{Shows};
+ghost use Rattle.moo_syntax_function.specs.declared.function.Function.TheVariants as function;
 
 use crate::allowed::may_reparent;
 use crate::made::{INVALID_ARGUMENT, TYPE_MISMATCH, changed, listed, refused, truth};
 use moo_builtin_operator::OperationFault;
+use moo_syntax_function::Function;
 use moo_value::Value;
 use moo_world::World;
 use moo_world_tree::Below;
 use std::alloc::{AllocError, Global};
+
+/// Returns what `valid`, `is_player` or `parent` gives for an object. `None` for another function, and for an object that the
+/// function refuses.
+#[inline(always)]
+pub fn shown(function: Function, o: i32, world: &World) -> Option<Value>
+    ensures { IfSome result (λ v. Shows function world.now o (tree v)) }
+{
+    match function {
+        Function::Valid => Some(truth(world.valid(o))),
+        Function::IsPlayer => shown_player(o, world),
+        Function::Parent => shown_parent(o, world),
+        _ => None,
+    }
+}
+
+#[inline(always)]
+fn shown_player(o: i32, world: &World) -> Option<Value>
+    ensures { IfSome result (λ v. Shows function.IsPlayer world.now o (tree v)) }
+{
+    if !world.valid(o) {
+        return None;
+    }
+    let object = world.object(o)?;
+    Some(truth(object.flags().player))
+}
+
+#[inline(always)]
+fn shown_parent(o: i32, world: &World) -> Option<Value>
+    ensures { IfSome result (λ v. Shows function.Parent world.now o (tree v)) }
+{
+    if !world.valid(o) {
+        return None;
+    }
+    let parent = world.parent(o)?;
+    Some(Value::Obj(parent))
+}
 
 /// Computes `valid(o)`: 1 if o is an object of the world, else 0.
 pub fn valid(args: &[Value], world: &World) -> Result<Value, OperationFault>

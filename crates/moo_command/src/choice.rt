@@ -1,5 +1,5 @@
 //! The choice of the verb that a command runs (docs/reference/commands.md, "Choosing a verb"). Nothing here allocates memory.
-ghost use Rattle.std.specs.Prelude.{◌≡◌, ◌<◌, ◌∷◌, length, slice_get, IfSome};
+ghost use Rattle.std.specs.Prelude.{◌≡◌, ◌<◌, ◌∷◌, ◌&&◌, length, slice_get, IfSome};
 ghost use Rattle.std.specs.Option.{option_and_then, unwrap_or};
 ghost use Rattle.std.specs.List.{filter_map, position};
 ghost use Rattle.moo_world_tree.specs.Forest.{ancestors};
@@ -130,13 +130,20 @@ fn position_meant(verbs: &[Verb], wanted: &Wanted<'_>) -> Option<usize>
     verbs.iter().position(|verb| is_meant(wanted, verb))
 }
 
-/// Returns whether the name matches a verb, and its specifiers agree.
+/// Returns whether the name matches a verb, and its specifiers agree. The specifiers come first, since they are quicker to
+/// compare.
 fn is_meant(wanted: &Wanted<'_>, verb: &Verb) -> bool
     ensures { result ≡ is_meant (command_of wanted.now.command.now) wanted.now.looked_on verb.now }
 {
+    agree(wanted, verb) && fits_names(verb.names.as_bytes(), wanted.command.verb.as_bytes())
+}
+
+/// Returns whether a verb's specifiers agree with the command.
+fn agree(wanted: &Wanted<'_>, verb: &Verb) -> bool
+    ensures { result ≡ (agrees verb.now.args.direct wanted.now.looked_on wanted.now.command.now.dobj && takes verb.now.args.preposition wanted.now.command.now.prep && agrees verb.now.args.indirect wanted.now.looked_on wanted.now.command.now.iobj) }
+{
     let Wanted { command, looked_on } = *wanted;
-    fits_names(verb.names.as_bytes(), command.verb.as_bytes())
-        && agrees(verb.args.direct, looked_on, command.dobj)
+    agrees(verb.args.direct, looked_on, command.dobj)
         && takes(verb.args.preposition, command.prep)
         && agrees(verb.args.indirect, looked_on, command.iobj)
 }

@@ -8,7 +8,7 @@ use Rattle.moo_value.specs.Compare.{folded}
 use Rattle.moo_value.specs.Size.{IsWithinLimits}
 use Rattle.moo_value.specs.TreeCode.{trees_of-elements_of}
 use Rattle.moo_syntax_ast.specs.Tree as program
-use Rattle.moo_syntax_ast.specs.Tree.{Expr, variable, splice, element, no_items, assign, performs}
+use Rattle.moo_syntax_ast.specs.Tree.{Expr, Items, variable, splice, element, no_items, assign, performs}
 use Rattle.moo_builtin_operator.specs.Places.{made_list, spliced_of}
 use Rattle.moo_builtin_operator.proofs.Lawful.{limited_within}
 use Rattle.moo_eval_frame.specs.Variables.{bind, with_variable}
@@ -19,7 +19,7 @@ use Rattle.moo_builtin.specs.Telling.{Telling, Faults}
 use Rattle.moo_eval_integer.specs.Integers.{with_ticks, GivesValue}
 use Rattle.moo_value.specs.declared.error_code.ErrorCode.TheVariants.{TypeMismatch, VariableNotFound}
 use Rattle.moo_eval.specs.SetTo.{IsSetTo}
-use Rattle.moo_eval_semantics.specs.Meaning.{Evaluates, Computes, Does, begins, applies, operands_end, no_more, element_stops, element_then, splice_stops, splice_fails, splice_then, list_is}
+use Rattle.moo_eval_semantics.specs.Meaning.{Evaluates, EvaluatesAll, Computes, Does, begins, applies, operands_end, no_more, element_stops, element_then, splice_stops, splice_fails, splice_then, list_is}
 use Rattle.moo_eval.proofs.Direct.{variable_read, assigned, unassigned, performed, unperformed}
 use Rattle.moo_eval.proofs.Exits.{same_state}
 
@@ -57,6 +57,30 @@ first_fails d f = operands_end (splice_fails d f)
 -- the second part stops
 pub second_stops : {T : Telling} {c : Context} {a e : Expr} {s s1 s' : State} {stop : Stop} (vs : List Tree) → Evaluates T c a s (Ok (list_of vs)) s1 → Evaluates T c e s1 (Err stop) s' → Computes T c (program.list (splice a (element e no_items))) s (Err (stops stop)) s'
 second_stops vs d g = operands_end (splice_then d (ap Ok (trees_of-elements_of vs)) (element_stops g) refl)
+
+-- the elements of a list, and the values of further items after them
+pub longer_by : {T : Telling} {c : Context} {x y : List ℕ} {items : Items} {s s1 s2 t : State} {us : List Tree} {w : Tree} (vs : List Tree) → Evaluates T c (variable y) s (Ok (list_of vs)) s1 → EvaluatesAll T c items s1 (Ok us) s2 → made_list (vs ++ us) ≡ Ok w → bound (bind x w ∷ []) s2 ≡ t → IsSetTo T c x (program.list (splice (variable y) items)) s t
+longer_by {s2 = s2} {w = w} vs d g made sets = record {
+  value = w;
+  between = s2;
+  computes = applies (splice_then d (ap Ok (trees_of-elements_of vs)) g refl) no_more (list_is (ap answers made));
+  sets = sets;
+}
+
+-- past the limits
+pub too_long_by : {T : Telling} {c : Context} {a : Expr} {items : Items} {s s1 s2 : State} {us : List Tree} {failure : Failure} (vs : List Tree) → Evaluates T c a s (Ok (list_of vs)) s1 → EvaluatesAll T c items s1 (Ok us) s2 → answers (made_list (vs ++ us)) ≡ Err failure → Computes T c (program.list (splice a items)) s (Err failure) s2
+too_long_by vs d g made = applies (splice_then d (ap Ok (trees_of-elements_of vs)) g refl) no_more (list_is made)
+
+-- the list stops, or is none
+pub spliced_stops : {T : Telling} {c : Context} {a : Expr} {items : Items} {s s' : State} {stop : Stop} → Evaluates T c a s (Err stop) s' → Computes T c (program.list (splice a items)) s (Err (stops stop)) s'
+spliced_stops d = operands_end (splice_stops d)
+
+pub spliced_fails : {T : Telling} {c : Context} {a : Expr} {items : Items} {s s' : State} {v : Tree} {failure : Failure} → Evaluates T c a s (Ok v) s' → answers (spliced_of v) ≡ Err failure → Computes T c (program.list (splice a items)) s (Err failure) s'
+spliced_fails d f = operands_end (splice_fails d f)
+
+-- a further item fails
+pub items_end : {T : Telling} {c : Context} {a : Expr} {items : Items} {s s1 s' : State} {failure : Failure} (vs : List Tree) → Evaluates T c a s (Ok (list_of vs)) s1 → EvaluatesAll T c items s1 (Err failure) s' → Computes T c (program.list (splice a items)) s (Err failure) s'
+items_end vs d g = operands_end (splice_then d (ap Ok (trees_of-elements_of vs)) g refl)
 
 -- as a statement, after a tick for the assignment and one for the list or the call
 pub set_longer : {T : Telling} {c : Context} {x : List ℕ} {e : Expr} {s t : State} → 0 < s.ticks → 0 < (ticked s).ticks → IsSetTo T c x e (ticked (ticked s)) t → Does T c (performs (assign (variable x) e)) s (Ok next) t

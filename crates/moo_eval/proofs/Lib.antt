@@ -13,10 +13,12 @@ mod Direct
 mod Extended
 mod Known
 mod Lengthened
+mod Longer
 mod Placed
 mod Prepended
 mod Properties
 mod Reached
+mod Looking
 mod Ticks
 mod Updated
 mod Spliced

@@ -18,8 +18,8 @@ use std::alloc::AllocError;
 
 impl Task {
     /// Evaluates the arguments of a call of a verb into `values`, in place of those that it holds. It fails with
-    /// E_QUOTA, before it copies an element, if the spliced lists are too heavy together. Inlined, so that other arguments need
-    /// no call.
+    /// E_QUOTA, before it copies an element, if the spliced lists are too heavy together. Inlined, so that other
+    /// arguments need no call.
     #[cycle(evaluation)]
     #[inline(always)]
     pub(crate) fn evaluate_arguments(

@@ -12,7 +12,7 @@ ghost use Rattle.moo_eval_semantics.specs.Meaning.{Evaluates, Computes};
 ghost use Rattle.moo_eval.specs.Seen.{state_of};
 
 use crate::interpreter::Task;
-use moo_eval_access::binary;
+use moo_eval_access::binary_in_place;
 use moo_eval_frame::{Activation, CallStack, Failure, Stop};
 use moo_eval_integer::arithmetic_integer;
 use moo_syntax_ast::operator::BinaryOperator;
@@ -21,8 +21,8 @@ use moo_value::Value;
 use moo_world::World;
 
 impl Task {
-    /// Computes the integer of an operator from integers alone, and takes its ticks. `None` if that can't be or the node
-    /// is of another kind; then nothing has changed.
+    /// Computes the integer of an operator from integers alone, and takes its ticks. `None` if that can't be or the
+    /// node is of another kind; then nothing has changed.
     #[inline(always)]
     pub(crate) fn try_arithmetic(&mut self, active: &Activation, node: &Node) -> Option<i32>
         ensures some { IfSome result (λ n. (w : WorldModel) (c : Context) → Evaluates Faults c (source node.now) (state_of self.old w active.now) (Ok (integer n)) (state_of self.new w active.now)) }
@@ -35,8 +35,8 @@ impl Task {
         }
     }
 
-    /// Computes the integer of an operator between two nodes from integers alone, and takes its ticks. `None` if that can't
-    /// be; then nothing has changed.
+    /// Computes the integer of an operator between two nodes from integers alone, and takes its ticks. `None` if that
+    /// can't be; then nothing has changed.
     #[inline(always)]
     pub(crate) fn try_integers(
         &mut self,
@@ -73,11 +73,11 @@ impl Task {
     {
         let left = self.evaluate_tried(world, active, stack, indexed, left)?;
         let right = self.evaluate_tried(world, active, stack, indexed, right)?;
-        Ok(binary(self.alloc(), operator, &left, &right)?)
+        Ok(binary_in_place(self.alloc(), operator, left, &right)?)
     }
 
-    /// Evaluates a node that `try_arithmetic` has declined, or a part of one. An operator isn't tried again, so the time
-    /// of a statement is linear in its size. Inlined, so that a variable or an integer needs no call.
+    /// Evaluates a node that `try_arithmetic` has declined, or a part of one. An operator isn't tried again, so the
+    /// time of a statement is linear in its size. Inlined, so that a variable or an integer needs no call.
     #[cycle(evaluation)]
     #[inline(always)]
     pub(crate) fn evaluate_tried(

@@ -14,6 +14,7 @@ ghost use Rattle.moo_eval.specs.Seen.{state_of};
 ghost use Rattle.moo_eval_access.specs.SeenTarget.{root_seen, step_of, steps_of, path_of, spot_of};
 
 use crate::interpreter::Task;
+use crate::lengthening::as_longer;
 use moo_eval_access::{
     Path, Places, Root, Spot, Step, as_property, drop_property, is_taken, push_step, rebuilt,
     root_alone, set_variable, taken_apart, write_property,
@@ -90,8 +91,8 @@ impl Task {
         Ok(value)
     }
 
-    // Assigns to a variable by integers alone, takes its ticks, and returns true. Returns false, and changes nothing, if
-    // that can't be.
+    // Assigns to a variable by integers alone, takes its ticks, and returns true. Returns false, and changes nothing,
+    // if that can't be.
     #[inline(always)]
     pub(crate) fn try_assign(&mut self, active: &mut Activation, name: &Name, value: &Node) -> bool
         ensures assigned { IsTrue result → (w : WorldModel) (c : Context) → Does Faults c (performs (assign (variable name.now) (source value.now))) (state_of self.old w active.old) (Ok next) (state_of self.new w active.new) }
@@ -104,7 +105,8 @@ impl Task {
         self.try_set(active, name, value)
     }
 
-    // Sets a variable to the integer of an operator, as `try_assign` does. Not inlined, so that nested statements need no stack space for it.
+    // Sets a variable to the integer of an operator, as `try_assign` does. Not inlined, so that nested statements need
+    // no stack space for it.
     #[inline(never)]
     fn try_set(&mut self, active: &mut Activation, name: &Name, value: &Node) -> bool
         ensures assigned { IsTrue result → (w : WorldModel) (c : Context) → Does Faults c (performs (assign (variable name.now) (source value.now))) (state_of self.old w active.old) (Ok next) (state_of self.new w active.new) }
@@ -123,11 +125,31 @@ impl Task {
         true
     }
 
-    /// Assigns to a variable, if the assignment's own value is not used. Not inlined, so that nested statements need no stack
-    /// space for it.
+    /// Assigns to a variable, if the assignment's own value is not used. A list that begins with the elements of a variable is
+    /// made in place if that can be. Not inlined, so that nested statements need no stack space for it.
     #[cycle(evaluation)]
     #[inline(never)]
     pub(crate) fn assign_value(
+        &mut self,
+        world: &mut World,
+        active: &mut Activation,
+        stack: &CallStack<'_>,
+        name: &Name,
+        value: &Node,
+    ) -> Result<Flow, Stop>
+        ensures meaning { IsKnown result → Does Faults (context_of stack.now None) (performs (assign (variable name.now) (source value.now))) (state_of self.old world.old active.old) (seen_flow result) (state_of self.new world.new active.new) }
+        ensures ticks { self.new.ticks_left ≤ self.old.ticks_left }
+    {
+        match as_longer(value) {
+            Some((held, more)) => self.lengthen_by(world, active, stack, name, held, more),
+            None => self.assign_any(world, active, stack, name, value),
+        }
+    }
+
+    // Assigns any value to a variable, as `assign_value` does.
+    #[cycle(evaluation)]
+    #[inline(always)]
+    fn assign_any(
         &mut self,
         world: &mut World,
         active: &mut Activation,
@@ -254,8 +276,8 @@ impl Task {
         }
     }
 
-    // Sets a property, or the part of it at the end of the steps. A list that nothing but the property holds is changed in
-    // place. Not inlined, so that nested scatters need no stack space for it.
+    // Sets a property, or the part of it at the end of the steps. A list that nothing but the property holds is changed
+    // in place. Not inlined, so that nested scatters need no stack space for it.
     #[inline(never)]
     fn store_property(
         &self,

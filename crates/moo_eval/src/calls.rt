@@ -30,8 +30,8 @@ use moo_value::Value;
 use moo_world::World;
 
 impl Task {
-    /// Calls a verb, which runs in a frame of its own, over the same world and with the ticks that are left. Not inlined,
-    /// so that other expressions need no stack space for it.
+    /// Calls a verb, which runs in a frame of its own, over the same world and with the ticks that are left. Not
+    /// inlined, so that other expressions need no stack space for it.
     #[cycle(evaluation)]
     #[inline(never)]
     pub(crate) fn verb_call(
@@ -79,8 +79,8 @@ impl Task {
         }
     }
 
-    // Returns the object in a variable, or a literal one, and takes the ticks of it and of a literal name. `None` if that
-    // can't be; then nothing has changed.
+    // Returns the object in a variable, or a literal one, and takes the ticks of it and of a literal name. `None` if
+    // that can't be; then nothing has changed.
     #[inline(always)]
     fn try_object(&mut self, active: &Activation, base: &Node) -> Option<i32>
         ensures some { IfSome result (λ o. GivesLeaf (variables_of active.now.variables) (source base.now) (object o) × (1 < self.old.ticks_left) × (self.new ≡ record self.old { ticks_left = self.old.ticks_left - 2 })) }
@@ -96,8 +96,8 @@ impl Task {
         Some(object)
     }
 
-    // Calls a verb whose name is a literal: evaluates the object first. Not inlined, so that other calls need no stack space
-    // for it.
+    // Calls a verb whose name is a literal: evaluates the object first. Not inlined, so that other calls need no stack
+    // space for it.
     #[cycle(evaluation)]
     #[inline(never)]
     fn call_evaluated(
@@ -143,8 +143,8 @@ impl Task {
         self.call_verb(world, active, stack, &base, &name, args)
     }
 
-    // Calls a verb whose name is a literal, its operands evaluated. Not inlined, so that calls in the arguments of calls
-    // need no stack space for it.
+    // Calls a verb whose name is a literal, its operands evaluated. Not inlined, so that calls in the arguments of
+    // calls need no stack space for it.
     #[cycle(evaluation)]
     #[inline(never)]
     fn call_written(

@@ -76,8 +76,8 @@ impl Task {
         }
     }
 
-    /// Returns the values of codes that are not all literal errors. Not inlined, so that nested catches need no stack space
-    /// for it.
+    /// Returns the values of codes that are not all literal errors. Not inlined, so that nested catches need no stack
+    /// space for it.
     #[cycle(evaluation)]
     #[inline(never)]
     pub(crate) fn evaluate_codes(
@@ -122,8 +122,8 @@ impl Task {
         }
     }
 
-    // Returns what a failure of the body comes to. With the d bit an error that the codes name is caught at once: it needs
-    // no traceback. Inlined, so that it needs no call.
+    // Returns what a failure of the body comes to. With the d bit an error that the codes name is caught at once: it
+    // needs no traceback. Inlined, so that it needs no call.
     #[inline(always)]
     fn settle_attempt(
         &self,
@@ -144,7 +144,8 @@ impl Task {
         }
     }
 
-    // Returns what another failure of the body comes to. Not inlined, so that nested catches need no stack space for it.
+    // Returns what another failure of the body comes to. Not inlined, so that nested catches need no stack space for
+    // it.
     #[inline(never)]
     fn settle_uncaught(
         &self,

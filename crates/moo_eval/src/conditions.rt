@@ -25,8 +25,8 @@ use moo_value::Value;
 use moo_world::World;
 
 impl Task {
-    /// Returns whether the value of a condition is true. Inlined, so that a variable or a comparison of integers needs no
-    /// value.
+    /// Returns whether the value of a condition is true. Inlined, so that a variable or a comparison of integers needs
+    /// no value.
     #[cycle(evaluation)]
     #[inline(always)]
     pub(crate) fn passes(
@@ -130,8 +130,8 @@ impl Task {
         }
     }
 
-    // Returns whether the value of an operator between variables, literals or (for `==` and `!=`) elements is true. Takes
-    // its ticks. `None` for other parts, an error, or too few ticks; then nothing has changed.
+    // Returns whether the value of an operator between variables, literals or (for `==` and `!=`) elements is true.
+    // Takes its ticks. `None` for other parts, an error, or too few ticks; then nothing has changed.
     #[inline(always)]
     fn try_comparison(&mut self, active: &Activation, test: &Node) -> Option<bool>
         ensures some { IfSome result (λ b. (w : WorldModel) (c : Context) → (v : Tree) × Evaluates Faults c (source test.now) (state_of self.old w active.now) (Ok v) (state_of self.new w active.now) × (is_true v ≡ b)) }
@@ -219,8 +219,8 @@ impl Task {
         Some(is_true(&value))
     }
 
-    // Returns whether the value of a variable, or of an operator between integers, is true, and takes its ticks. `None` if
-    // that can't be, or for another node; then nothing has changed.
+    // Returns whether the value of a variable, or of an operator between integers, is true, and takes its ticks. `None`
+    // if that can't be, or for another node; then nothing has changed.
     #[inline(always)]
     fn try_test(&mut self, active: &Activation, test: &Node) -> Option<bool>
         ensures some { IfSome result (λ b. (w : WorldModel) (c : Context) → (v : Tree) × Evaluates Faults c (source test.now) (state_of self.old w active.now) (Ok v) (state_of self.new w active.now) × (is_true v ≡ b)) }
@@ -234,8 +234,8 @@ impl Task {
         Some(counts_as_true(number))
     }
 
-    // Returns whether the value of a variable is true, and takes its tick. `None` if it isn't set or no tick is left; then
-    // nothing has changed.
+    // Returns whether the value of a variable is true, and takes its tick. `None` if it isn't set or no tick is left;
+    // then nothing has changed.
     #[inline(always)]
     fn try_variable_test(&mut self, active: &Activation, name: &Name) -> Option<bool>
         ensures some { IfSome result (λ b. (w : WorldModel) (c : Context) → (v : Tree) × Evaluates Faults c (variable name.now) (state_of self.old w active.now) (Ok v) (state_of self.new w active.now) × (is_true v ≡ b)) }

@@ -21,8 +21,8 @@ use moo_world::World;
 use std::alloc::AllocError;
 
 impl Task {
-    /// Runs `name[place] = value`, if the assignment's own value is not used. Not inlined, so that nested statements need no
-    /// stack space for it.
+    /// Runs `name[place] = value`, if the assignment's own value is not used. Not inlined, so that nested statements
+    /// need no stack space for it.
     #[cycle(evaluation)]
     #[inline(never)]
     pub(crate) fn set_element(
@@ -73,8 +73,8 @@ impl Task {
         true
     }
 
-    /// Runs `name[outer][inner] = value` in place by integers alone, takes its ticks, and returns true. Returns false, and
-    /// changes nothing, if that can't be, or for another expression.
+    /// Runs `name[outer][inner] = value` in place by integers alone, takes its ticks, and returns true. Returns false,
+    /// and changes nothing, if that can't be, or for another expression.
     #[inline(always)]
     pub(crate) fn try_put_inner(
         &mut self,

@@ -24,8 +24,8 @@ use moo_world::World;
 use std::alloc::AllocError;
 
 impl Task {
-    // Runs `name = name + last` by integers alone, takes its ticks, and returns true. Returns false, and changes nothing,
-    // if that can't be.
+    // Runs `name = name + last` by integers alone, takes its ticks, and returns true. Returns false, and changes
+    // nothing, if that can't be.
     #[inline(always)]
     pub(crate) fn try_add(&mut self, active: &mut Activation, name: &Name, last: &Node) -> bool
         ensures added { IsTrue result → (w : WorldModel) (c : Context) → Does Faults c (performs (assign (variable name.now) (binary Add (variable name.now) (source last.now)))) (state_of self.old w active.old) (Ok next) (state_of self.new w active.new) }
@@ -38,7 +38,8 @@ impl Task {
         self.try_sum(active, name, last)
     }
 
-    // Adds an integer to a variable, as `try_add` does. Not inlined, so that nested statements need no stack space for it.
+    // Adds an integer to a variable, as `try_add` does. Not inlined, so that nested statements need no stack space for
+    // it.
     #[inline(never)]
     fn try_sum(&mut self, active: &mut Activation, name: &Name, last: &Node) -> bool
         ensures added { IsTrue result → (w : WorldModel) (c : Context) → Does Faults c (performs (assign (variable name.now) (binary Add (variable name.now) (source last.now)))) (state_of self.old w active.old) (Ok next) (state_of self.new w active.new) }
@@ -57,8 +58,8 @@ impl Task {
         true
     }
 
-    // Runs `name = name + last`, if the assignment's own value is not used: at once if that can be. Not inlined, so that
-    // nested statements need no stack space for it.
+    // Runs `name = name + last`, if the assignment's own value is not used: at once if that can be. Not inlined, so
+    // that nested statements need no stack space for it.
     #[cycle(evaluation)]
     #[inline(never)]
     pub(crate) fn extend_value(

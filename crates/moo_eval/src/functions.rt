@@ -59,6 +59,9 @@ impl Task {
         ensures meaning { IsKnownFailure result → Computes Faults (context_of stack.now indexed.entry) (call name.now (element (source node.now) no_items)) (state_of self.old world.old active.old) (seen_answer result) (state_of self.new world.new active.new) }
         ensures ticks { self.new.ticks_left ≤ self.old.ticks_left }
     {
+        if let Some(value) = self.try_shown(world, active, name, node) {
+            return Ok(value);
+        }
         let value = self.evaluate(world, active, stack, indexed, node)?;
         let mut values = [value];
         self.call_values(world, active, stack, name.function(), &mut values)

@@ -65,6 +65,7 @@ impl Task {
         ensures left { OnOk result (self.new ≡ record self.old { ticks_left = self.old.ticks_left - 1 }) }
         ensures spent { IfErr result (λ stop. HadMemory stop → (self.old.ticks_left ≡ 0) × (stop_of stop ≡ out_of_ticks (trace_of stack.now active.now))) }
         ensures kept { IfErr result (λ _. self.new ≡ self.old) }
+        ensures lacking { IfErr result (λ _. self.old.ticks_left ≡ 0) }
     {
         if !self.ticks_left.take() {
             return Err(self.spent(active, stack));
@@ -84,6 +85,7 @@ impl Task {
         ensures left { OnOk result (self.new ≡ record self.old { ticks_left = self.old.ticks_left - count }) }
         ensures spent { IfErr result (λ stop. HadMemory stop → (self.old.ticks_left < count) × (stop_of stop ≡ out_of_ticks (trace_of stack.now active.now))) }
         ensures emptied { IfErr result (λ _. self.new ≡ record self.old { ticks_left = 0 }) }
+        ensures lacking { IfErr result (λ _. self.old.ticks_left < count) }
     {
         let left = self.ticks_left.left() as u32;
         if (left as usize) < count {

@@ -53,8 +53,8 @@ impl Task {
         settle(self.alloc(), stack, active, outcome)
     }
 
-    /// Returns the value of a variable or of a literal, and takes its tick. `None` for another node, for a variable that isn't
-    /// set, or if ticks or memory are missing; then nothing has changed.
+    /// Returns the value of a variable or of a literal, and takes its tick. `None` for another node, for a variable
+    /// that isn't set, or if ticks or memory are missing; then nothing has changed.
     #[inline(always)]
     pub(crate) fn try_leaf(&mut self, active: &Activation, node: &Node) -> Option<Value>
         ensures some { IfSome result (λ v. (w : World) (c : Context) → Evaluates Faults c (source node.now) (state_of self.old w active.now) (Ok (tree v)) (state_of self.new w active.now)) }

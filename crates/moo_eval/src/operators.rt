@@ -14,7 +14,7 @@ ghost use Rattle.moo_eval.specs.Seen.{state_of};
 
 use crate::interpreter::Task;
 use moo_builtin_operator as operation;
-use moo_eval_access::binary;
+use moo_eval_access::binary_in_place;
 use moo_eval_frame::{Activation, CallStack, Failure, Gathered};
 use moo_eval_integer::{element_of, inner_element_of};
 use moo_syntax_ast::Name;
@@ -60,7 +60,7 @@ impl Task {
     {
         let left = self.evaluate(world, active, stack, indexed, left)?;
         let right = self.evaluate(world, active, stack, indexed, right)?;
-        Ok(binary(self.alloc(), operator, &left, &right)?)
+        Ok(binary_in_place(self.alloc(), operator, left, &right)?)
     }
 
     /// Returns `base[place]`, and takes its ticks. The base is a variable, an element of one or an element of such an

@@ -23,8 +23,8 @@ use moo_value::Value;
 use moo_world::World;
 
 impl Task {
-    /// Reads a property whose name is a literal, and takes its ticks. The object is a literal, or in a variable. `None` if
-    /// that can't be, or for another node; then nothing has changed.
+    /// Reads a property whose name is a literal, and takes its ticks. The object is a literal, or in a variable. `None`
+    /// if that can't be, or for another node; then nothing has changed.
     #[inline(always)]
     pub(crate) fn try_property(
         &mut self,
@@ -46,8 +46,8 @@ impl Task {
         Some(value)
     }
 
-    /// Returns whether the value of a property is true, read as by `try_property`, but without a copy. It declines a built-in
-    /// property too.
+    /// Returns whether the value of a property is true, read as by `try_property`, but without a copy. It declines a
+    /// built-in property too.
     #[inline(always)]
     pub(crate) fn try_property_test(
         &mut self,
@@ -130,8 +130,8 @@ impl Task {
         read_property(self.alloc(), world, active.programmer, &base, &name)
     }
 
-    /// Runs `base.name = value`, if the assignment's own value is not used. Not inlined, so that nested statements need no
-    /// stack space for it.
+    /// Runs `base.name = value`, if the assignment's own value is not used. Not inlined, so that nested statements need
+    /// no stack space for it.
     #[cycle(evaluation)]
     #[inline(never)]
     pub(crate) fn set_property(
@@ -195,7 +195,8 @@ pub(crate) fn as_text(node: &Node) -> Option<&Text>
     }
 }
 
-// Returns the object and the name of a property whose name is a literal, of an object in a variable or of a literal one.
+// Returns the object and the name of a property whose name is a literal, of an object in a variable or of a literal
+// one.
 #[inline(always)]
 fn literal_property<'a>(active: &Activation, node: &'a Node) -> Option<(i32, &'a Text)>
     ensures { IfSome result (λ p. (b : Expr) × (source node.now ≡ property b (literal (Str p.1.now))) × GivesLeaf (variables_of active.now.variables) b (object p.0)) }

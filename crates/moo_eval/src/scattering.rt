@@ -51,8 +51,8 @@ impl Task {
         self.scatter_value(world, active, stack, names, value)
     }
 
-    // Sets these names to the elements of `args`, with the ticks of `{x, y} = args`, and returns whether it did. It doesn't
-    // for another value or if that can't be done at once; then nothing has changed.
+    // Sets these names to the elements of `args`, with the ticks of `{x, y} = args`, and returns whether it did. It
+    // doesn't for another value or if that can't be done at once; then nothing has changed.
     #[inline(always)]
     fn try_scatter(
         &mut self,
@@ -104,8 +104,8 @@ impl Task {
         }
     }
 
-    /// Runs `{items} = value`, if the assignment's own value is not used. Not inlined, so that nested statements need no
-    /// stack space for it.
+    /// Runs `{items} = value`, if the assignment's own value is not used. Not inlined, so that nested statements need
+    /// no stack space for it.
     #[cycle(evaluation)]
     #[inline(never)]
     pub(crate) fn scatter_alone(

@@ -35,8 +35,8 @@ impl SpareMemory {
         }
     }
 
-    /// Keeps the memory of a frame. That of the values of its arguments is kept apart, since the next call takes it before
-    /// its frame.
+    /// Keeps the memory of a frame. That of the values of its arguments is kept apart, since the next call takes it
+    /// before its frame.
     #[inline(always)]
     pub(crate) fn keep(&mut self, memory: FrameMemory) {
         let mut memory = memory;

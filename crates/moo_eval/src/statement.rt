@@ -82,10 +82,10 @@ impl Task {
             ),
             NodeStmt::Break(name) => Ok(Flow::Break(copied_name(name)?)),
             NodeStmt::Continue(name) => Ok(Flow::Continue(copied_name(name)?)),
-            NodeStmt::TryExcept(body, handlers) => self.try_except(
+            NodeStmt::TryExcept(body, handlers) => self.run_except(
                 world, active, stack, body, handlers,
             ),
-            NodeStmt::TryFinally(body, cleanup) => self.try_finally(
+            NodeStmt::TryFinally(body, cleanup) => self.run_finally(
                 world, active, stack, body, cleanup,
             ),
         }
@@ -152,8 +152,8 @@ impl Task {
         }
     }
 
-    // Evaluates an expression of any kind, and drops its value. Not inlined, so that nested statements need no stack space
-    // for it.
+    // Evaluates an expression of any kind, and drops its value. Not inlined, so that nested statements need no stack
+    // space for it.
     #[cycle(evaluation)]
     #[inline(never)]
     fn drop_value(

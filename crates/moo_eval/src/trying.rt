@@ -28,7 +28,7 @@ impl Task {
     // Evaluates the codes of all handlers, then runs the statements.
     #[cycle(evaluation)]
     #[inline(never)]
-    pub(crate) fn try_except(
+    pub(crate) fn run_except(
         &mut self,
         world: &mut World,
         active: &mut Activation,
@@ -197,7 +197,7 @@ impl Task {
     // Runs the cleanup after the statements, however they end, unless ticks or memory ran out.
     #[cycle(evaluation)]
     #[inline(never)]
-    pub(crate) fn try_finally(
+    pub(crate) fn run_finally(
         &mut self,
         world: &mut World,
         active: &mut Activation,

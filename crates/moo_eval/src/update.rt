@@ -17,8 +17,8 @@ use moo_value::Value;
 use moo_world::World;
 
 impl Task {
-    /// Runs `name = called(items)`, if the assignment's own value is not used. A list that nothing but the variable holds
-    /// is changed in place. Not inlined, so that nested statements need no stack space for it.
+    /// Runs `name = called(items)`, if the assignment's own value is not used. A list that nothing but the variable
+    /// holds is changed in place. Not inlined, so that nested statements need no stack space for it.
     #[cycle(evaluation)]
     #[inline(never)]
     pub(crate) fn update(

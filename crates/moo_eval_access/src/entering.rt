@@ -28,21 +28,21 @@ use std::alloc::{AllocError, Global};
 /// The largest number of frames of a task.
 pub const MOST_FRAMES: usize = 50;
 
-/// A verb that was entered: its frame and its callers, and the values that the names have which every frame has.
+/// Holds a verb that was entered: its frame and its callers, and the values that the names have which every frame has.
 #[derive(Drop)]
 pub struct Called<'a> {
     pub stack: CallStack<'a>,
     pub given: GivenValues,
 }
 
-/// A verb that was found, and the object that has it.
+/// Holds a verb that was found, and the object that has it.
 #[derive(Clone, Copy)]
 pub struct Found<'a> {
     pub definer: i32,
     pub verb: &'a Verb,
 }
 
-/// What a frame receives besides its verb: the object it is called on, the caller, the name, and the command. Objects
+/// Holds what a frame receives besides its verb: the object it is called on, the caller, the name, and the command. Objects
 /// are given by their numbers, #-1 for none; each field is that of `Frame`.
 #[derive(Drop)]
 pub struct Call {
@@ -190,14 +190,10 @@ fn arguments(alloc: Global, args: Vec<Value>, memory: &mut FrameMemory) -> Resul
     }
 }
 
-/// Returns the verb that a call on an object runs, and the object that has it: the first executable verb that
-/// matches. E_INVIND if the object isn't valid, E_VERBNF if it has none.
+// Returns the verb that a call on an object runs, and the object that has it: the first executable verb that
+// matches. E_INVIND if the object isn't valid, E_VERBNF if it has none.
 #[inline(always)]
-pub fn found_verb<'a>(
-    world: &'a World,
-    this: i32,
-    name: &VerbName<'_>,
-) -> Result<Found<'a>, ErrorCode>
+fn found_verb<'a>(world: &'a World, this: i32, name: &VerbName<'_>) -> Result<Found<'a>, ErrorCode>
     ensures ok { IfOk result (λ found. found_verb world.now this name.now ≡ Ok (found_of found)) }
     ensures err { IfErr result (λ code. found_verb world.now this name.now ≡ Err code) }
 {
@@ -256,10 +252,10 @@ pub fn has_frame_left(stack: &CallStack<'_>) -> bool
     stack.callers.frames() < MOST_FRAMES - 1
 }
 
-/// Returns the player of a called verb: a wizard may have put another into the variable. The wizard's flag is read
-/// only if the variable holds another value.
+// Returns the player of a called verb: a wizard may have put another into the variable. The wizard's flag is read
+// only if the variable holds another value.
 #[inline(always)]
-pub fn player_of_call(world: &World, caller: &Running, active: &Activation) -> i32
+fn player_of_call(world: &World, caller: &Running, active: &Activation) -> i32
     ensures { result ≡ player_of_call world.now caller.now (variables_of active.now.variables) active.now.programmer }
 {
     if is_object(active.variables.player(), caller.player) {
@@ -333,10 +329,10 @@ pub fn verb_frame(alloc: Global, found: Found<'_>, call: Call) -> Result<Frame, 
     })
 }
 
-/// Returns the program of a verb, an empty one if it has none. The program is shared: a running frame keeps it when
-/// the verb gets another.
+// Returns the program of a verb, an empty one if it has none. The program is shared: a running frame keeps it when
+// the verb gets another.
 #[inline(always)]
-pub fn program_of(alloc: Global, verb: &Verb) -> Result<Program, AllocError>
+fn program_of(alloc: Global, verb: &Verb) -> Result<Program, AllocError>
     ensures { IfOk result (λ program. program ≡ unwrap_or verb.now.program no_statement) }
 {
     match &verb.program {

@@ -1,17 +1,17 @@
 //! Operators between values, with a shorter way for integers.
 ghost use Rattle.std.specs.Prelude.{◌≡◌, ◌+ℤ◌, ◌-ℤ◌, ◌*ℤ◌, int_div, Ok, IfSome};
 ghost use Rattle.std.specs.Int.{int_wrap, w32, IsNonZero};
-ghost use Rattle.moo_value.specs.Tree.{integer};
+ghost use Rattle.moo_value.specs.Tree.{integer, string};
 ghost use Rattle.moo_value.specs.View.{tree};
 ghost use Rattle.moo_builtin_operator.specs.Answer.{Gives};
 ghost use Rattle.moo_builtin_operator.specs.Arithmetic.{quotient, remainder};
-ghost use Rattle.moo_builtin_operator.specs.Operators.{binary_of};
+ghost use Rattle.moo_builtin_operator.specs.Operators.{added, binary_of};
 ghost use Rattle.moo_builtin_operator.specs.Truth.{truth_value};
 
 use moo_builtin_operator as operation;
 use moo_builtin_operator::OperationFault;
 use moo_syntax_ast::operator::BinaryOperator;
-use moo_value::Value;
+use moo_value::{ErrorCode, MooStr, Value, ValueFault};
 use std::alloc::Global;
 
 /// Returns what an operator between two operands gives, or its error. Integers are tried first.
@@ -27,6 +27,53 @@ pub fn binary(
     match integers(operator, a, b) {
         Some(number) => Ok(Value::Int(number)),
         None => operation::binary(alloc, operator, a, b),
+    }
+}
+
+/// Returns what an operator gives, or its error, as `binary` does. A string that nothing else shares takes the bytes of a
+/// second one in place.
+#[inline(always)]
+pub fn binary_in_place(
+    alloc: Global,
+    operator: BinaryOperator,
+    a: Value,
+    b: &Value,
+) -> Result<Value, OperationFault>
+    ensures { Gives result (binary_of operator (tree a) (tree b.now)) }
+{
+    match integers(operator, &a, b) {
+        Some(number) => Ok(Value::Int(number)),
+        None => other_in_place(alloc, operator, a, b),
+    }
+}
+
+// Returns what an operator gives for values that may be no integers. Not inlined, so that integers need no stack space for
+// it.
+#[inline(never)]
+fn other_in_place(
+    alloc: Global,
+    operator: BinaryOperator,
+    a: Value,
+    b: &Value,
+) -> Result<Value, OperationFault>
+    ensures { Gives result (binary_of operator (tree a) (tree b.now)) }
+{
+    match (operator, a, b) {
+        (BinaryOperator::Add, Value::Str(text), Value::Str(last)) => joined(alloc, text, last),
+        (operator, a, b) => operation::binary(alloc, operator, &a, b),
+    }
+}
+
+// Returns a string with another after its bytes: E_QUOTA past the limit.
+fn joined(alloc: Global, text: MooStr, last: &MooStr) -> Result<Value, OperationFault>
+    ensures { Gives result (added (string text) (string last.now)) }
+{
+    match text.extended(alloc, last) {
+        Ok(text) => Ok(Value::Str(text)),
+        Err(ValueFault::Memory) => Err(OperationFault::Memory),
+        Err(ValueFault::BadByte | ValueFault::TooHeavy) => {
+            Err(OperationFault::Raise(ErrorCode::Quota))
+        }
     }
 }
 

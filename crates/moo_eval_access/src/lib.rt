@@ -13,11 +13,11 @@ mod verb_name;
 
 pub use entering::{
     Call, Called, Found, MOST_FRAMES, called_verb, enter_found, enter_verb, enter_verb_from,
-    enter_written, found_verb, has_frame_left, player_of_call, program_of, verb_frame, verb_there,
+    enter_written, has_frame_left, verb_frame, verb_there,
 };
 pub use fault::failed;
 pub use growth::{set_longer, set_prepended, set_sum};
-pub use integers::{binary, number_of};
+pub use integers::{binary, binary_in_place, number_of};
 pub use object::{
     drop_property, drop_written, read_known, read_property, read_written, write_property,
     write_written,

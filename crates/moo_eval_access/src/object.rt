@@ -36,8 +36,8 @@ pub fn read_property(
     }
 }
 
-/// Returns the value of a property whose name is a literal, as `read_property` does. No cell was found before for the name
-/// of a built-in property, so its hint is 0.
+/// Returns the value of a property whose name is a literal, as `read_property` does. If the name's hint is 0, no cell was
+/// found for it yet, so the built-in properties are tried first.
 #[inline(always)]
 pub fn read_written(
     alloc: Global,

@@ -23,21 +23,21 @@ use moo_value::{ErrorCode, Value};
 use moo_world::World;
 use std::alloc::{AllocError, Global};
 
-/// The syntax of a target: the root, and the indexes and ranges that follow it.
+/// Holds the syntax of a target: the root, and the indexes and ranges that follow it.
 #[derive(Drop)]
 pub struct Target<'a> {
     pub root: &'a Node,
     pub spots: Vec<Spot<'a>>,
 }
 
-/// An index or a range in a target.
+/// Holds an index or a range in a target.
 #[derive(Drop)]
 pub enum Spot<'a> {
     Element(&'a Node),
     Part(&'a Node, &'a Node),
 }
 
-/// What an assignment sets.
+/// Names what an assignment sets.
 #[derive(Drop)]
 pub enum Root<'a> {
     Variable(&'a Name),
@@ -46,7 +46,7 @@ pub enum Root<'a> {
     Scatter(&'a [NodeItem]),
 }
 
-/// The places in a container.
+/// Holds the places in a container.
 #[derive(Drop)]
 pub enum Places {
     Element(Value),
@@ -54,14 +54,14 @@ pub enum Places {
     Part(Value, Value),
 }
 
-/// A container, and the places in it.
+/// Holds a container, and the places in it.
 #[derive(Drop)]
 pub struct Step {
     pub container: Value,
     pub places: Places,
 }
 
-/// What an assignment sets, and the containers from its own to the innermost.
+/// Holds what an assignment sets, and the containers from its own to the innermost.
 #[derive(Drop)]
 pub struct Path<'a> {
     pub root: Root<'a>,

@@ -5,7 +5,7 @@ use moo_syntax_ast::{NameKey, Text};
 use moo_value::MooStr;
 use std::marker::Model;
 
-/// The name by which a verb is called, and its key.
+/// Holds the name by which a verb is called, and its key.
 #[derive(Drop)]
 pub struct VerbName<'a> {
     text: &'a MooStr,

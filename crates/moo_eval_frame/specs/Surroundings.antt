@@ -1,6 +1,5 @@
 -- What is round a task, and stays while it runs.
-use Rattle.std.specs.Prelude.{ℕ, ◌+◌, ℤ, negsuc, List, map}
-use Rattle.std.specs.List.Sorted.{IsStrictlyIncreasing}
+use Rattle.std.specs.Prelude.{ℕ, ◌+◌, ℤ, negsuc, List}
 use Rattle.moo_eval_frame.specs.declared.surroundings.Connection.{Connection}
 
 pub record Surroundings : Type 0 where
@@ -12,7 +11,3 @@ pub record Surroundings : Type 0 where
 -- the number of a connection on which no one is connected: -2 - c
 abbrev pub own_number : ℕ → ℤ
 own_number c = negsuc (c + 1)
-
--- connections are in the order of their numbers, each number once
-abbrev pub AreInOrder : List Connection → Type 0
-AreInOrder cs = IsStrictlyIncreasing (map (λ c. c.number) cs)

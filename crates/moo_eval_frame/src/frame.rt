@@ -12,7 +12,7 @@ use moo_syntax_grammar::Program;
 use moo_value::{MooList, MooStr};
 use std::alloc::{AllocError, Global};
 
-/// A program that is to run, and the values that its code begins with.
+/// Holds a program that is to run, and the values that its code begins with.
 #[derive(Drop)]
 pub struct Frame {
     pub program: Program,
@@ -48,8 +48,8 @@ pub struct Frame {
     pub args: MooList,
 }
 
-/// The running code, and what is fixed while it runs: what a traceback shows of it, and what it hands on to the verbs
-/// that it calls.
+/// Holds the running code, and what is fixed while it runs: what a traceback shows of it, and what it hands on to the
+/// verbs that it calls.
 #[derive(Drop)]
 pub struct Running {
     pub program: Program,
@@ -69,7 +69,7 @@ pub struct Running {
     pub verb: MooStr,
 }
 
-/// The data of one frame of a task, as a traceback, `callers` and a handler show it.
+/// Holds the data of one frame of a task, as a traceback, `callers` and a handler show it.
 #[derive(Drop)]
 pub struct TraceFrame {
     /// The object that the verb was called on.
@@ -85,7 +85,7 @@ pub struct TraceFrame {
     pub names: MooStr,
 }
 
-/// A step from the running code down to the one that began the task.
+/// Names a step from the running code down to the one that began the task.
 #[derive(Drop)]
 pub enum TraceEntry {
     /// A frame of a verb, or of a program that is typed in.
@@ -94,7 +94,7 @@ pub enum TraceEntry {
     BuiltIn(MooStr),
 }
 
-/// The running frame and its callers, with the surroundings of the task.
+/// Holds the running frame and its callers, with the surroundings of the task.
 #[derive(Drop)]
 pub struct CallStack<'a> {
     pub running: Running,
@@ -159,7 +159,7 @@ impl CallStack<'_> {
     }
 }
 
-/// The state of a frame that changes while it runs.
+/// Holds the state of a frame that changes while it runs.
 #[derive(Drop)]
 pub struct Activation {
     pub variables: Variables,

@@ -9,13 +9,13 @@ use moo_builtin_operator::OperationFault;
 use moo_value::{ErrorCode, ListLimit, MooStr, Value};
 use std::alloc::{AllocError, Global};
 
-/// An error that was raised. It is on the heap, so that an outcome is small.
+/// Holds an error that was raised. It is on the heap, so that an outcome is small.
 #[derive(Drop)]
 pub struct Raise {
     pub account: Box<Account>,
 }
 
-/// The code and the details of an error that was raised, with the entries from where it was raised.
+/// Holds the code and the details of an error that was raised, with the entries from where it was raised.
 #[derive(Drop)]
 pub struct Account {
     pub code: ErrorCode,
@@ -48,7 +48,7 @@ impl Raise {
     }
 }
 
-/// Why an expression or a statement did not end normally.
+/// Says why an expression or a statement did not end normally.
 #[derive(Drop)]
 pub enum Stop {
     Raised(Raise),
@@ -70,7 +70,7 @@ impl Stop {
     }
 }
 
-/// Where execution continues after a statement.
+/// Names where execution continues after a statement.
 #[derive(Drop)]
 pub enum Flow {
     /// To the next statement.
@@ -83,7 +83,7 @@ pub enum Flow {
     Continue(Option<MooStr>),
 }
 
-/// Why a node has no value: an error of its own, or a stop of a part of it.
+/// Says why a node has no value: an error of its own, or a stop of a part of it.
 #[derive(Drop)]
 pub enum Failure {
     Fails(ErrorCode),

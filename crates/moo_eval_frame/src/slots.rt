@@ -320,6 +320,9 @@ fn replace_by_integer(place: &mut Option<Value>, number: i32)
     *place = Some(Value::Int(number));
 }
 
+// The slots for which memory is taken beyond those of a program's names, so that the next frame most often needs no more.
+const SPARE_SLOTS: usize = 8;
+
 // Returns a slot without a value for each of these names, in this memory, whose values are dropped.
 #[inline(always)]
 fn unset_values(
@@ -330,7 +333,9 @@ fn unset_values(
 {
     let mut values = memory;
     values.clear();
-    values.reserve(names.len())?;
+    if values.capacity() < names.len() {
+        values.reserve(names.len().saturating_add(SPARE_SLOTS))?;
+    }
     push_unset(&mut values, names);
     Ok(values)
 }

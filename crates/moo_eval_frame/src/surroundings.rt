@@ -4,14 +4,14 @@ ghost use Rattle.moo_eval_frame.specs.Surroundings.{own_number};
 
 use crate::notice::Notice;
 
-/// The player who is connected on a connection, and since when, in seconds.
+/// Holds the player who is connected on a connection, and since when, in seconds.
 #[derive(Clone, Copy)]
 pub struct Login {
     pub player: i32,
     pub moment: u32,
 }
 
-/// An open connection. Its moments are in seconds.
+/// Describes an open connection. Its moments are in seconds.
 #[derive(Clone, Copy)]
 pub struct Connection {
     pub number: u16,
@@ -23,7 +23,7 @@ pub struct Connection {
     pub heard: Option<u32>,
 }
 
-/// The surroundings of a task, which stay while it runs: the moment, in seconds, and the open connections, in the
+/// Holds the surroundings of a task, which stay while it runs: the moment, in seconds, and the open connections, in the
 /// order of their numbers. The connections are borrowed, so that beginning a task copies none of them.
 #[derive(Clone, Copy)]
 pub struct Surroundings<'a> {
@@ -31,7 +31,7 @@ pub struct Surroundings<'a> {
     pub connections: &'a [Connection],
 }
 
-/// What a task gets besides the world: its surroundings, and the place for its notices.
+/// Holds what a task gets besides the world: its surroundings, and the place for its notices.
 #[derive(Drop)]
 pub struct TaskEnv<'a> {
     pub surroundings: Surroundings<'a>,

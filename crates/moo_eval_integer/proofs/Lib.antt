@@ -1,2 +1,2 @@
 pub mod Given
-pub mod Lengths
+pub mod Functions

@@ -1,3 +1,4 @@
+pub mod Functions
 pub mod Integers
 pub mod Puts
 pub mod Operands

@@ -18,10 +18,10 @@ use moo_syntax_lower::Node;
 use moo_value::{MooList, MooStr, Value};
 use std::alloc::{AllocError, Global};
 
-/// Returns `name[place]`, and takes its ticks from `left`. `None` if the place can't be computed from integers alone or is
-/// an element itself, if the variable isn't set, if the value has no such place, or if ticks or memory are missing. Then
-/// `left` may have fallen. An element is no place, so that the time for elements of elements is linear in their number.
-/// Inlined, so that an element of a variable needs no call.
+/// Returns `name[place]`, and takes its ticks from `left`. `None` if the place can't be computed from integers alone or
+/// is an element itself, if the variable isn't set, if the value has no such place, or if ticks or memory are missing.
+/// Then `left` may have fallen. An element is no place, so that the time for elements of elements is linear in their
+/// number. Inlined, so that an element of a variable needs no call.
 #[inline(always)]
 pub fn element_of(
     letters: &mut Letters,
@@ -44,8 +44,8 @@ pub fn element_of(
     element_at(letters, base, place)
 }
 
-/// Returns `base[place]`, and takes its ticks from `left`. The base is an element of a variable, or an element of such an
-/// element. `None` as `element_of`, and for another base. No place may be an element, so that the time is linear.
+/// Returns `base[place]`, and takes its ticks from `left`. The base is an element of a variable, or an element of such
+/// an element. `None` as `element_of`, and for another base. No place may be an element, so that the time is linear.
 pub fn inner_element_of(
     letters: &mut Letters,
     active: &Activation,
@@ -66,8 +66,8 @@ pub fn inner_element_of(
     element_at(letters, base, place)
 }
 
-/// Is true if a place is no element, and its base is a variable, an element of one or an element of such an element, also
-/// at places that are no elements. So the time for elements of elements is linear in their number.
+/// Is true if a place is no element, and its base is a variable, an element of one or an element of such an element,
+/// also at places that are no elements. So the time for elements of elements is linear in their number.
 #[inline(always)]
 pub(crate) fn has_flat_place(base: &Node, place: &Node) -> bool {
     !is_element(place) && is_flat_base(base)
@@ -98,7 +98,8 @@ fn is_variable(node: &Node) -> bool {
     matches!(node, Node::Variable(_))
 }
 
-// Returns the element of a list, or the letter of a string, at a place. `None` if there is none, or if memory is missing.
+// Returns the element of a list, or the letter of a string, at a place. `None` if there is none, or if memory is
+// missing.
 #[inline(always)]
 fn element_at(letters: &mut Letters, base: &Value, place: i32) -> Option<Value>
     ensures value { IfSome result (λ v. index_of (tree base.now) (integer place) ≡ Ok (tree v)) }
@@ -201,9 +202,10 @@ pub fn try_put_integer(
     active.variables.try_put_element(name, index, number)
 }
 
-/// Sets `name[outer][inner]` to a value and returns true, and takes the ticks of places and value from `left`. The inner
-/// list has to have an integer at its place, and nothing else may share it; places and value have to be computed from
-/// integers alone. Else the variables stay, but `left` may have fallen.
+/// Sets `name[outer][inner]` to a value and returns true, and takes the ticks of places and value from `left`. The
+/// inner list has to have an integer at its place, and nothing else may share it; places and value have to be computed
+/// from integers alone. If not, it returns false and the variables stay, but `left` may have fallen. Err is out of
+/// memory; the variable may then hold an empty list.
 pub fn try_put_inner_integer(
     alloc: Global,
     active: &mut Activation,

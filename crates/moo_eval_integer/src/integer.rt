@@ -14,7 +14,7 @@ ghost use Rattle.moo_eval_frame.specs.Seen.{indexed_of, variables_of};
 ghost use Rattle.moo_eval_integer.specs.Integers.{GivesInteger, GivesLeafInteger, GivesValue};
 
 use crate::element::{integer_at, value_at};
-use crate::length::call_integer;
+use crate::function::call_integer;
 use crate::ticks::{take, take_three};
 use moo_eval_access::number_of;
 use moo_eval_frame::Activation;
@@ -43,7 +43,8 @@ pub fn arithmetic_integer(
     nested_integer(active, left, operator, a, b)
 }
 
-// Returns the integer of an operator between two nodes, and takes its ticks from `left`. `None` as `arithmetic_integer`.
+// Returns the integer of an operator between two nodes, and takes its ticks from `left`. `None` as
+// `arithmetic_integer`.
 #[cycle(integer)]
 #[inline(never)]
 fn nested_integer(
@@ -63,8 +64,8 @@ fn nested_integer(
 }
 
 // Returns the integer of an operator between two integers or variables whose slots are known, and takes its ticks from
-// `left`. `None` if one has another value or none, if the operator may fail, or if ticks are missing. Then `left` stays.
-// The second is looked at first, so that no variable is read in vain if it is of another kind.
+// `left`. `None` if one has another value or none, if the operator may fail, or if ticks are missing. Then `left`
+// stays. The second is looked at first, so that no variable is read in vain if it is of another kind.
 #[inline(always)]
 fn leaves_integer(
     active: &Activation,
@@ -125,9 +126,9 @@ fn known_integer(active: &Activation, name: &Name) -> Option<i32>
     integer_in(active.variables.get_known(name))
 }
 
-/// Adds the integer of a node to the one in a variable and returns true, and takes the ticks of the sum from `left`. The
-/// variable has to hold an integer, and the node has to be computed from integers alone. Else the variables stay, but
-/// `left` may have fallen.
+/// Adds the integer of a node to the one in a variable and returns true, and takes the ticks of the sum from `left`.
+/// The variable has to hold an integer, and the node has to be computed from integers alone. Else the variables stay,
+/// but `left` may have fallen.
 #[inline(always)]
 pub fn try_add_integer(active: &mut Activation, left: &mut u32, name: &Name, node: &Node) -> bool
     ensures added { IsTrue result → (n : ℤ) × GivesInteger (variables_of active.old.variables) left.old (binary Add (variable name.now) (source node.now)) n left.new × (variables_of active.new.variables ≡ with_variable (variables_of active.old.variables) (bind name.now (integer n))) }
@@ -141,9 +142,9 @@ pub fn try_add_integer(active: &mut Activation, left: &mut u32, name: &Name, nod
     }
 }
 
-/// Sets a variable to the integer of an operator and returns true, and takes the operator's ticks from `left`. The operator
-/// has to be computed from integers alone, and the variable's slot has to be known. Else the variables stay, but `left`
-/// may have fallen.
+/// Sets a variable to the integer of an operator and returns true, and takes the operator's ticks from `left`. The
+/// operator has to be computed from integers alone, and the variable's slot has to be known. Else the variables stay,
+/// but `left` may have fallen.
 #[inline(always)]
 pub fn try_set_arithmetic(active: &mut Activation, left: &mut u32, name: &Name, node: &Node) -> bool
     ensures set { IsTrue result → (n : ℤ) × GivesInteger (variables_of active.old.variables) left.old (source node.now) n left.new × (variables_of active.new.variables ≡ with_variable (variables_of active.old.variables) (bind name.now (integer n))) }
@@ -157,7 +158,8 @@ pub fn try_set_arithmetic(active: &mut Activation, left: &mut u32, name: &Name, 
     }
 }
 
-// Returns the integer of an operator, and takes its ticks from `left`. `None` as `operand_integer`, and for another node.
+// Returns the integer of an operator, and takes its ticks from `left`. `None` as `operand_integer`, and for another
+// node.
 #[inline(always)]
 fn operator_integer(active: &Activation, left: &mut u32, node: &Node) -> Option<i32>
     ensures value { IfSome result (λ n. GivesInteger (variables_of active.now.variables) left.old (source node.now) n left.new) }
@@ -182,8 +184,8 @@ fn addend(active: &Activation, left: &mut u32, node: &Node) -> Option<i32>
     operand_integer(active, left, node)
 }
 
-/// Returns the integer of a node, and takes its ticks from `left`. The node may also be an operator between such nodes. A
-/// statement tries a node so at most once, so that the time is linear in its size. `None` as `arithmetic_integer`.
+/// Returns the integer of a node, and takes its ticks from `left`. The node may also be an operator between such nodes.
+/// A statement tries a node so at most once, so that the time is linear in its size. `None` as `arithmetic_integer`.
 #[cycle(operand)]
 #[inline(always)]
 pub(crate) fn operand_integer(active: &Activation, left: &mut u32, node: &Node) -> Option<i32>
@@ -228,8 +230,9 @@ fn binary_integer(
     number_of(operator, first, second)
 }
 
-// Returns the integer of a node, and takes its ticks from `left`. `None` as `arithmetic_integer`. Inlined, so that an integer or a variable needs no call. Three tests are
-// shorter than the table of jumps that a `match` over all nodes would be.
+// Returns the integer of a node, and takes its ticks from `left`. `None` as `arithmetic_integer`. Inlined, so that an
+// integer or a variable needs no call. Three tests are shorter than the table of jumps that a `match` over all nodes
+// would be.
 #[cycle(integer)]
 #[inline(always)]
 pub(crate) fn integer_of(active: &Activation, left: &mut u32, node: &Node) -> Option<i32>
@@ -248,8 +251,8 @@ pub(crate) fn integer_of(active: &Activation, left: &mut u32, node: &Node) -> Op
     part_integer(active, left, node)
 }
 
-// Returns the integer of an element of a variable or of its length, and takes its ticks from `left`. Not inlined, so that operators between
-// integers stay short.
+// Returns the integer of an element of a variable or of its length, and takes its ticks from `left`. Not inlined, so
+// that operators between integers stay short.
 #[cycle(integer)]
 #[inline(never)]
 fn part_integer(active: &Activation, left: &mut u32, node: &Node) -> Option<i32>
@@ -276,8 +279,8 @@ fn element_integer(active: &Activation, left: &mut u32, base: &Node, place: &Nod
     integer_at(list, place)
 }
 
-// Returns the list in a variable, in an element of one, or in an element of such an element. Takes the node's ticks from
-// `left`.
+// Returns the list in a variable, in an element of one, or in an element of such an element. Takes the node's ticks
+// from `left`.
 #[cycle(integer)]
 #[inline(always)]
 fn held_list<'a>(active: &'a Activation, left: &mut u32, node: &Node) -> Option<&'a MooList>

@@ -46,7 +46,7 @@ pub(crate) fn lower_expression(alloc: Global, expr: &Expr) -> Result<Node, Alloc
     }
 }
 
-/// Returns the node of an expression of a in a box.
+/// Returns the node of an expression in a box.
 #[cycle(lowering)]
 pub(crate) fn lower_boxed(alloc: Global, expr: &Expr) -> Result<Box<Node>, AllocError>
     ensures { IfOk result (λ node. source node.value ≡ tree expr.now) }

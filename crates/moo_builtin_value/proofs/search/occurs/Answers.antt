@@ -2,8 +2,8 @@ use Rattle.std.proofs.Common.{◌+◌, ◌-◌, length, arith}
 use Rattle.moo_builtin_value.proofs.Occurring.{occurs_here, occurs_so}
 use Rattle.moo_builtin_value.proofs.search.occurs.Goals as goal
 
-pub returns : goal.returns
-returns c =
+pub returns-then-may_occur : goal.returns-then-may_occur
+returns-then-may_occur c =
     let text = c.args.text.now in
     let wanted = c.args.wanted.now in
     let m = c.args.at + length wanted - c.args.at in (

@@ -22,7 +22,7 @@ use Rattle.moo_syntax_ast.specs.Tree as program
 use Rattle.moo_syntax_ast.specs.declared.tree.Literal.TheVariants.{Str}
 use Rattle.moo_syntax_ast.specs.declared.operator.BinaryOperator.TheVariants.{Add}
 use Rattle.moo_syntax_ast.specs.Tree.{variable, binary, splice, element, no_items, no_handler}
-use Rattle.moo_eval.proofs.Lengthened.{lengthened, longer, too_long, first_stops, first_fails, unspliced, second_stops, set_longer, set_error, not_set}
+use Rattle.moo_eval.proofs.Lengthened.{lengthened, longer, too_long, first_stops, first_fails, unspliced, second_stops, longer_by, too_long_by, spliced_stops, spliced_fails, items_end, set_longer, set_error, not_set}
 use Rattle.moo_eval.proofs.Prepended as front
 use Rattle.moo_eval.specs.Element.{sets_place}
 use Rattle.moo_eval.proofs.Placed.{put, does_from, not_put, unheld, place_ends, value_ends, put_alone, passed_over, stopped}
@@ -131,7 +131,7 @@ unary-returns-in_err-unary-clause-meaning t c =
 
 pub binary-returns-clause-meaning : goal.binary-returns-clause-meaning
 binary-returns-clause-meaning t c =
-    λ k. applies (element_then (c.in_ok-left.ensures.meaning tt) (element_then (c.in_ok-right.ensures.meaning tt) no_more refl) refl) no_more (binary_is (ap answers c.in_ok-binary.ensures))
+    λ k. applies (element_then (c.in_ok-left.ensures.meaning tt) (element_then (c.in_ok-right.ensures.meaning tt) no_more refl) refl) no_more (binary_is (ap answers c.in_ok-binary_in_place.ensures))
 
 pub binary-returns-in_err-left-clause-meaning : goal.binary-returns-in_err-left-clause-meaning
 binary-returns-in_err-left-clause-meaning t c =
@@ -141,13 +141,13 @@ pub binary-returns-in_err-right-clause-meaning : goal.binary-returns-in_err-righ
 binary-returns-in_err-right-clause-meaning t c =
     let p = err_from_is_err_and c.from_residual-in_err-right.result c.from_residual-in_err-right.ensures.1 in rw (p.1, p.2) (λ k. operands_end (element_then (c.in_ok-left.ensures.meaning tt) (element_stops (c.in_err-right.ensures.meaning k)) refl))
 
-pub binary-returns-in_err-binary-clause-meaning : goal.binary-returns-in_err-binary-clause-meaning
-binary-returns-in_err-binary-clause-meaning t c =
-    let p = err_from_is_err_and c.from_residual-in_err-binary.result c.from_residual-in_err-binary.ensures.1 in rw (p.1, p.2) (λ k. applies (element_then (c.in_ok-left.ensures.meaning tt) (element_then (c.in_ok-right.ensures.meaning tt) no_more refl) refl) no_more (binary_is (refused _ _ c.in_err-binary.ensures k)))
+pub binary-returns-in_err-binary_in_place-clause-meaning : goal.binary-returns-in_err-binary_in_place-clause-meaning
+binary-returns-in_err-binary_in_place-clause-meaning t c =
+    let p = err_from_is_err_and c.from_residual-in_err-binary_in_place.result c.from_residual-in_err-binary_in_place.ensures.1 in rw (p.1, p.2) (λ k. applies (element_then (c.in_ok-left.ensures.meaning tt) (element_then (c.in_ok-right.ensures.meaning tt) no_more refl) refl) no_more (binary_is (refused _ _ c.in_err-binary_in_place.ensures k)))
 
 pub arithmetic-returns-clause-meaning : goal.arithmetic-returns-clause-meaning
 arithmetic-returns-clause-meaning t c =
-    λ k. applies (element_then (c.in_ok-left.ensures.meaning tt) (element_then (c.in_ok-right.ensures.meaning tt) no_more refl) refl) no_more (binary_is (ap answers c.in_ok-binary.ensures))
+    λ k. applies (element_then (c.in_ok-left.ensures.meaning tt) (element_then (c.in_ok-right.ensures.meaning tt) no_more refl) refl) no_more (binary_is (ap answers c.in_ok-binary_in_place.ensures))
 
 pub arithmetic-returns-in_err-left-clause-meaning : goal.arithmetic-returns-in_err-left-clause-meaning
 arithmetic-returns-in_err-left-clause-meaning t c =
@@ -157,9 +157,9 @@ pub arithmetic-returns-in_err-right-clause-meaning : goal.arithmetic-returns-in_
 arithmetic-returns-in_err-right-clause-meaning t c =
     let p = err_from_is_err_and c.from_residual-in_err-right.result c.from_residual-in_err-right.ensures.1 in rw (p.1, p.2) (λ k. operands_end (element_then (c.in_ok-left.ensures.meaning tt) (element_stops (c.in_err-right.ensures.meaning k)) refl))
 
-pub arithmetic-returns-in_err-binary-clause-meaning : goal.arithmetic-returns-in_err-binary-clause-meaning
-arithmetic-returns-in_err-binary-clause-meaning t c =
-    let p = err_from_is_err_and c.from_residual-in_err-binary.result c.from_residual-in_err-binary.ensures.1 in rw (p.1, p.2) (λ k. applies (element_then (c.in_ok-left.ensures.meaning tt) (element_then (c.in_ok-right.ensures.meaning tt) no_more refl) refl) no_more (binary_is (refused _ _ c.in_err-binary.ensures k)))
+pub arithmetic-returns-in_err-binary_in_place-clause-meaning : goal.arithmetic-returns-in_err-binary_in_place-clause-meaning
+arithmetic-returns-in_err-binary_in_place-clause-meaning t c =
+    let p = err_from_is_err_and c.from_residual-in_err-binary_in_place.result c.from_residual-in_err-binary_in_place.ensures.1 in rw (p.1, p.2) (λ k. applies (element_then (c.in_ok-left.ensures.meaning tt) (element_then (c.in_ok-right.ensures.meaning tt) no_more refl) refl) no_more (binary_is (refused _ _ c.in_err-binary_in_place.ensures k)))
 
 pub logic-returns-clause-meaning : goal.logic-returns-clause-meaning
 logic-returns-clause-meaning t c =
@@ -341,11 +341,11 @@ assign_path-returns-clause-meaning t c =
 
 pub call_unary-returns-in_err-value-clause-meaning : goal.call_unary-returns-in_err-value-clause-meaning
 call_unary-returns-in_err-value-clause-meaning t c =
-    let p = err_from_is_err_and c.from_residual.result c.from_residual.ensures.1 in rw (p.1, p.2) (λ k. operands_end (element_stops (c.in_err-value.ensures.meaning k)))
+    let p = err_from_is_err_and c.from_residual.result c.from_residual.ensures.1 in rw (p.1, p.2) (λ k. operands_end (element_stops (rw c.in_default.ensures.none at (c.in_err-value.ensures.meaning k))))
 
 pub call_unary-returns-clause-meaning : goal.call_unary-returns-clause-meaning
 call_unary-returns-clause-meaning t c =
-    λ k. applies (element_then (c.in_ok-value.ensures.meaning tt) no_more refl) no_more (call_is c.requires (c.call_values.ensures.call c.args.name.now (sym c.function.ensures) k))
+    λ k. applies (element_then (rw c.in_default.ensures.none at (c.in_ok-value.ensures.meaning tt)) no_more refl) no_more (call_is c.requires (c.call_values.ensures.call c.args.name.now (sym c.function.ensures) k))
 
 pub call_any-returns-in_err-evaluate_elements-clause-meaning : goal.call_any-returns-in_err-evaluate_elements-clause-meaning
 call_any-returns-in_err-evaluate_elements-clause-meaning t c =
@@ -661,12 +661,12 @@ pub for_range-returns-in-Ok-clause-meaning : goal.for_range-returns-in-Ok-clause
 for_range-returns-in-Ok-clause-meaning t c =
     λ k. counts (element_then (c.in_ok-low.ensures.meaning tt) (element_then (c.in_ok-high.ensures.meaning tt) no_more refl) refl) c.in-Ok.ensures.ok (c.count.ensures.meaning k)
 
-pub try_finally-returns-then-not-runs_finally-clause-meaning : goal.try_finally-returns-then-not-runs_finally-clause-meaning
-try_finally-returns-then-not-runs_finally-clause-meaning t c =
+pub run_finally-returns-then-not-runs_finally-clause-meaning : goal.run_finally-returns-then-not-runs_finally-clause-meaning
+run_finally-returns-then-not-runs_finally-clause-meaning t c =
     λ k. finally_skipped (c.run_all-outcome.ensures.meaning k) (sym (c.runs_finally.ensures.outcome k) ∙ c.if-not-runs_finally.true)
 
-pub try_finally-returns-clause-meaning : goal.try_finally-returns-clause-meaning
-try_finally-returns-clause-meaning t c =
+pub run_finally-returns-clause-meaning : goal.run_finally-returns-clause-meaning
+run_finally-returns-clause-meaning t c =
     λ k. let h = c.runs_finally.ensures.known c.if-not-runs_finally.false in finally_runs (c.run_all-outcome.ensures.meaning h) (sym (c.runs_finally.ensures.outcome h) ∙ c.if-not-runs_finally.false) (c.run_all-last.ensures.meaning (c.after_finally.ensures.known k)) (sym c.after_finally.ensures.outcome)
 
 pub run_with_handlers-returns-in_err-guarded-clause-meaning : goal.run_with_handlers-returns-in_err-guarded-clause-meaning
@@ -803,17 +803,62 @@ pub assign_variable-returns-in_err-value-clause-meaning : goal.assign_variable-r
 assign_variable-returns-in_err-value-clause-meaning t c =
     let p = err_from_is_err_and c.from_residual.result c.from_residual.ensures.1 in rw (p.1, p.2) (λ k. unassigned (c.in_err-value.ensures.meaning k))
 
-pub assign_value-returns-clause-meaning : goal.assign_value-returns-clause-meaning
-assign_value-returns-clause-meaning t c =
+pub assign_any-returns-clause-meaning : goal.assign_any-returns-clause-meaning
+assign_any-returns-clause-meaning t c =
     λ k. performed c.in_ok-take_tick.ensures.taken (assigned (rw c.in_ok-take_tick.ensures.left at (c.in_ok-value.ensures.meaning tt)) (same_state (sym c.in_ok-set.ensures) refl))
 
-pub assign_value-returns-in_err-take_tick-clause-meaning : goal.assign_value-returns-in_err-take_tick-clause-meaning
-assign_value-returns-in_err-take_tick-clause-meaning t c =
+pub assign_any-returns-in_err-take_tick-clause-meaning : goal.assign_any-returns-in_err-take_tick-clause-meaning
+assign_any-returns-in_err-take_tick-clause-meaning t c =
     let p = err_from_is_err_and c.from_residual.result c.from_residual.ensures.1 in rw (p.1, p.2) (λ k. let h = c.in_err-take_tick.ensures.spent k in rw (c.in_err-take_tick.ensures.kept, h.1) (evaluates (spent h.0) refl))
 
-pub assign_value-returns-in_err-value-clause-meaning : goal.assign_value-returns-in_err-value-clause-meaning
-assign_value-returns-in_err-value-clause-meaning t c =
+pub assign_any-returns-in_err-value-clause-meaning : goal.assign_any-returns-in_err-value-clause-meaning
+assign_any-returns-in_err-value-clause-meaning t c =
     let p = err_from_is_err_and c.from_residual-in_err-value.result c.from_residual-in_err-value.ensures.1 in rw (p.1, p.2) (λ k. unperformed c.in_ok-take_tick.ensures.taken (unassigned (rw c.in_ok-take_tick.ensures.left at (c.in_err-value.ensures.meaning k))))
+
+pub assign_value-returns-in-Some-clause-meaning : goal.assign_value-returns-in-Some-clause-meaning
+assign_value-returns-in-Some-clause-meaning t c = rw c.in-Some.ensures c.lengthen_by.ensures.meaning
+
+pub lengthen_by-returns-in-Ok-clause-meaning : goal.lengthen_by-returns-in-Ok-clause-meaning
+lengthen_by-returns-in-Ok-clause-meaning t c =
+    λ k. set_longer c.in_ok-take_tick.ensures.taken (rw c.in_ok-take_tick.ensures.left at c.in_ok-take_tick-2.ensures.taken) (rw (c.in_ok-take_tick-2.ensures.left, c.in_ok-take_tick.ensures.left) at c.in-Ok.ensures.ok)
+
+pub lengthen_by-returns-in_ok-set-in-Err-clause-meaning : goal.lengthen_by-returns-in_ok-set-in-Err-clause-meaning
+lengthen_by-returns-in_ok-set-in-Err-clause-meaning t c =
+    λ k. set_error c.in_ok-take_tick.ensures.taken (rw c.in_ok-take_tick.ensures.left at c.in_ok-take_tick-2.ensures.taken) (rw (c.in_ok-take_tick-2.ensures.left, c.in_ok-take_tick.ensures.left) at (c.in-Err.ensures.err (c.in_ok-value-in-Err.ensures.known tt))) (c.in_ok-value-in-Err.ensures.outcome tt) (same_state (sym c.in_ok-set-in-Err.ensures) refl)
+
+pub lengthen_by-returns-in_err-value-in-Err-clause-meaning : goal.lengthen_by-returns-in_err-value-in-Err-clause-meaning
+lengthen_by-returns-in_err-value-in-Err-clause-meaning t c =
+    let p = err_from_is_err_and c.from_residual-in_err-value-in-Err.result c.from_residual-in_err-value-in-Err.ensures.1 in rw (p.1, p.2) (λ k. not_set c.in_ok-take_tick.ensures.taken (rw c.in_ok-take_tick.ensures.left at c.in_ok-take_tick-2.ensures.taken) (rw (c.in_ok-take_tick-2.ensures.left, c.in_ok-take_tick.ensures.left) at (c.in-Err.ensures.err (c.in_err-value-in-Err.ensures.known k))) (c.in_err-value-in-Err.ensures.outcome k))
+
+pub lengthen_by-returns-in_err-take_tick-clause-meaning : goal.lengthen_by-returns-in_err-take_tick-clause-meaning
+lengthen_by-returns-in_err-take_tick-clause-meaning t c =
+    let p = err_from_is_err_and c.from_residual.result c.from_residual.ensures.1 in rw (p.1, p.2) (λ k. let h = c.in_err-take_tick.ensures.spent k in rw (c.in_err-take_tick.ensures.kept, h.1) (evaluates (spent h.0) refl))
+
+pub lengthen_by-returns-in_err-take_tick-2-clause-meaning : goal.lengthen_by-returns-in_err-take_tick-2-clause-meaning
+lengthen_by-returns-in_err-take_tick-2-clause-meaning t c =
+    let p = err_from_is_err_and c.from_residual-in_err-take_tick-2.result c.from_residual-in_err-take_tick-2.ensures.1 in rw (p.1, p.2) (λ k. let h = c.in_err-take_tick-2.ensures.spent k in rw (c.in_err-take_tick-2.ensures.kept, c.in_ok-take_tick.ensures.left, h.1) (unperformed c.in_ok-take_tick.ensures.taken (unassigned (spent (rw c.in_ok-take_tick.ensures.left at h.0)))))
+
+pub put_all_longer-returns-clause-ok : goal.put_all_longer-returns-clause-ok
+put_all_longer-returns-clause-ok t c =
+    let h = c.in_ok-set_all_longer.ensures.ok in
+    longer_by c.in-List.list (rw c.in-List.is at (c.in_ok-found.ensures.meaning None c.args.world.now tt)) (c.in_ok-values.ensures.meaning tt) h.1 (same_state (sym h.2) refl)
+
+pub put_all_longer-returns-in_err-found-clause-err : goal.put_all_longer-returns-in_err-found-clause-err
+put_all_longer-returns-in_err-found-clause-err t c =
+    let p = err_from_is_err_and c.from_residual.result c.from_residual.ensures.1 in rw (p.1, p.2) (λ k. spliced_stops (c.in_err-found.ensures.meaning None c.args.world.now k))
+
+pub put_all_longer-returns-in_default-clause-err : goal.put_all_longer-returns-in_default-clause-err
+put_all_longer-returns-in_default-clause-err t c =
+    λ k. spliced_fails (c.in_ok-found.ensures.meaning None c.args.world.now tt) (unspliced _ c.in_default.not-List)
+
+pub put_all_longer-returns-in_err-values-clause-err : goal.put_all_longer-returns-in_err-values-clause-err
+put_all_longer-returns-in_err-values-clause-err t c =
+    let p = err_from_is_err_and c.from_residual-in_err-values.result c.from_residual-in_err-values.ensures.1 in rw (p.1, p.2) (λ k. items_end c.in-List.list (rw c.in-List.is at (c.in_ok-found.ensures.meaning None c.args.world.now tt)) (c.in_err-values.ensures.meaning k))
+
+pub put_all_longer-returns-in_err-set_all_longer-clause-err : goal.put_all_longer-returns-in_err-set_all_longer-clause-err
+put_all_longer-returns-in_err-set_all_longer-clause-err t c =
+    let p = err_from_is_err_and c.from_residual-in_err-set_all_longer.result c.from_residual-in_err-set_all_longer.ensures.1 in
+    rw (p.1, p.2) (λ k. subst (λ s. Computes Faults (context_of c.args.stack.now None) (program.list (splice (variable c.args.held.now) (source_items c.args.more.now))) (state_of c.args.self.now c.args.world.now c.args.active.now) (Err (failure_of c.in_err-set_all_longer.field-0.0)) s) (same_state (sym (c.in_err-set_all_longer.ensures.kept k)) refl) (too_long_by c.in-List.list (rw c.in-List.is at (c.in_ok-found.ensures.meaning None c.args.world.now tt)) (c.in_ok-values.ensures.meaning tt) (c.in_err-set_all_longer.ensures.err k)))
 
 pub lengthen_parts-returns-in-Ok-clause-meaning : goal.lengthen_parts-returns-in-Ok-clause-meaning
 lengthen_parts-returns-in-Ok-clause-meaning t c =

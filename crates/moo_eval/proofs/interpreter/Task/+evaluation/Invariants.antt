@@ -61,7 +61,16 @@ abbrev pub decreases-assign_variable : goal.decreases-assign_variable
 decreases-assign_variable l = 16 * l.self.now.ticks_left + 8
 
 abbrev pub decreases-assign_value : goal.decreases-assign_value
-decreases-assign_value l = 16 * l.self.now.ticks_left
+decreases-assign_value l = 16 * l.self.now.ticks_left + 1
+
+abbrev pub decreases-assign_any : goal.decreases-assign_any
+decreases-assign_any l = 16 * l.self.now.ticks_left
+
+abbrev pub decreases-lengthen_by : goal.decreases-lengthen_by
+decreases-lengthen_by l = 16 * l.self.now.ticks_left
+
+abbrev pub decreases-put_all_longer : goal.decreases-put_all_longer
+decreases-put_all_longer l = 16 * l.self.now.ticks_left + 8
 
 abbrev pub decreases-lengthen : goal.decreases-lengthen
 decreases-lengthen l = 16 * l.self.now.ticks_left + 1

@@ -1,25 +1,27 @@
-//! The lengths of strings and lists in variables.
-ghost use Rattle.std.specs.Prelude.{◌≡◌, ◌≤◌, Ok, Some, IfSome, IsTrue};
+//! Calls of functions that give an integer for the value of a variable.
+ghost use Rattle.std.specs.Prelude.{◌≡◌, ◌≤◌, Ok, Some, IfSome};
 ghost use Rattle.moo_value.specs.Tree.{integer};
 ghost use Rattle.moo_value.specs.View.{tree};
 ghost use Rattle.moo_syntax_ast.specs.Tree.{call, variable, element, no_items};
 ghost use Rattle.moo_syntax_function.specs.Names.{function_of};
-ghost use Rattle.moo_syntax_function.specs.declared.function.Function.TheVariants as function;
 ghost use Rattle.moo_syntax_lower.specs.Source.{source, source_items};
 ghost use Rattle.moo_builtin_operator.specs.Places.{length_of};
 ghost use Rattle.moo_eval_frame.specs.Seen.{variables_of};
+ghost use Rattle.moo_eval_integer.specs.Functions.{GivesFor};
 ghost use Rattle.moo_eval_integer.specs.Integers.{GivesInteger};
 
 use crate::ticks::take;
 use moo_builtin_operator as operation;
+use moo_builtin_value::type_number;
 use moo_eval_frame::Activation;
 use moo_syntax_ast::Name;
 use moo_syntax_function::Function;
 use moo_syntax_lower::{FunctionName, Node, NodeItem};
 use moo_value::Value;
 
-/// Returns the integer of a call of `length` for a variable, and takes its ticks from `left`. `None` for another call, if
-/// the variable isn't set or holds neither a string nor a list, or if ticks are missing. Then `left` may have fallen.
+/// Returns the integer of a call of `length` or `typeof` for a variable, and takes its ticks from `left`. `None` for
+/// another call, if the variable isn't set, for `length` of neither a string nor a list, or if ticks are missing. Then
+/// `left` may have fallen.
 #[inline(always)]
 pub fn call_integer(
     active: &Activation,
@@ -30,22 +32,24 @@ pub fn call_integer(
     ensures value { IfSome result (λ n. GivesInteger (variables_of active.now.variables) left.old (call name.now (source_items items.now)) n left.new) }
     ensures ticks { left.new ≤ left.old }
 {
-    if !is_length(name) {
-        return None;
-    }
+    let function = integer_function(name)?;
     let variable = as_one_variable(items)?;
     take(left)?;
     let held = active.variables.get(variable)?;
     take(left)?;
-    length_in(held)
+    integer_for(function, held)
 }
 
-// Is true for the name of the function `length`.
+// Returns the function of a name, if it is `length` or `typeof`.
 #[inline(always)]
-fn is_length(name: &FunctionName) -> bool
-    ensures { IsTrue result → function_of name.now ≡ Some function.Length }
+fn integer_function(name: &FunctionName) -> Option<Function>
+    ensures { IfSome result (λ f. function_of name.now ≡ Some f) }
 {
-    matches!(name.function(), Some(Function::Length))
+    match name.function() {
+        Some(Function::Length) => Some(Function::Length),
+        Some(Function::Typeof) => Some(Function::Typeof),
+        _ => None,
+    }
 }
 
 // Returns the variable, if it is the only item.
@@ -66,6 +70,19 @@ fn as_variable(node: &Node) -> Option<&Name>
 {
     match node {
         Node::Variable(name) => Some(name),
+        _ => None,
+    }
+}
+
+// Returns the integer that `length` or `typeof` gives for a value. `None` for another function, and for a value without
+// a length.
+#[inline(always)]
+fn integer_for(function: Function, held: &Value) -> Option<i32>
+    ensures { IfSome result (λ n. GivesFor function (tree held.now) n) }
+{
+    match function {
+        Function::Length => length_in(held),
+        Function::Typeof => Some(type_number(held)),
         _ => None,
     }
 }

@@ -1,9 +1,0 @@
-use Rattle.std.proofs.Common.{sym}
-use Rattle.moo_eval_frame.specs.Seen.{variables_of}
-use Rattle.moo_syntax_lower.proofs.Items.{map_some}
-use Rattle.moo_eval_integer.proofs.Lengths.{length_gives}
-use Rattle.moo_eval_integer.proofs.length.call_integer.Goals as goal
-
-pub returns-clause-value : goal.returns-clause-value
-returns-clause-value c =
-    map_some c.length_in.result (λ n h. rw c.in_ok-variable.ensures (length_gives (variables_of c.args.active.now.variables) (c.is_length.ensures c.if-not-is_length.false) c.in_ok-take.ensures.taken c.in_ok-take-2.ensures.taken (sym c.in_ok-held.ensures) h)) c.length_in.ensures

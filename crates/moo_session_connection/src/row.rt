@@ -46,11 +46,12 @@ impl Row {
         0 < self.settled
     }
 
-    // Appends a line and its end.
+    // Appends a line and its end, in memory that is taken once.
     pub(crate) fn push(&mut self, line: &[u8]) -> Result<(), AllocError>
         ensures ok { OnOk result (self.new.under_way ≡ self.old.under_way ++ ended line.now) }
         ensures waiting { self.new.waiting ≡ self.old.waiting }
     {
+        self.bytes.reserve(line.len().saturating_add(2))?;
         self.bytes.extend_from_slice(line)?;
         self.bytes.extend_from_slice(b"\r\n")?;
         Ok(())

@@ -140,26 +140,9 @@ impl Task {
         ensures meaning { IsKnown result → Does Faults (context_of stack.now None) (performs (assign (variable name.now) (source value.now))) (state_of self.old world.old active.old) (seen_flow result) (state_of self.new world.new active.new) }
         ensures ticks { self.new.ticks_left ≤ self.old.ticks_left }
     {
-        match as_longer(value) {
-            Some((held, more)) => self.lengthen_by(world, active, stack, name, held, more),
-            None => self.assign_any(world, active, stack, name, value),
+        if let Some((held, more)) = as_longer(value) {
+            return self.lengthen_by(world, active, stack, name, held, more);
         }
-    }
-
-    // Assigns any value to a variable, as `assign_value` does.
-    #[cycle(evaluation)]
-    #[inline(always)]
-    fn assign_any(
-        &mut self,
-        world: &mut World,
-        active: &mut Activation,
-        stack: &CallStack<'_>,
-        name: &Name,
-        value: &Node,
-    ) -> Result<Flow, Stop>
-        ensures meaning { IsKnown result → Does Faults (context_of stack.now None) (performs (assign (variable name.now) (source value.now))) (state_of self.old world.old active.old) (seen_flow result) (state_of self.new world.new active.new) }
-        ensures ticks { self.new.ticks_left ≤ self.old.ticks_left }
-    {
         self.take_tick(active, stack)?;
         let value = self.evaluate_tried(world, active, stack, None, value)?;
         active.variables.set(name, value)?;

@@ -12,6 +12,7 @@ ghost use Rattle.moo_eval_semantics.specs.Meaning.{Evaluates, Computes};
 ghost use Rattle.moo_eval.specs.Seen.{state_of};
 
 use crate::interpreter::Task;
+use crate::property::as_text;
 use moo_eval_frame::{Activation, CallStack, Failure, Stop, measure, read_variable};
 use moo_eval_integer::call_integer;
 use moo_syntax_ast::Text;
@@ -148,7 +149,10 @@ impl Task {
                 self.range(world, active, stack, indexed, base, low, high)
             }
             Node::List(items) => self.list(world, active, stack, indexed, items),
-            Node::Property(base, name) => self.property(world, active, stack, indexed, base, name),
+            Node::Property(base, name) => match as_text(name) {
+                Some(name) => self.written_property(world, active, stack, indexed, base, name),
+                None => self.computed_property(world, active, stack, indexed, base, name),
+            },
             Node::VerbCall(base, name, items) => {
                 self.verb_call(world, active, stack, indexed, base, name, items)
             }

@@ -69,31 +69,10 @@ impl Task {
         Some(passes)
     }
 
-    /// Reads a property.
-    #[cycle(evaluation)]
-    #[inline(always)]
-    pub(crate) fn property(
-        &mut self,
-        world: &mut World,
-        active: &mut Activation,
-        stack: &CallStack<'_>,
-        indexed: Option<&Value>,
-        base: &Node,
-        name: &Node,
-    ) -> Result<Value, Failure>
-        ensures meaning { IsKnownFailure result → Computes Faults (context_of stack.now indexed.entry) (property (source base.now) (source name.now)) (state_of self.old world.old active.old) (seen_answer result) (state_of self.new world.new active.new) }
-        ensures ticks { self.new.ticks_left ≤ self.old.ticks_left }
-    {
-        match as_text(name) {
-            Some(name) => self.written_property(world, active, stack, indexed, base, name),
-            None => self.computed_property(world, active, stack, indexed, base, name),
-        }
-    }
-
-    // Reads a property whose name is a literal. Not inlined, so that other expressions need no stack space for it.
+    /// Reads a property whose name is a literal. Not inlined, so that other expressions need no stack space for it.
     #[cycle(evaluation)]
     #[inline(never)]
-    fn written_property(
+    pub(crate) fn written_property(
         &mut self,
         world: &mut World,
         active: &mut Activation,
@@ -110,10 +89,10 @@ impl Task {
         read_written(self.alloc(), world, active.programmer, &base, name)
     }
 
-    // Reads a property whose name is computed.
+    /// Reads a property whose name is computed.
     #[cycle(evaluation)]
     #[inline(never)]
-    fn computed_property(
+    pub(crate) fn computed_property(
         &mut self,
         world: &mut World,
         active: &mut Activation,

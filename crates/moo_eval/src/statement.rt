@@ -123,27 +123,9 @@ impl Task {
         ensures meaning { IsKnown result → Does Faults (context_of stack.now None) (performs (source node.now)) (state_of self.old world.old active.old) (seen_flow result) (state_of self.new world.new active.new) }
         ensures ticks { self.new.ticks_left ≤ self.old.ticks_left }
     {
-        match as_set_property(node) {
-            Some((base, name, value)) => {
-                self.set_property(world, active, stack, base, name, value)
-            }
-            None => self.evaluate_or_put(world, active, stack, node),
+        if let Some((base, name, value)) = as_set_property(node) {
+            return self.set_property(world, active, stack, base, name, value);
         }
-    }
-
-    // Evaluates an expression whose value is not used, and which assigns to no property.
-    #[cycle(evaluation)]
-    #[inline(always)]
-    fn evaluate_or_put(
-        &mut self,
-        world: &mut World,
-        active: &mut Activation,
-        stack: &CallStack<'_>,
-        node: &Node,
-    ) -> Result<Flow, Stop>
-        ensures meaning { IsKnown result → Does Faults (context_of stack.now None) (performs (source node.now)) (state_of self.old world.old active.old) (seen_flow result) (state_of self.new world.new active.new) }
-        ensures ticks { self.new.ticks_left ≤ self.old.ticks_left }
-    {
         match as_set_property_element(node) {
             Some((base, name, place, value)) => {
                 self.set_property_element(world, active, stack, base, name, place, value)

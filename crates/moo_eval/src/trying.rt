@@ -85,7 +85,7 @@ impl Task {
         self.end_try(world, active, stack, &guarded, outcome)
     }
 
-    // Ends a `try` whose statements have this outcome: an error goes to the handlers.
+    // Ends a `try` whose statements have this outcome: an error goes to the first handler that names it.
     #[cycle(evaluation)]
     #[inline(always)]
     fn end_try(
@@ -102,7 +102,10 @@ impl Task {
     {
         match outcome {
             Ok(flow) => Ok(flow),
-            Err(Stop::Raised(raise)) => self.handle(world, active, stack, guarded, raise),
+            Err(Stop::Raised(raise)) => {
+                let body = self.begin_handler(active, stack, guarded, raise)?;
+                self.run_all(world, active, stack, body)
+            }
             Err(Stop::OutOfTicks(trace)) => Err(Stop::OutOfTicks(trace)),
             Err(Stop::Memory) => Err(Stop::Memory),
         }
@@ -154,24 +157,6 @@ impl Task {
                 settle_codes(self.alloc(), stack, active, outcome)
             }
         }
-    }
-
-    // Runs the first handler that names the error, or passes the error on.
-    #[cycle(evaluation)]
-    #[inline(always)]
-    fn handle(
-        &mut self,
-        world: &mut World,
-        active: &mut Activation,
-        stack: &CallStack<'_>,
-        guarded: &[Guarded<'_>],
-        raise: Raise,
-    ) -> Result<Flow, Stop>
-        ensures meaning { IsKnown result → Takes Faults (context_of stack.now None) (chosen (map guarded_of guarded.now) (raise_of raise).code) (raise_of raise) (state_of self.old world.old active.old) (seen_flow result) (state_of self.new world.new active.new) }
-        ensures ticks { self.new.ticks_left ≤ self.old.ticks_left }
-    {
-        let body = self.begin_handler(active, stack, guarded, raise)?;
-        self.run_all(world, active, stack, body)
     }
 
     // Returns the statements of the first handler that names the error, and sets its variable. Err is the error

@@ -707,11 +707,11 @@ perform-returns-in_ok-copied_name-in-Continue-clause-meaning t c =
 
 pub perform-returns-in-TryExcept-clause-meaning : goal.perform-returns-in-TryExcept-clause-meaning
 perform-returns-in-TryExcept-clause-meaning t c =
-    λ k. rw (c.in-TryExcept.is, row_block, row_handlers, ← c.deref-in-TryExcept.ensures.value, ← c.deref-in-TryExcept-2.ensures.value) (c.try_except.ensures.meaning k)
+    λ k. rw (c.in-TryExcept.is, row_block, row_handlers, ← c.deref-in-TryExcept.ensures.value, ← c.deref-in-TryExcept-2.ensures.value) (c.run_except.ensures.meaning k)
 
 pub perform-returns-in-TryFinally-clause-meaning : goal.perform-returns-in-TryFinally-clause-meaning
 perform-returns-in-TryFinally-clause-meaning t c =
-    λ k. rw (c.in-TryFinally.is, row_block c.in-TryFinally.body, row_block c.in-TryFinally.cleanup, ← c.deref-in-TryFinally.ensures.value, ← c.deref-in-TryFinally-2.ensures.value) (c.try_finally.ensures.meaning k)
+    λ k. rw (c.in-TryFinally.is, row_block c.in-TryFinally.body, row_block c.in-TryFinally.cleanup, ← c.deref-in-TryFinally.ensures.value, ← c.deref-in-TryFinally-2.ensures.value) (c.run_finally.ensures.meaning k)
 
 pub run_block-returns-in_default : goal.run_block-returns-in_default
 run_block-returns-in_default t c =
@@ -803,16 +803,16 @@ pub assign_variable-returns-in_err-value-clause-meaning : goal.assign_variable-r
 assign_variable-returns-in_err-value-clause-meaning t c =
     let p = err_from_is_err_and c.from_residual.result c.from_residual.ensures.1 in rw (p.1, p.2) (λ k. unassigned (c.in_err-value.ensures.meaning k))
 
-pub assign_any-returns-clause-meaning : goal.assign_any-returns-clause-meaning
-assign_any-returns-clause-meaning t c =
+pub assign_value-returns-clause-meaning : goal.assign_value-returns-clause-meaning
+assign_value-returns-clause-meaning t c =
     λ k. performed c.in_ok-take_tick.ensures.taken (assigned (rw c.in_ok-take_tick.ensures.left at (c.in_ok-value.ensures.meaning tt)) (same_state (sym c.in_ok-set.ensures) refl))
 
-pub assign_any-returns-in_err-take_tick-clause-meaning : goal.assign_any-returns-in_err-take_tick-clause-meaning
-assign_any-returns-in_err-take_tick-clause-meaning t c =
+pub assign_value-returns-in_err-take_tick-clause-meaning : goal.assign_value-returns-in_err-take_tick-clause-meaning
+assign_value-returns-in_err-take_tick-clause-meaning t c =
     let p = err_from_is_err_and c.from_residual.result c.from_residual.ensures.1 in rw (p.1, p.2) (λ k. let h = c.in_err-take_tick.ensures.spent k in rw (c.in_err-take_tick.ensures.kept, h.1) (evaluates (spent h.0) refl))
 
-pub assign_any-returns-in_err-value-clause-meaning : goal.assign_any-returns-in_err-value-clause-meaning
-assign_any-returns-in_err-value-clause-meaning t c =
+pub assign_value-returns-in_err-value-clause-meaning : goal.assign_value-returns-in_err-value-clause-meaning
+assign_value-returns-in_err-value-clause-meaning t c =
     let p = err_from_is_err_and c.from_residual-in_err-value.result c.from_residual-in_err-value.ensures.1 in rw (p.1, p.2) (λ k. unperformed c.in_ok-take_tick.ensures.taken (unassigned (rw c.in_ok-take_tick.ensures.left at (c.in_err-value.ensures.meaning k))))
 
 pub assign_value-returns-in-Some-clause-meaning : goal.assign_value-returns-in-Some-clause-meaning
@@ -1070,14 +1070,6 @@ scatter-returns-in_err-defaults-clause-meaning t c =
 pub scatter-returns-clause-meaning : goal.scatter-returns-clause-meaning
 scatter-returns-clause-meaning t c =
     λ k. c.in_ok-defaults.ensures.ok _ _ _ _ (rw c.deref.ensures.value at (c.set_defaults.ensures.meaning k))
-
-pub handle-returns-in_err-body-clause-meaning : goal.handle-returns-in_err-body-clause-meaning
-handle-returns-in_err-body-clause-meaning t c =
-    let p = err_from_is_err_and c.from_residual.result c.from_residual.ensures.1 in rw (p.1, p.2) (λ k. c.in_err-body.ensures.err k _)
-
-pub handle-returns-clause-meaning : goal.handle-returns-clause-meaning
-handle-returns-clause-meaning t c =
-    λ k. c.in_ok-body.ensures.ok _ _ _ (c.run_all.ensures.meaning k)
 
 pub store-returns-in-Variable-clause-meaning : goal.store-returns-in-Variable-clause-meaning
 store-returns-in-Variable-clause-meaning t c =
@@ -1537,8 +1529,13 @@ run_with_handlers-returns-clause-meaning t c =
 pub end_try-returns-in-Ok-clause-meaning : goal.end_try-returns-in-Ok-clause-meaning
 end_try-returns-in-Ok-clause-meaning t c = λ k. rw c.in-Ok.is nothing_raised
 
-pub end_try-returns-in-Err-Raised-clause-meaning : goal.end_try-returns-in-Err-Raised-clause-meaning
-end_try-returns-in-Err-Raised-clause-meaning t c = λ k. rw (c.in-Err-Raised.is, c.in-Err-Raised.field-0-is) (handles refl (c.handle.ensures.meaning k))
+pub end_try-returns-in_ok-body-in-Err-Raised-clause-meaning : goal.end_try-returns-in_ok-body-in-Err-Raised-clause-meaning
+end_try-returns-in_ok-body-in-Err-Raised-clause-meaning t c =
+    λ k. rw (c.in-Err-Raised.is, c.in-Err-Raised.field-0-is) (handles refl (c.in_ok-body-in-Err-Raised.ensures.ok _ _ _ (c.run_all.ensures.meaning k)))
+
+pub end_try-returns-in_err-body-in-Err-Raised-clause-meaning : goal.end_try-returns-in_err-body-in-Err-Raised-clause-meaning
+end_try-returns-in_err-body-in-Err-Raised-clause-meaning t c =
+    let p = err_from_is_err_and c.from_residual.result c.from_residual.ensures.1 in rw (p.1, p.2) (λ k. rw (c.in-Err-Raised.is, c.in-Err-Raised.field-0-is) (handles refl (c.in_err-body-in-Err-Raised.ensures.err k _)))
 
 pub end_try-returns-in-Err-OutOfTicks-clause-meaning : goal.end_try-returns-in-Err-OutOfTicks-clause-meaning
 end_try-returns-in-Err-OutOfTicks-clause-meaning t c = λ k. rw (c.in-Err-OutOfTicks.is, c.in-Err-OutOfTicks.field-0-is) ticks_out

@@ -63,9 +63,6 @@ decreases-assign_variable l = 16 * l.self.now.ticks_left + 8
 abbrev pub decreases-assign_value : goal.decreases-assign_value
 decreases-assign_value l = 16 * l.self.now.ticks_left + 1
 
-abbrev pub decreases-assign_any : goal.decreases-assign_any
-decreases-assign_any l = 16 * l.self.now.ticks_left
-
 abbrev pub decreases-lengthen_by : goal.decreases-lengthen_by
 decreases-lengthen_by l = 16 * l.self.now.ticks_left
 
@@ -125,9 +122,6 @@ decreases-range l = 16 * l.self.now.ticks_left + 7
 
 abbrev pub decreases-list : goal.decreases-list
 decreases-list l = 16 * l.self.now.ticks_left + 8
-
-abbrev pub decreases-property : goal.decreases-property
-decreases-property l = 16 * l.self.now.ticks_left + 8
 
 abbrev pub decreases-verb_call : goal.decreases-verb_call
 decreases-verb_call l = 16 * l.self.now.ticks_left + 11
@@ -251,11 +245,8 @@ decreases-for_list l = 16 * l.self.now.ticks_left + 7
 abbrev pub decreases-for_range : goal.decreases-for_range
 decreases-for_range l = 16 * l.self.now.ticks_left + 7
 
-abbrev pub decreases-handle : goal.decreases-handle
-decreases-handle l = 16 * l.self.now.ticks_left + 7
-
-abbrev pub decreases-try_finally : goal.decreases-try_finally
-decreases-try_finally l = 16 * l.self.now.ticks_left + 7
+abbrev pub decreases-run_finally : goal.decreases-run_finally
+decreases-run_finally l = 16 * l.self.now.ticks_left + 7
 
 abbrev pub decreases-branch : goal.decreases-branch
 decreases-branch l = 16 * l.self.now.ticks_left + 10
@@ -263,8 +254,8 @@ decreases-branch l = 16 * l.self.now.ticks_left + 10
 abbrev pub decreases-choose : goal.decreases-choose
 decreases-choose l = 16 * l.self.now.ticks_left + 9
 
-abbrev pub decreases-try_except : goal.decreases-try_except
-decreases-try_except l = 16 * l.self.now.ticks_left + 12
+abbrev pub decreases-run_except : goal.decreases-run_except
+decreases-run_except l = 16 * l.self.now.ticks_left + 12
 
 abbrev pub decreases-run_with_handler : goal.decreases-run_with_handler
 decreases-run_with_handler l = 16 * l.self.now.ticks_left + 11
@@ -322,9 +313,6 @@ decreases-scatter_alone l = 16 * l.self.now.ticks_left
 
 abbrev pub decreases-drop_value : goal.decreases-drop_value
 decreases-drop_value l = 16 * l.self.now.ticks_left + 4
-
-abbrev pub decreases-evaluate_or_put : goal.decreases-evaluate_or_put
-decreases-evaluate_or_put l = 16 * l.self.now.ticks_left + 6
 
 abbrev pub decreases-evaluate_alone : goal.decreases-evaluate_alone
 decreases-evaluate_alone l = 16 * l.self.now.ticks_left + 7

@@ -228,7 +228,8 @@ impl Task {
     }
 }
 
-/// Returns the variable and the other items, if a node is a list that begins with the elements of a variable.
+/// Returns the variable and the other items, if a node is a list that begins with the elements of a variable. It declines
+/// `{@x, @x, ..}`, which is made in one step.
 #[inline(always)]
 pub(crate) fn as_longer(node: &Node) -> Option<(&Name, &[NodeItem])>
     ensures { IfSome result (λ p. source node.now ≡ list (splice (variable p.0.now) (source_items p.1.now))) }
@@ -241,7 +242,25 @@ pub(crate) fn as_longer(node: &Node) -> Option<(&Name, &[NodeItem])>
         return None;
     };
     let name = as_variable(node)?;
+    if is_repeated(name, more) {
+        return None;
+    }
     Some((name, more))
+}
+
+// Is true if the first item is a splice of this variable.
+fn is_repeated(name: &Name, items: &[NodeItem]) -> bool {
+    match items {
+        [NodeItem::Splice(node), ..] => is_variable(name, node),
+        _ => false,
+    }
+}
+
+fn is_variable(name: &Name, node: &Node) -> bool {
+    match node {
+        Node::Variable(own) => own.as_bytes() == name.as_bytes(),
+        _ => false,
+    }
 }
 
 #[inline(always)]

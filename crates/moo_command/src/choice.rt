@@ -1,17 +1,19 @@
 //! The choice of the verb that a command runs (docs/reference/commands.md, "Choosing a verb"). Nothing here allocates memory.
-ghost use Rattle.std.specs.Prelude.{◌≡◌, ◌<◌, ◌∷◌, ◌&&◌, length, slice_get, IfSome};
+ghost use Rattle.std.specs.Prelude.{◌≡◌, ◌<◌, ◌∷◌, ◌&&◌, ℕ, false, get_or, length, slice_get, IfSome};
 ghost use Rattle.std.specs.Option.{option_and_then, unwrap_or};
 ghost use Rattle.std.specs.List.{filter_map, position};
 ghost use Rattle.moo_world_tree.specs.Forest.{ancestors};
 ghost use Rattle.moo_world_table.specs.World.{most, nothing};
 ghost use Rattle.moo_world.specs.Calls.{number_of};
+ghost use Rattle.moo_world_object.specs.declared.verb.Verb.{Verb as VerbModel};
 ghost use Rattle.moo_command.specs.Choice.{agrees, takes, is_meant, chosen, chosen_on, meant_on, meant_in};
 ghost use Rattle.moo_command.specs.Seen.{command_of};
 
 use crate::command::Command;
 use crate::matching::room_of;
+use moo_syntax_ast::NameKey;
 use moo_world::{VerbAt, World};
-use moo_world_object::{Object, ObjectSpecifier, PrepositionSpecifier, Verb, fits_names};
+use moo_world_object::{Need, Object, ObjectSpecifier, PrepositionSpecifier, Verb, fits_names};
 use moo_world_tree::Forest;
 
 /// The verb that a command runs, and the object on which it was found.
@@ -27,22 +29,30 @@ pub fn choose_verb(world: &World, player: i32, command: &Command) -> Option<Chos
     ensures { result ≡ chosen world.now player (command_of command.now) }
 {
     let room = room_of(world, player);
-    first_chosen(world, command, &[player, room, command.dobj, command.iobj])
+    let key = NameKey::new(command.verb.as_bytes());
+    first_chosen(world, command, &key, &[player, room, command.dobj, command.iobj])
 }
 
-/// A search on an object and its ancestors for the verb of a command.
+/// A search on an object and its ancestors for the verb of a command, whose name has this key.
 #[derive(Clone, Copy)]
 struct Wanted<'a> {
     command: &'a Command,
+    key: &'a NameKey<'a>,
     looked_on: i32,
 }
 
 /// Returns the verb on the first of these objects that has one.
-fn first_chosen(world: &World, command: &Command, places: &[i32]) -> Option<Chosen>
+fn first_chosen(
+    world: &World,
+    command: &Command,
+    key: &NameKey<'_>,
+    places: &[i32],
+) -> Option<Chosen>
+    requires { key.now ≡ command.now.verb }
     ensures { result ≡ slice_get (filter_map (chosen_on world.now (command_of command.now)) places.now) 0 }
 {
     for place in places {
-        if let Some(chosen) = chosen_on(world, command, *place) {
+        if let Some(chosen) = chosen_on(world, command, key, *place) {
             return Some(chosen);
         }
     }
@@ -50,10 +60,16 @@ fn first_chosen(world: &World, command: &Command, places: &[i32]) -> Option<Chos
 }
 
 /// Returns the verb on one object, or on the nearest of its ancestors that has one.
-fn chosen_on(world: &World, command: &Command, looked_on: i32) -> Option<Chosen>
+fn chosen_on(
+    world: &World,
+    command: &Command,
+    key: &NameKey<'_>,
+    looked_on: i32,
+) -> Option<Chosen>
+    requires { key.now ≡ command.now.verb }
     ensures { result ≡ chosen_on world.now (command_of command.now) looked_on }
 {
-    let (definer, index) = meant_on(world, command, looked_on)?;
+    let (definer, index) = meant_on(world, command, key, looked_on)?;
     let found = VerbAt {
         definer: definer as i32,
         index,
@@ -64,13 +80,23 @@ fn chosen_on(world: &World, command: &Command, looked_on: i32) -> Option<Chosen>
     })
 }
 
-fn meant_on(world: &World, command: &Command, looked_on: i32) -> Option<(usize, usize)>
+fn meant_on(
+    world: &World,
+    command: &Command,
+    key: &NameKey<'_>,
+    looked_on: i32,
+) -> Option<(usize, usize)>
+    requires { key.now ≡ command.now.verb }
     ensures value { result ≡ option_and_then (meant_on world.now (command_of command.now) looked_on) (number_of world.now.objects looked_on) }
     ensures low { IfSome result (λ found. found.0 < most) }
 {
     world.is_well_formed();
     let x = valid_number(world, looked_on)?;
-    let wanted = Wanted { command, looked_on };
+    let wanted = Wanted {
+        command,
+        key,
+        looked_on,
+    };
     nearest_meant(world.objects(), world.inheritance(), x, &wanted)
 }
 
@@ -95,6 +121,7 @@ fn nearest_meant(
 ) -> Option<(usize, usize)>
     requires many { length objects.now ≡ length tree.now }
     requires first { x < length objects.now }
+    requires key { wanted.now.key.now ≡ wanted.now.command.now.verb }
     ensures value { result ≡ slice_get (filter_map (meant_in objects.now (command_of wanted.now.command.now) wanted.now.looked_on) (x ∷ ancestors tree.now x)) 0 }
     ensures low { IfSome result (λ found. found.0 < length objects.now) }
 {
@@ -116,18 +143,38 @@ fn nearest_meant(
 
 /// Returns the index of the first verb of an object that agrees.
 fn meant_in(slot: &Option<Object>, wanted: &Wanted<'_>) -> Option<usize>
+    requires { wanted.now.key.now ≡ wanted.now.command.now.verb }
     ensures { result ≡ position (is_meant (command_of wanted.now.command.now) wanted.now.looked_on) (unwrap_or slot.now nothing).verbs }
 {
     match slot {
-        Some(object) => position_meant(object.verbs(), wanted),
+        Some(object) => position_meant(object, wanted),
         None => None,
     }
 }
 
-fn position_meant(verbs: &[Verb], wanted: &Wanted<'_>) -> Option<usize>
+// Finds the first verb whose name matches by the key, and looks at no verb before it.
+fn position_meant(object: &Object, wanted: &Wanted<'_>) -> Option<usize>
+    requires { wanted.now.key.now ≡ wanted.now.command.now.verb }
+    ensures { result ≡ position (is_meant (command_of wanted.now.command.now) wanted.now.looked_on) object.now.verbs }
+{
+    let verbs = object.verbs();
+    let first = object
+        .verb_position_named(Need::Any, wanted.key)
+        .unwrap_or(verbs.len());
+    position_from(verbs, first, wanted)
+}
+
+// Returns the index of the first verb that agrees, if none before this one does.
+fn position_from(verbs: &[Verb], first: usize, wanted: &Wanted<'_>) -> Option<usize>
+    requires before { (k : ℕ) (v : VerbModel) → k < length verbs.now → k < first → is_meant (command_of wanted.now.command.now) wanted.now.looked_on (get_or verbs.now k v) ≡ false }
     ensures { result ≡ position (is_meant (command_of wanted.now.command.now) wanted.now.looked_on) verbs.now }
 {
-    verbs.iter().position(|verb| is_meant(wanted, verb))
+    for i in first..verbs.len() {
+        if is_meant(wanted, &verbs[i]) {
+            return Some(i);
+        }
+    }
+    None
 }
 
 /// Returns whether the name matches a verb, and its specifiers agree. The specifiers come first, since they are quicker to
@@ -142,7 +189,11 @@ fn is_meant(wanted: &Wanted<'_>, verb: &Verb) -> bool
 fn agree(wanted: &Wanted<'_>, verb: &Verb) -> bool
     ensures { result ≡ (agrees verb.now.args.direct wanted.now.looked_on wanted.now.command.now.dobj && takes verb.now.args.preposition wanted.now.command.now.prep && agrees verb.now.args.indirect wanted.now.looked_on wanted.now.command.now.iobj) }
 {
-    let Wanted { command, looked_on } = *wanted;
+    let Wanted {
+        command,
+        looked_on,
+        ..
+    } = *wanted;
     agrees(verb.args.direct, looked_on, command.dobj)
         && takes(verb.args.preposition, command.prep)
         && agrees(verb.args.indirect, looked_on, command.iobj)

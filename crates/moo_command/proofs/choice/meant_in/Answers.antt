@@ -9,5 +9,4 @@ use Rattle.moo_command.proofs.choice.meant_in.Goals as goal
 pub returns-in-Some : goal.returns-in-Some
 returns-in-Some c =
     c.position_meant.ensures
-    ∙ ap (position (is_meant (command_of c.args.wanted.now.command.now) c.args.wanted.now.looked_on)) c.verbs.ensures
     ∙ ap (λ slot. position (is_meant (command_of c.args.wanted.now.command.now) c.args.wanted.now.looked_on) (unwrap_or slot nothing).verbs) (sym c.in-Some.is)

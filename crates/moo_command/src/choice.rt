@@ -1,4 +1,5 @@
-//! The choice of the verb that a command runs (docs/reference/commands.md, "Choosing a verb"). Nothing here allocates memory.
+//! The choice of the verb that a command runs (docs/reference/commands.md, "Choosing a verb"). Nothing here allocates
+//! memory.
 ghost use Rattle.std.specs.Prelude.{◌≡◌, ◌<◌, ◌∷◌, ◌&&◌, ℕ, false, get_or, length, slice_get, IfSome};
 ghost use Rattle.std.specs.Option.{option_and_then, unwrap_or};
 ghost use Rattle.std.specs.List.{filter_map, position};
@@ -30,7 +31,12 @@ pub fn choose_verb(world: &World, player: i32, command: &Command) -> Option<Chos
 {
     let room = room_of(world, player);
     let key = NameKey::new(command.verb.as_bytes());
-    first_chosen(world, command, &key, &[player, room, command.dobj, command.iobj])
+    first_chosen(
+        world,
+        command,
+        &key,
+        &[player, room, command.dobj, command.iobj],
+    )
 }
 
 /// A search on an object and its ancestors for the verb of a command, whose name has this key.
@@ -60,12 +66,7 @@ fn first_chosen(
 }
 
 /// Returns the verb on one object, or on the nearest of its ancestors that has one.
-fn chosen_on(
-    world: &World,
-    command: &Command,
-    key: &NameKey<'_>,
-    looked_on: i32,
-) -> Option<Chosen>
+fn chosen_on(world: &World, command: &Command, key: &NameKey<'_>, looked_on: i32) -> Option<Chosen>
     requires { key.now ≡ command.now.verb }
     ensures { result ≡ chosen_on world.now (command_of command.now) looked_on }
 {
@@ -177,8 +178,8 @@ fn position_from(verbs: &[Verb], first: usize, wanted: &Wanted<'_>) -> Option<us
     None
 }
 
-/// Returns whether the name matches a verb, and its specifiers agree. The specifiers come first, since they are quicker to
-/// compare.
+/// Returns whether the name matches a verb, and its specifiers agree. The specifiers come first, since they are quicker
+/// to compare.
 fn is_meant(wanted: &Wanted<'_>, verb: &Verb) -> bool
     ensures { result ≡ is_meant (command_of wanted.now.command.now) wanted.now.looked_on verb.now }
 {

@@ -125,8 +125,8 @@ impl Task {
         true
     }
 
-    /// Assigns to a variable, if the assignment's own value is not used. A list that begins with the elements of a variable is
-    /// made in place if that can be. Not inlined, so that nested statements need no stack space for it.
+    /// Assigns to a variable, if the assignment's own value is not used. A list that begins with the elements of a
+    /// variable is made in place if that can be. Not inlined, so that nested statements need no stack space for it.
     #[cycle(evaluation)]
     #[inline(never)]
     pub(crate) fn assign_value(

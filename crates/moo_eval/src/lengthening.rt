@@ -124,8 +124,8 @@ impl Task {
         Ok(())
     }
 
-    /// Runs `name = {@held, more}`, if the assignment's own value is not used. Not inlined, so that nested statements need
-    /// no stack space for it.
+    /// Runs `name = {@held, more}`, if the assignment's own value is not used. Not inlined, so that nested statements
+    /// need no stack space for it.
     #[cycle(evaluation)]
     #[inline(never)]
     pub(crate) fn lengthen_by(
@@ -228,8 +228,8 @@ impl Task {
     }
 }
 
-/// Returns the variable and the other items, if a node is a list that begins with the elements of a variable. It declines
-/// `{@x, @x, ..}`, which is made in one step.
+/// Returns the variable and the other items, if a node is a list that begins with the elements of a variable. It
+/// declines `{@x, @x, ..}`, which is made in one step.
 #[inline(always)]
 pub(crate) fn as_longer(node: &Node) -> Option<(&Name, &[NodeItem])>
     ensures { IfSome result (λ p. source node.now ≡ list (splice (variable p.0.now) (source_items p.1.now))) }

@@ -45,8 +45,8 @@ impl Task {
         self.evaluate_parts(world, active, stack, indexed, node)
     }
 
-    /// Evaluates at once an operator of arithmetic, the length of a variable, or an element of a variable or of an
-    /// element of one. Takes its ticks. `None` if that can't be, or for another node; then nothing has changed.
+    /// Evaluates at once an operator of arithmetic, the length or the type of a variable, or an element of a variable or
+    /// of an element of one. Takes its ticks. `None` if that can't be, or for another node; then nothing has changed.
     #[inline(always)]
     pub(crate) fn try_node(&mut self, active: &Activation, node: &Node) -> Option<Value>
         ensures some { IfSome result (λ v. (w : WorldModel) (c : Context) → Evaluates Faults c (source node.now) (state_of self.old w active.now) (Ok (tree v)) (state_of self.new w active.now)) }
@@ -67,8 +67,8 @@ impl Task {
         }
     }
 
-    // Computes a call of `length` for a variable, and takes its ticks. `None` if that can't be, or for another call;
-    // then nothing has changed.
+    // Computes a call of `length` or `typeof` for a variable, and takes its ticks. `None` if that can't be, or for
+    // another call; then nothing has changed.
     #[inline(always)]
     fn try_call(
         &mut self,

@@ -24,8 +24,8 @@ use moo_syntax_lower::Node;
 use moo_value::{MooList, Value};
 
 /// Returns the integer of an operator between two nodes, and takes its ticks from `left`. `None` if a node isn't an
-/// integer, a variable, an element or the length of one, or such an operator, if one has another value or none, if the
-/// operator may fail, or if ticks are missing. Then `left` may have fallen.
+/// integer, a variable, an element, the length or the type of one, or such an operator. `None` too if one has another
+/// value or none, if the operator may fail, or if ticks are missing. Then `left` may have fallen.
 #[cycle(integer)]
 pub fn arithmetic_integer(
     active: &Activation,
@@ -251,8 +251,8 @@ pub(crate) fn integer_of(active: &Activation, left: &mut u32, node: &Node) -> Op
     part_integer(active, left, node)
 }
 
-// Returns the integer of an element of a variable or of its length, and takes its ticks from `left`. Not inlined, so
-// that operators between integers stay short.
+// Returns the integer of an element, the length or the type of a variable, and takes its ticks from `left`. Not
+// inlined, so that operators between integers stay short.
 #[cycle(integer)]
 #[inline(never)]
 fn part_integer(active: &Activation, left: &mut u32, node: &Node) -> Option<i32>

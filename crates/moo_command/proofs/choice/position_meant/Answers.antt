@@ -10,7 +10,7 @@ use Rattle.moo_command.proofs.choice.position_meant.Goals as goal
 pub position_from-requires : goal.position_from-requires
 position_from-requires c =
     let found = c.verb_position_named.ensures
-        ∙ ap (λ name. position (fits_verb Any name) c.args.object.now.verbs) c.requires
-        ∙ ap (position (fits_verb Any c.args.wanted.now.command.now.verb)) (sym c.verbs-verbs.ensures) in
+    ∙ ap (λ name. position (fits_verb Any name) c.args.object.now.verbs) c.requires
+    ∙ ap (position (fits_verb Any c.args.wanted.now.command.now.verb)) (sym c.verbs-verbs.ensures) in
     let first = c.unwrap_or-first.ensures ∙ ap (λ place. unwrap_or place (length c.verbs-verbs.result.now)) found in
     record { before = none_before (command_of c.args.wanted.now.command.now) c.args.wanted.now.looked_on c.verbs-verbs.result.now c.unwrap_or-first.result first }

@@ -95,6 +95,9 @@ if (!$match:found(kind, p[1], player))
 elseif (($isa(kind, $room) && !$isa(kind, $vehicle)) || $isa(kind, $exit))
   player:tell("Rooms and exits are made by @dig.");
   return;
+elseif (length(player.contents) >= 50 && !player.wizard && !$isa(kind, $vehicle))
+  player:tell("You carry 50 things already. Put one down first.");
+  return;
 endif
 names = this:names_of(p[2]);
 if (!names)

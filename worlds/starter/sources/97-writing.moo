@@ -586,10 +586,10 @@ elseif (!player:may_speak())
 elseif (!args)
   this.text = {};
   player:tell("You wipe ", $string:the(this.name), " clean.");
-elseif (length(this.text) >= 200 || length(args[1]) > 1000)
+elseif (length(lines = typeof(this.text) == LIST ? this.text | {tostr(this.text)}) >= 200 || length(args[1]) > 1000)
   player:tell("It is full.");
 else
-  this.text = {@typeof(this.text) == LIST ? this.text | {this.text}, args[1]};
+  this.text = {@lines, args[1]};
   player:tell("You write a line on ", $string:the(this.name), ".");
 endif
 .

@@ -224,8 +224,13 @@ elseif (index(argstr, ":"))
     return;
   endif
   {o, v} = at;
+  info = `verb_info(o, v) ! E_PERM => {}';
+  if (!info || !(player.wizard || info[1] == player || index(info[2], "w")))
+    player:tell("That verb isn't yours.", info ? " @list " + argstr + " shows it." | "");
+    return;
+  endif
   lines = `verb_code(o, v) ! E_PERM => 0';
-  name = strsub($string:explode(verb_info(o, v)[3])[1], "*", "");
+  name = strsub($string:explode(info[3])[1], "*", "");
   kind = "verb";
 else
   p = index(argstr, ".") ? $match:part(argstr, ".", player) | {};

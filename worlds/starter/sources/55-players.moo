@@ -310,7 +310,9 @@ else
   return;
 endif
 o = name == "me" ? player | $match:among(name, people);
-if ($match:found(o, name, player) && player:may_speak(o, "whispers"))
+if (o == #-3 && valid(here) && $match:player(name) == #-3 && $match:among(name, {@player.contents, @here.contents}) != #-3)
+  player:tell("You can whisper only to players.");
+elseif ($match:found(o, name, player) && player:may_speak(o, "whispers"))
   notify(o, tostr(player.name, " whispers to you: ", text));
   player:tell("You whisper to ", o.name, ".");
 endif
@@ -401,7 +403,8 @@ if (player != this)
 endif
 set_task_perms(player);
 p = $string:split(args, "as");
-if (!p || !p[1])
+// an empty text is typed as ""
+if (!p || !p[1] || ("as" in args) == length(args))
   player:tell("For example: @describe me as A quiet person with a wet umbrella.");
   return;
 endif

@@ -95,6 +95,12 @@ if (!$match:found(kind, p[1], player))
 elseif (($isa(kind, $room) && !$isa(kind, $vehicle)) || $isa(kind, $exit))
   player:tell("Rooms and exits are made by @dig.");
   return;
+elseif (!(kind.f || $controls(player, kind)))
+  player:tell("You can't make things of the kind ", kind.name, ". Kinds of things: $thing, $container, $board, $note, $vehicle.");
+  return;
+elseif (length(player.contents) >= 50 && !player.wizard && !$isa(kind, $vehicle))
+  player:tell("You carry 50 things already. Put one down first.");
+  return;
 endif
 names = this:names_of(p[2]);
 if (!names)
@@ -395,12 +401,26 @@ elseif (length(text) > 1 && text[1] == "\"" && text[length(text)] == "\"")
 else
   value = text;
 endif
+// what the core's kinds have as a number or an object stays one: their verbs reckon with it
+k = parent(p[1]);
+while (valid(k) && !(p[2] in (`properties(k) ! E_PERM => {}')))
+  k = parent(k);
+endwhile
+kind = valid(k) && k <= $login.core_end ? typeof(`k.(p[2]) ! ANY => ""') | typeof(value);
+if (kind in {INT, OBJ} && typeof(value) != kind && $controls(player, p[1]))
+  player:tell(p[1].name, ".", p[2], kind == INT ? " has to be a number." | " has to be an object, as #12.");
+  return;
+endif
 try
   p[1].(p[2]) = value;
   player:tell(p[1].name, ".", p[2], " is ", toliteral(value), " now.");
 except (E_PROPNF)
   player:tell($string:capital($string:the(p[1].name)), " has no property ", $string:quoted(p[2]), ". What can be set: help building");
 except e (ANY)
+  if (e[1] == E_PERM && !$controls(player, p[1]))
+    player:tell(p[1].name, " isn't yours.");
+    return;
+  endif
   player:tell("That can't be done: ", e[2], ".");
 endtry
 .
@@ -477,7 +497,7 @@ try
   move(o, to);
   player:tell(o.name, " is in ", to.name, " now.");
 except e (ANY)
-  player:tell("That can't be moved: ", e[2], ".");
+  player:tell(e[1] == E_PERM && !$controls(player, o) ? o.name + " isn't yours." | "That can't be moved: " + e[2] + ".");
 endtry
 .
 

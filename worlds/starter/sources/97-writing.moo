@@ -224,8 +224,13 @@ elseif (index(argstr, ":"))
     return;
   endif
   {o, v} = at;
+  info = `verb_info(o, v) ! E_PERM => {}';
+  if (!info || !(player.wizard || info[1] == player || index(info[2], "w")))
+    player:tell("That verb isn't yours.", info ? " @list " + argstr + " shows it." | "");
+    return;
+  endif
   lines = `verb_code(o, v) ! E_PERM => 0';
-  name = strsub($string:explode(verb_info(o, v)[3])[1], "*", "");
+  name = strsub($string:explode(info[3])[1], "*", "");
   kind = "verb";
 else
   p = index(argstr, ".") ? $match:part(argstr, ".", player) | {};
@@ -586,10 +591,10 @@ elseif (!player:may_speak())
 elseif (!args)
   this.text = {};
   player:tell("You wipe ", $string:the(this.name), " clean.");
-elseif (length(this.text) >= 200 || length(args[1]) > 1000)
+elseif (length(lines = typeof(this.text) == LIST ? this.text | {tostr(this.text)}) >= 200 || length(args[1]) > 1000)
   player:tell("It is full.");
 else
-  this.text = {@typeof(this.text) == LIST ? this.text | {this.text}, args[1]};
+  this.text = {@lines, args[1]};
   player:tell("You write a line on ", $string:the(this.name), ".");
 endif
 .

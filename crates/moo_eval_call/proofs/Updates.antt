@@ -1,26 +1,26 @@
 -- Lists that functions on lists make.
-use Rattle.std.proofs.Common.{◌≡◌, ℕ, zero, suc, ◌≤◌, List, [], ◌∷◌, ◌++◌, length, Option, Some, None, Result, Ok, Err, refl, ap, sym, arith}
-use Rattle.std.specs.Prelude.{insert, remove, position, is_some, IsTrue}
+use Rattle.std.proofs.Common.{◌≡◌, ℕ, ℤ, zero, suc, ◌≤◌, List, [], ◌∷◌, ◌++◌, length, Option, Some, None, Result, Ok, Err, refl, ap, sym, arith}
+use Rattle.std.specs.Prelude.{insert, remove, slice_set, position, is_some, IsTrue}
 use Rattle.moo_value.specs.declared.value.Value.{Value}
-use Rattle.moo_value.specs.Tree.{Tree, list_of, elements_of, trees_of}
+use Rattle.moo_value.specs.Tree.{Tree, integer, list_of, elements_of, trees_of}
 use Rattle.moo_value.specs.TreeCode.{trees_of-elements_of}
 use Rattle.moo_value.specs.View.{tree}
 use Rattle.moo_value.specs.Size.{IsWithinLimits, total_weight, greatest_depth}
 use Rattle.moo_syntax_function.specs.declared.function.Function.{Function}
-use Rattle.moo_syntax_function.specs.declared.function.Function.TheVariants.{ListAppend, ListInsert, ListDelete, SetAdd, SetRemove}
+use Rattle.moo_syntax_function.specs.declared.function.Function.TheVariants.{ListAppend, ListInsert, ListSet, ListDelete, SetAdd, SetRemove}
 use Rattle.moo_syntax_function.specs.Names.{function_of}
 use Rattle.moo_builtin_operator.specs.declared.fault.OperationFault.{OperationFault}
 use Rattle.moo_builtin_operator.specs.declared.fault.OperationFault.TheVariants.{Raise, Memory}
 use Rattle.moo_builtin_operator.specs.Truth.{equal}
 use Rattle.moo_builtin_operator.proofs.Lawful.{limited_within}
 use Rattle.moo_builtin_value.specs.Calls.{plain_answer, simply, GivesSome}
-use Rattle.moo_builtin_value.specs.Lists.{with_member, without_found, delete_at, taken_out}
+use Rattle.moo_builtin_value.specs.Lists.{with_member, without_found, set_at, delete_at, taken_out}
 use Rattle.moo_builtin.specs.Calls.{follows, given}
 use Rattle.moo_builtin.specs.Telling.{Faults}
 use Rattle.moo_eval_frame.specs.State.{Context}
 use Rattle.moo_eval_access.specs.State.{State}
 use Rattle.moo_eval_call.specs.Calls.{CallsFunction}
-use Rattle.moo_eval_call.specs.Updates.{MakesList, appends, inserts, adds, deletes, removes, HasList, HasPlace}
+use Rattle.moo_eval_call.specs.Updates.{MakesList, appends, inserts, adds, sets, deletes, removes, HasList, HasPlace, Takes}
 
 insert_last : (ts : List Tree) (t : Tree) → insert ts (length ts) t ≡ ts ++ t ∷ []
 insert_last [] t = refl
@@ -39,6 +39,12 @@ member_has ts t (Some k) h e = (list_of ts, rw e refl)
 
 pub add_has : (ts : List Tree) (t : Tree) → IsWithinLimits (list_of (ts ++ t ∷ [])) → HasList SetAdd (list_of ts ∷ t ∷ [])
 add_has ts t h = let p = member_has ts t _ h refl in (p.0, adds (rw (trees_of-elements_of ts) p.1))
+
+-- a list with an element replaced
+pub set_has : (ts : List Tree) (i : ℤ) (t : Tree) → Takes ts i t → HasList ListSet (list_of ts ∷ t ∷ integer i ∷ [])
+set_has ts i t (k, p, h) =
+    let made : set_at (trees_of (elements_of ts)) i t ≡ Ok (list_of (slice_set ts k t)) = rw (trees_of-elements_of ts, p) (limited_within _ h) in
+    (list_of (slice_set ts k t), sets made)
 
 -- a list with one less
 remove_lighter : (ts : List Tree) (k : ℕ) → total_weight (elements_of (remove ts k)) ≤ total_weight (elements_of ts)
@@ -77,6 +83,7 @@ pub answer_is : {f : Function} {args : List Tree} {w : Tree} → MakesList f arg
 answer_is (appends e) = ap Some e
 answer_is (inserts e) = ap Some e
 answer_is (adds e) = ap Some e
+answer_is (sets e) = ap Some e
 answer_is (deletes e) = ap Some e
 answer_is (removes e) = ap Some e
 
@@ -93,5 +100,6 @@ pub list_calls : {f : Function} {args : List Tree} {w : Tree} (name : List ℕ) 
 list_calls {w = w} name c s f (appends e) = rw f (Ok w, s.world, follows f refl (ap (λ o. given (simply (Some o))) (sym e), refl), refl, refl)
 list_calls {w = w} name c s f (inserts e) = rw f (Ok w, s.world, follows f refl (ap (λ o. given (simply (Some o))) (sym e), refl), refl, refl)
 list_calls {w = w} name c s f (adds e) = rw f (Ok w, s.world, follows f refl (ap (λ o. given (simply (Some o))) (sym e), refl), refl, refl)
+list_calls {w = w} name c s f (sets e) = rw f (Ok w, s.world, follows f refl (ap (λ o. given (simply (Some o))) (sym e), refl), refl, refl)
 list_calls {w = w} name c s f (deletes e) = rw f (Ok w, s.world, follows f refl (ap (λ o. given (simply (Some o))) (sym e), refl), refl, refl)
 list_calls {w = w} name c s f (removes e) = rw f (Ok w, s.world, follows f refl (ap (λ o. given (simply (Some o))) (sym e), refl), refl, refl)

@@ -1,11 +1,11 @@
 //! Changes of the list in a variable by a built-in function, as by `l = listappend(l, x);`.
 ghost use Rattle.std.specs.Prelude.{◌≡◌, [], ◌∷◌, Some, IsTrue, IfOk, OnOk};
-ghost use Rattle.moo_value.specs.Tree.{Tree, list_of};
+ghost use Rattle.moo_value.specs.Tree.{Tree, integer, list_of};
 ghost use Rattle.moo_value.specs.View.{tree, trees};
 ghost use Rattle.moo_builtin_operator.specs.declared.fault.OperationFault.TheVariants.{Memory};
 ghost use Rattle.moo_eval_frame.specs.Variables.{bind, with_variable};
 ghost use Rattle.moo_eval_frame.specs.Seen.{variables_of};
-ghost use Rattle.moo_eval_call.specs.Updates.{MakesList, HasList, HasPlace};
+ghost use Rattle.moo_eval_call.specs.Updates.{MakesList, HasList, HasPlace, Takes};
 
 use moo_builtin_operator::{OperationFault, before_place};
 use moo_builtin_value::plain_answer;
@@ -58,13 +58,16 @@ fn out_of_memory(fault: OperationFault) -> AllocError
     }
 }
 
-/// Is true if a function makes a list of its first argument, with an element more or less, and raises no error. False for
-/// functions that have other arguments.
+/// Is true if a function makes a list of its first argument, with an element more, less or replaced, and raises no
+/// error. False for functions that have other arguments.
 pub fn has_list(function: Function, args: &[Value]) -> bool
     ensures { IsTrue result → HasList function (trees args.now) }
 {
     match args {
         [Value::List(list), value] => has_list_of(function, list, value),
+        [Value::List(list), value, Value::Int(place)] => {
+            has_list_set(function, list, value, *place)
+        }
         _ => false,
     }
 }
@@ -80,6 +83,26 @@ fn has_list_of(function: Function, list: &MooList, value: &Value) -> bool
         Function::ListDelete => has_place(list, value),
         Function::SetRemove => true,
         _ => false,
+    }
+}
+
+// Is true if the function is `listset` and the list takes the value at the place.
+fn has_list_set(function: Function, list: &MooList, value: &Value, place: i32) -> bool
+    ensures { IsTrue result → HasList function (list_of list.now ∷ tree value.now ∷ integer place ∷ []) }
+{
+    match function {
+        Function::ListSet => takes(list, place, value),
+        _ => false,
+    }
+}
+
+// Is true if the list with the value at the place, in place of an element, is within the limits.
+fn takes(list: &MooList, place: i32, value: &Value) -> bool
+    ensures { IsTrue result → Takes list.now place (tree value.now) }
+{
+    match before_place(place, list.len()) {
+        Some(before) => list.fits_replacing(before, value),
+        None => false,
     }
 }
 

@@ -341,7 +341,7 @@ if (player != this)
   return $builder:refuse(verb);
 endif
 text = dobjstr ? dobjstr | "me";
-who = text == "me" ? player | $match:player(text);
+who = $match:player(text);
 if (player.wizard && !valid(who) && text[1] == "#" && tostr(toobj(text)) == text)
   // what somebody owned who is gone
   who = toobj(text);

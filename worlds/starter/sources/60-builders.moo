@@ -437,14 +437,24 @@ set_task_perms(player);
 o = $match:object(dobjstr, player);
 key = $match:object(iobjstr, player);
 if ($match:found(o, dobjstr, player) && $match:found(key, iobjstr, player))
-  if (!$controls(player, o))
+  name = $string:capital($string:the(o.name));
+  if (is_player(o))
+    player:tell("Players aren't locked.");
+    return;
+  elseif (!$controls(player, o))
     player:tell(o.name, " isn't yours.");
+    return;
+  elseif (o.f && o <= $login.core_end)
+    player:tell(name, " is a kind: all things of it would be locked.");
+    return;
+  elseif ($isa(key, $room) || $isa(key, $exit))
+    player:tell($string:capital($string:the(key.name)), " is no key: nobody carries it.");
     return;
   endif
   try
     o.key = key;
     o.key_serial = key.serial;
-    player:tell($string:capital($string:the(o.name)), key == player ? " opens for you alone." | tostr(" opens for you and for whoever carries ", $string:the(key.name), "."));
+    player:tell(name, key == player ? " opens for you alone." | tostr(" opens for you and for ", is_player(key) ? key.name | "whoever carries " + $string:the(key.name), "."));
   except e (ANY)
     player:tell("That can't be locked: ", e[2], ".");
   endtry
@@ -461,7 +471,10 @@ endif
 set_task_perms(player);
 o = $match:object(argstr, player);
 if ($match:found(o, argstr, player))
-  if (!$controls(player, o))
+  if (is_player(o))
+    player:tell("Players aren't locked.");
+    return;
+  elseif (!$controls(player, o))
     player:tell(o.name, " isn't yours.");
     return;
   endif

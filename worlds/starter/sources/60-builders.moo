@@ -6,6 +6,12 @@ hint = $room:hint(args[1]);
 player:tell(hint ? hint | "I don't understand that. Type help.");
 .
 
+// Why O wasn't changed, after the error E: whose it is, or what went wrong.
+@program $builder:why this none this rxd
+{e, o, ?word = "done"} = args;
+return e[1] == E_PERM && !$controls(player, o) ? o.name + " isn't yours." | tostr("That can't be ", word, ": ", e[2], ".");
+.
+
 @program $builder:@rename any any any rd wiz
 if (player != this)
   return $builder:refuse(verb);
@@ -417,11 +423,7 @@ try
 except (E_PROPNF)
   player:tell($string:capital($string:the(p[1].name)), " has no property ", $string:quoted(p[2]), ". What can be set: help building");
 except e (ANY)
-  if (e[1] == E_PERM && !$controls(player, p[1]))
-    player:tell(p[1].name, " isn't yours.");
-    return;
-  endif
-  player:tell("That can't be done: ", e[2], ".");
+  player:tell(this:why(e, p[1]));
 endtry
 .
 
@@ -510,7 +512,7 @@ try
   move(o, to);
   player:tell(o.name, " is in ", to.name, " now.");
 except e (ANY)
-  player:tell(e[1] == E_PERM && !$controls(player, o) ? o.name + " isn't yours." | "That can't be moved: " + e[2] + ".");
+  player:tell(this:why(e, o, "moved"));
 endtry
 .
 

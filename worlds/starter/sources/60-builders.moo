@@ -120,7 +120,13 @@ try
     o.aliases = names[2..$];
   endif
   here = player.location;
-  move(o, $isa(o, $vehicle) && valid(here) && (`here:accept(o) ! ANY => 0') ? here | player);
+  `move(o, $isa(o, $vehicle) && valid(here) && (`here:accept(o) ! ANY => 0') ? here | player) ! ANY';
+  if (!valid(o.location))
+    // a room answers only for a thing that there is; one that has no place is taken away again
+    $recycler:keep(o);
+    player:tell("There is no place for it, here or in your hands.");
+    return;
+  endif
   player:tell("You have made ", names[1], " (", o, "). ", this:quota_text());
 except e (E_QUOTA)
   player:tell(e[2] == "Resource limit exceeded" ? "Your quota is used up. @recycle something, or ask a wizard." | "That can't be done: " + e[2] + ".");

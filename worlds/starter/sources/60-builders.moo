@@ -6,6 +6,12 @@ hint = $room:hint(args[1]);
 player:tell(hint ? hint | "I don't understand that. Type help.");
 .
 
+// Why O wasn't changed, after the error E: whose it is, or what went wrong.
+@program $builder:why this none this rxd
+{e, o, ?word = "done"} = args;
+return e[1] == E_PERM && !$controls(player, o) ? o.name + " isn't yours." | tostr("That can't be ", word, ": ", e[2], ".");
+.
+
 @program $builder:@rename any any any rd wiz
 if (player != this)
   return $builder:refuse(verb);
@@ -114,7 +120,13 @@ try
     o.aliases = names[2..$];
   endif
   here = player.location;
-  move(o, $isa(o, $vehicle) && valid(here) && (`here:accept(o) ! ANY => 0') ? here | player);
+  `move(o, $isa(o, $vehicle) && valid(here) && (`here:accept(o) ! ANY => 0') ? here | player) ! ANY';
+  if (!valid(o.location))
+    // a room answers only for a thing that there is; one that has no place is taken away again
+    $recycler:keep(o);
+    player:tell("There is no place for it, here or in your hands.");
+    return;
+  endif
   player:tell("You have made ", names[1], " (", o, "). ", this:quota_text());
 except e (E_QUOTA)
   player:tell(e[2] == "Resource limit exceeded" ? "Your quota is used up. @recycle something, or ask a wizard." | "That can't be done: " + e[2] + ".");
@@ -341,7 +353,7 @@ if (player != this)
   return $builder:refuse(verb);
 endif
 text = dobjstr ? dobjstr | "me";
-who = text == "me" ? player | $match:player(text);
+who = $match:player(text);
 if (player.wizard && !valid(who) && text[1] == "#" && tostr(toobj(text)) == text)
   // what somebody owned who is gone
   who = toobj(text);
@@ -417,11 +429,7 @@ try
 except (E_PROPNF)
   player:tell($string:capital($string:the(p[1].name)), " has no property ", $string:quoted(p[2]), ". What can be set: help building");
 except e (ANY)
-  if (e[1] == E_PERM && !$controls(player, p[1]))
-    player:tell(p[1].name, " isn't yours.");
-    return;
-  endif
-  player:tell("That can't be done: ", e[2], ".");
+  player:tell(this:why(e, p[1]));
 endtry
 .
 
@@ -437,14 +445,24 @@ set_task_perms(player);
 o = $match:object(dobjstr, player);
 key = $match:object(iobjstr, player);
 if ($match:found(o, dobjstr, player) && $match:found(key, iobjstr, player))
-  if (!$controls(player, o))
+  name = $string:capital($string:the(o.name));
+  if (is_player(o))
+    player:tell("Players aren't locked.");
+    return;
+  elseif (!$controls(player, o))
     player:tell(o.name, " isn't yours.");
+    return;
+  elseif (o.f && o <= $login.core_end)
+    player:tell(name, " is a kind: all things of it would be locked.");
+    return;
+  elseif ($isa(key, $room) || $isa(key, $exit))
+    player:tell($string:capital($string:the(key.name)), " is no key: nobody carries it.");
     return;
   endif
   try
     o.key = key;
     o.key_serial = key.serial;
-    player:tell($string:capital($string:the(o.name)), key == player ? " opens for you alone." | tostr(" opens for you and for whoever carries ", $string:the(key.name), "."));
+    player:tell(name, key == player ? " opens for you alone." | tostr(" opens for you and for ", is_player(key) ? key.name | "whoever carries " + $string:the(key.name), "."));
   except e (ANY)
     player:tell("That can't be locked: ", e[2], ".");
   endtry
@@ -461,7 +479,10 @@ endif
 set_task_perms(player);
 o = $match:object(argstr, player);
 if ($match:found(o, argstr, player))
-  if (!$controls(player, o))
+  if (is_player(o))
+    player:tell("Players aren't locked.");
+    return;
+  elseif (!$controls(player, o))
     player:tell(o.name, " isn't yours.");
     return;
   endif
@@ -497,7 +518,7 @@ try
   move(o, to);
   player:tell(o.name, " is in ", to.name, " now.");
 except e (ANY)
-  player:tell(e[1] == E_PERM && !$controls(player, o) ? o.name + " isn't yours." | "That can't be moved: " + e[2] + ".");
+  player:tell(this:why(e, o, "moved"));
 endtry
 .
 

@@ -435,6 +435,8 @@ if (verb == "@newlist")
     $post.lists = {@$post.lists, {name, player, {player}}};
     player:tell("The list ", name, " is made, and you get its letters: @send *", name, " TEXT");
   endif
+elseif (!name)
+  player:tell("For example: ", verb, " tea   (@lists shows which there are)");
 elseif (!i)
   player:tell("There is no list ", $string:quoted(name), ". (@lists)");
 elseif (verb == "@rmlist")

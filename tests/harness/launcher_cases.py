@@ -195,7 +195,9 @@ def a_server_has_limits_and_a_console(folder):
     yield folder.run("serve", str(world), "0", "--rounds", "3"), 0, f"released serve {world} 0 --rounds 3 {limits} --console\n"
     given = ["--rounds", "3", "--login-seconds", "0", "--most-unconnected=5", "--telnet", "--must-save", "--log-logins=0", "--console"]
     yield folder.run("serve", str(world), "0", *given), 0, f"released serve {world} 0 {' '.join(given)}\n"
-    yield folder.run("serve", "--help"), 0, "released serve --help\n"
+    added = limits.replace(" --", "\n  --")
+    yield (folder.run("serve", "--help"), 0, "released serve --help\n\n./moo serve makes the pipe DB.console, and gives these options unless you do:\n"
+           f"  --rounds 18446744073709551615\n  {added}\n")
     yield Result(0, "".join(path.name for path in folder.top.glob("a.db*")).encode()), 0, ""
 
 
@@ -221,6 +223,24 @@ def a_world_that_everybody_can_read_is_warned_of(folder):
 def what_is_typed_for_a_console_without_a_server_is_refused(folder):
     folder.release()
     yield (folder.run("console", "a.db"), 2, "moo: a.db.console is no pipe: the server of this database was not started by moo serve\n")
+
+
+def a_command_of_the_launcher_refuses_other_words(folder):
+    """No word for help begins a build of an hour."""
+    folder.change()
+    yield folder.run("build", "--help", has_kit=True), 2, "usage: ./moo build\n"
+    folder.release()
+    for word, usage in ("install", "install DIR"), ("console", "console DB"):
+        for words in [], ["--help"], [""], ["a", "b"]:
+            yield folder.run(word, *words), 2, f"usage: ./moo {usage}\n"
+    yield folder.run("--path", "a"), 2, "usage: ./moo --path\n"
+
+
+def the_help_is_on_one_stream(folder):
+    folder.release("#!/bin/sh\n[ $# = 0 ] || exit 0\nexit 2\n")
+    for words, status in ([], 2), (["--help"], 0):
+        done = subprocess.run([folder.top / "moo", *words], capture_output=True, text=True, check=False, env={"PATH": str(folder.tools)})
+        yield Result(done.returncode, (done.stdout if words else done.stderr)[:13].encode()), status, "\n./moo adds:\n"
 
 
 def a_script_finds_the_launcher_from_any_folder(folder):
@@ -255,6 +275,8 @@ CASES = [
     a_server_without_a_pipe_has_no_console,
     a_world_that_everybody_can_read_is_warned_of,
     what_is_typed_for_a_console_without_a_server_is_refused,
+    a_command_of_the_launcher_refuses_other_words,
+    the_help_is_on_one_stream,
     a_script_finds_the_launcher_from_any_folder,
 ]
 

@@ -9,7 +9,7 @@ use Rattle.moo_eval_frame.specs.Variables.{bind}
 use Rattle.moo_eval_frame.specs.State.{Context}
 use Rattle.moo_eval_access.specs.State.{State, bound}
 use Rattle.moo_eval_call.specs.VerbCalls.{verb_caller}
-use Rattle.moo_eval_call.specs.Updates.{MakesList, appends, inserts, adds, deletes, removes}
+use Rattle.moo_eval_call.specs.Updates.{MakesList, appends, inserts, adds, sets, deletes, removes}
 use Rattle.moo_eval_call.proofs.Updates.{list_calls}
 use Rattle.moo_eval_semantics.specs.Meaning.{EvaluatesAll, Computes, applies, no_more, call_is}
 use Rattle.moo_eval.specs.SetTo.{IsSetTo}
@@ -19,6 +19,7 @@ calls_none : {f : Function} {args : List Tree} {w : Tree} → MakesList f args w
 calls_none (appends e) = refl
 calls_none (inserts e) = refl
 calls_none (adds e) = refl
+calls_none (sets e) = refl
 calls_none (deletes e) = refl
 calls_none (removes e) = refl
 
@@ -28,9 +29,9 @@ list_called {name = name} d same f h = applies d no_more (call_is (ap verb_calle
 
 -- then the variable is set to it
 pub updated : {c : Context} {x name : List ℕ} {items : Items} {f : Function} {s s1 t : State} {vs args : List Tree} {w : Tree} → EvaluatesAll Faults c items s (Ok vs) s1 → args ≡ vs → function_of name ≡ Some f → MakesList f args w → bound (bind x w ∷ []) s1 ≡ t → IsSetTo Faults c x (call name items) s t
-updated {s1 = s1} {w = w} d same f h sets = record {
+updated {s1 = s1} {w = w} d same f h put = record {
   value = w;
   between = s1;
   computes = list_called d same f h;
-  sets = sets;
+  sets = put;
 }

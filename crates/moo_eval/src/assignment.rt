@@ -15,6 +15,7 @@ ghost use Rattle.moo_eval_access.specs.SeenTarget.{root_seen, step_of, steps_of,
 
 use crate::interpreter::Task;
 use crate::lengthening::as_longer;
+use crate::update::as_list_set;
 use moo_eval_access::{
     Path, Places, Root, Spot, Step, as_property, drop_property, is_taken, push_step, rebuilt,
     root_alone, set_variable, taken_apart, write_property,
@@ -126,7 +127,8 @@ impl Task {
     }
 
     /// Assigns to a variable, if the assignment's own value is not used. A list that begins with the elements of a
-    /// variable is made in place if that can be. Not inlined, so that nested statements need no stack space for it.
+    /// variable, and one that `listset` makes, are made in place if that can be. Not inlined, so that nested statements
+    /// need no stack space for it.
     #[cycle(evaluation)]
     #[inline(never)]
     pub(crate) fn assign_value(
@@ -142,6 +144,9 @@ impl Task {
     {
         if let Some((held, more)) = as_longer(value) {
             return self.lengthen_by(world, active, stack, name, held, more);
+        }
+        if let Some((called, items)) = as_list_set(value) {
+            return self.update(world, active, stack, name, called, items);
         }
         self.take_tick(active, stack)?;
         let value = self.evaluate_tried(world, active, stack, None, value)?;

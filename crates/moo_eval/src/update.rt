@@ -1,7 +1,7 @@
 //! Runs `x = f(x, a);` for a function that makes a list of its first argument.
-ghost use Rattle.std.specs.Prelude.{◌≤◌, None, Err, IfErr, OnOk};
+ghost use Rattle.std.specs.Prelude.{◌≡◌, ◌≤◌, None, Err, IfErr, IfSome, OnOk};
 ghost use Rattle.moo_syntax_ast.specs.Tree.{variable, assign, performs, call};
-ghost use Rattle.moo_syntax_lower.specs.Source.{source_items};
+ghost use Rattle.moo_syntax_lower.specs.Source.{source, source_items};
 ghost use Rattle.moo_eval_semantics.specs.Meaning.{Computes, Does};
 ghost use Rattle.moo_eval_frame.specs.Seen.{context_of, failure_of, seen_flow, HadMemoryIn, IsKnown};
 ghost use Rattle.moo_eval.specs.SetTo.{IsSetTo};
@@ -12,7 +12,8 @@ use crate::interpreter::Task;
 use moo_eval_call::{has_list, set_list};
 use moo_eval_frame::{Activation, CallStack, Failure, Flow, Gathered, Stop};
 use moo_syntax_ast::Name;
-use moo_syntax_lower::{FunctionName, NodeItem};
+use moo_syntax_function::Function;
+use moo_syntax_lower::{FunctionName, Node, NodeItem};
 use moo_value::Value;
 use moo_world::World;
 
@@ -81,5 +82,19 @@ impl Task {
         let value = self.call_with(world, active, stack, called, values)?;
         active.variables.set(name, value)?;
         Ok(())
+    }
+}
+
+/// Returns the function and its arguments, if a node is a call of `listset`.
+#[inline(always)]
+pub(crate) fn as_list_set(node: &Node) -> Option<(&FunctionName, &[NodeItem])>
+    ensures { IfSome result (λ p. source node.now ≡ call p.0.now (source_items p.1.now)) }
+{
+    let Node::Call(called, items) = node else {
+        return None;
+    };
+    match called.function() {
+        Some(Function::ListSet) => Some((called, items)),
+        _ => None,
     }
 }

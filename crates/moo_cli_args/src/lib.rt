@@ -92,6 +92,7 @@ pub fn read_words<'a>(alloc: Global, words: &'a [String]) -> Result<Option<Work<
     let matches = command(alloc)?.try_get_matches_from(words)?;
     match matches.subcommand() {
         Some(("serve", found)) => match host_of(found) {
+            Some(_) if !has_origins(found) => Err(no_origin(alloc)?),
             Some(host) => Ok(service_of(alloc, found, host)?.map(Work::Serve)),
             None => Err(no_address(alloc)?),
         },
@@ -106,6 +107,25 @@ fn host_of(found: &ArgMatches) -> Option<IpAddr> {
     match found.get_str("host") {
         Some("localhost") => Some(IpAddr::V4(Ipv4Addr::LOCALHOST)),
         _ => found.get_one::<IpAddr>("host"),
+    }
+}
+
+// Returns whether each value of `--web-origin` is an origin.
+fn has_origins(found: &ArgMatches) -> bool {
+    match found.get_strs("web-origin") {
+        Some(origins) => origins.iter().all(|origin| is_origin(origin)),
+        None => true,
+    }
+}
+
+// Is true for a scheme, `://` and a host, perhaps with a port. One slash may come after them.
+fn is_origin(text: &str) -> bool {
+    match text.split_once("://") {
+        Some((scheme, rest)) => {
+            let host = rest.strip_suffix("/").unwrap_or(rest);
+            !scheme.is_empty() && !host.is_empty() && !host.contains("/")
+        }
+        None => false,
     }
 }
 
@@ -171,6 +191,12 @@ pub fn not_utf8(alloc: Global) -> Result<Error, AllocError> {
 
 fn no_address(alloc: Global) -> Result<Error, AllocError> {
     let message = "the value of '--host <ADDRESS>' is no IP address";
+    command(alloc)?.error(ErrorKind::ValueValidation, message)
+}
+
+fn no_origin(alloc: Global) -> Result<Error, AllocError> {
+    let message =
+        "the value of '--web-origin <ORIGIN>' is no origin, such as https://moo.example.org";
     command(alloc)?.error(ErrorKind::ValueValidation, message)
 }
 

@@ -60,6 +60,21 @@ checks.check("the console is the wizard's, without a password", "console" in ans
 server.process.send_signal(signal.SIGTERM)
 checks.check("a shutdown while the wizard is on the console", server.status() == 0, server.log())
 
+for name, typed in (
+    ("nobody has typed", b""),
+    ("half a line is there", b"who\nhel"),
+    ("the wizard is there with half a line", b"wizard\n;1 +"),
+    ("the half line ends a program", b"wizard\n@verb me:t\n.program me:t\nx = 1;\n."),
+):
+    server = Launched()
+    with open(server.path + ".console", "wb", buffering=0) as console:
+        console.write(typed)
+    time.sleep(1)
+    server.process.send_signal(signal.SIGHUP)
+    checks.check(f"{name}: a checkpoint", server.waits_for("checkpoint done"), server.log())
+    server.process.send_signal(signal.SIGTERM)
+    checks.check(f"{name}: a shutdown", server.status() == 0, server.log())
+
 server = Launched()
 player = wizard(server.port)
 player.say(";shutdown_now = 0; while (1) shutdown_now = shutdown_now + 1; endwhile")

@@ -201,6 +201,21 @@ def a_server_has_limits_and_a_console(folder):
     yield Result(0, "".join(path.name for path in folder.top.glob("a.db*")).encode()), 0, ""
 
 
+# A program that says what it reads on the console, up to a shutdown. It says half a line there and then sends its parent signals.
+READER = """#!/bin/sh
+printf 'who\nhello' > "$2.console"
+kill -s USR1 "$PPID"
+while read -r line; do
+    echo "<$line>"
+    case $line in checkpoint) kill -s TERM "$PPID" ;; shutdown) exit 0 ;; esac
+done
+"""
+
+def a_signal_ends_half_a_line_first(folder):
+    folder.release(READER)
+    yield folder.run("serve", "a.db", "0", folder=folder.top), 0, "<who>\n<hello>\n<checkpoint>\n<>\n<shutdown>\n"
+
+
 def a_server_without_a_pipe_has_no_console(folder):
     folder.release()
     world = folder.top / "none" / "a.db"
@@ -272,6 +287,7 @@ CASES = [
     the_path_is_printed,
     an_installed_program_needs_no_repository,
     a_server_has_limits_and_a_console,
+    a_signal_ends_half_a_line_first,
     a_server_without_a_pipe_has_no_console,
     a_world_that_everybody_can_read_is_warned_of,
     what_is_typed_for_a_console_without_a_server_is_refused,

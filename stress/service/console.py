@@ -10,9 +10,9 @@ LAUNCH = os.path.join(TOP, "release", "launch")
 
 
 class Launched:
-    """A server that the launcher runs, over a database in a folder of its own."""
+    """A server that the launcher runs, over a database in a folder of its own. The options before come before the database."""
 
-    def __init__(self, *options):
+    def __init__(self, *options, before=()):
         self.folder = tempfile.mkdtemp(prefix="service-console-")
         self.path = os.path.join(self.folder, "world.db")
         shutil.copy(STARTER, self.path)
@@ -20,7 +20,7 @@ class Launched:
         self.log_path = os.path.join(self.folder, "log")
         # A signal that is ignored at the start can't be caught by a shell.
         with open(self.log_path, "wb") as log:
-            self.process = subprocess.Popen([LAUNCH, "serve", self.path, "0", *options], stdin=subprocess.DEVNULL, stdout=subprocess.PIPE,
+            self.process = subprocess.Popen([LAUNCH, "serve", *before, self.path, "0", *options], stdin=subprocess.DEVNULL, stdout=subprocess.PIPE,
                                             stderr=log, env={**os.environ, "MOO_PROGRAM": moo})
         found = re.fullmatch(rb"listening on .*:(\d+)\n", self.process.stdout.readline())
         self.port = int(found[1]) if found else None
@@ -74,6 +74,10 @@ for name, typed in (
     checks.check(f"{name}: a checkpoint", server.waits_for("checkpoint done"), server.log())
     server.process.send_signal(signal.SIGTERM)
     checks.check(f"{name}: a shutdown", server.status() == 0, server.log())
+
+server = Launched(before=("--web", "0", "--must-save"))
+server.process.send_signal(signal.SIGTERM)
+checks.check("a shutdown with options before the database", server.status() == 0, server.log())
 
 server = Launched()
 player = wizard(server.port)

@@ -4,6 +4,7 @@ import hashlib
 import os
 import pathlib
 import platform
+import re
 import shutil
 import stat
 import subprocess
@@ -31,10 +32,10 @@ def program(name):
 
 
 class Folder:
-    """A repository with one crate. It has no kit on the path unless a run asks for one."""
+    """A repository with one crate. It has no kit on the path unless a run asks for one. `tested` is the program that the tests are run with."""
 
-    def __init__(self, top):
-        self.top = pathlib.Path(top, "work")
+    def __init__(self, top, tested):
+        self.top, self.tested = pathlib.Path(top, "work"), tested
         for part in PARTS:
             (self.top / part).parent.mkdir(parents=True, exist_ok=True)
             shutil.copy(TOP / part, self.top / part)
@@ -216,6 +217,27 @@ def a_signal_ends_half_a_line_first(folder):
     yield folder.run("serve", "a.db", "0", folder=folder.top), 0, "<who>\n<hello>\n<checkpoint>\n<>\n<shutdown>\n"
 
 
+def options_may_come_before_the_database(folder):
+    folder.release('#!/bin/sh\n[ -p a.db.console ] || echo "no console"\necho "$@"\n')
+    folder.write("a.db", "")
+    warned = "moo: everybody on this machine can read a.db, and the passwords in it: chmod o-r a.db\n"
+    for given in (["--web", "24080"], ["--web=24080"], ["--web", "24080", "--must-save", "--host", "::1"], ["--telnet"]):
+        added = [word for word in ("--telnet", "--must-save") if word not in given]
+        wanted = ["serve", *given, "a.db", "0", "--rounds", "18446744073709551615", "--login-seconds", "300", "--most-unconnected", "1000",
+                  *added, "--log-logins", "10", "--console"]
+        yield folder.run("serve", *given, "a.db", "0", folder=folder.top), 0, f"{warned}{' '.join(wanted)}\n"
+    yield folder.run("serve", "--web", "24080", folder=folder.top), 0, "no console\nserve --web 24080\n"
+    yield folder.run("serve", "--must-save", "--web", folder=folder.top), 0, "no console\nserve --must-save --web\n"
+
+
+def each_option_may_come_before_the_database(folder):
+    """The launcher has to know which options of the program take no value."""
+    folder.release('#!/bin/sh\n[ -p a.db.console ] || echo "no console"\n')
+    given = folder.tested.output(["serve", "--help"]).printed.decode()
+    for option, value in re.findall(r"^ +(--[a-z-]+)( <)?", given.replace("--console ", ""), re.MULTILINE):
+        yield folder.run("serve", option, *["1"] * bool(value), "a.db", "0", folder=folder.top), 0, ""
+
+
 def a_server_without_a_pipe_has_no_console(folder):
     folder.release()
     world = folder.top / "none" / "a.db"
@@ -288,6 +310,8 @@ CASES = [
     an_installed_program_needs_no_repository,
     a_server_has_limits_and_a_console,
     a_signal_ends_half_a_line_first,
+    options_may_come_before_the_database,
+    each_option_may_come_before_the_database,
     a_server_without_a_pipe_has_no_console,
     a_world_that_everybody_can_read_is_warned_of,
     what_is_typed_for_a_console_without_a_server_is_refused,
@@ -297,19 +321,19 @@ CASES = [
 ]
 
 
-def play_case(place, case):
+def play_case(tested, place, case):
     """Plays a case: its outcome is the first run that ends or prints otherwise than wanted."""
     if (platform.system(), platform.machine()) != ("Linux", "x86_64"):
         raise Skipped("the release is for x86-64 Linux")
     with tempfile.TemporaryDirectory() as top:
-        for number, (got, status, printed) in enumerate(case(Folder(top)), 1):
+        for number, (got, status, printed) in enumerate(case(Folder(top, tested)), 1):
             wanted = Result(status, printed.encode())
             if got != wanted:
                 return [Outcome(place, f"run {number} of ./moo", wanted, got)]
     return [Outcome(place, "", wanted, got)]
 
 
-def units():
+def units(tested):
     """Returns the units that play all cases, each with its place."""
     places = ["the launcher: " + case.__name__.replace("_", " ") for case in CASES]
-    return [(place, partial(play_case, place, case)) for place, case in zip(places, CASES)]
+    return [(place, partial(play_case, tested, place, case)) for place, case in zip(places, CASES)]

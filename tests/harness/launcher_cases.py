@@ -208,8 +208,9 @@ printf 'who\nhello' > "$2.console"
 kill -s USR1 "$PPID"
 while read -r line; do
     echo "<$line>"
-    case $line in checkpoint) kill -s TERM "$PPID" ;; shutdown) exit 0 ;; esac
+    case $line in checkpoint) kill -s TERM "$PPID" ;; shutdown) break ;; esac
 done
+sleep 0.1
 """
 
 def a_signal_ends_half_a_line_first(folder):

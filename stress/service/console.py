@@ -39,6 +39,11 @@ def has_work(server, text):
     checks.check(f"{text}: it is done", player.waits_for("sofar"))
 
 
+def launch(*words, program=moo, **how):
+    """Begins a launcher with these words."""
+    return subprocess.Popen([LAUNCH, *words], env={**os.environ, "MOO_PROGRAM": program}, stdout=subprocess.DEVNULL, stderr=subprocess.PIPE, **how)
+
+
 for number in (signal.SIGINT, signal.SIGTERM):
     server = Launched()
     has_work(server, "LAST WORK")
@@ -78,6 +83,25 @@ for name, typed in (
 server = Launched(before=("--web", "0", "--must-save"))
 server.process.send_signal(signal.SIGTERM)
 checks.check("a shutdown with options before the database", server.status() == 0, server.log())
+
+server = Launched()
+slow = os.path.join(server.folder, "slow")
+with open(slow, "w") as file:
+    file.write(f'#!/bin/sh\nsleep 1\nexec "{moo}" "$@"\n')
+os.chmod(slow, 0o700)
+second = launch("serve", server.path, "0", program=slow, stdin=subprocess.DEVNULL)
+time.sleep(0.4)
+for number in (signal.SIGHUP, signal.SIGTERM):
+    second.send_signal(number)
+    time.sleep(0.2)
+checks.check("a signal to the launcher of a second server kills that server", second.wait(WAIT) == 128 + signal.SIGKILL)
+second = launch("serve", server.path, "0", stdin=subprocess.DEVNULL)
+checks.check("without a signal it is refused", second.wait(WAIT) == 3)
+checks.check("the first one got none of these signals", "checkpoint done" not in server.log(), server.log())
+server.process.send_signal(signal.SIGHUP)
+checks.check("the first one has its console", server.waits_for("checkpoint done"), server.log())
+server.process.send_signal(signal.SIGTERM)
+checks.check("the first one ends when it is asked", server.status() == 0, server.log())
 
 server = Launched()
 player = wizard(server.port)

@@ -6,6 +6,7 @@ import pathlib
 import platform
 import re
 import shutil
+import signal
 import stat
 import subprocess
 import sys
@@ -213,9 +214,57 @@ done
 sleep 0.1
 """
 
+# A program that does nothing but ask its parent for a checkpoint, and then for a shutdown.
+SLEEPER = """#!/bin/sh
+sleep 0.5
+kill -s USR1 "$PPID"
+sleep 0.5
+kill -s TERM "$PPID"
+exec sleep 20
+"""
+
+
+def dead_process():
+    """Returns the number of a process that has ended."""
+    process = subprocess.Popen(["true"])
+    process.wait()
+    return process.pid
+
+
+def open_console(folder):
+    """Makes the pipe of a database a.db and begins to read it."""
+    os.mkfifo(folder.top / "a.db.console")
+    return os.open(folder.top / "a.db.console", os.O_RDONLY | os.O_NONBLOCK)
+
+
 def a_signal_ends_half_a_line_first(folder):
     folder.release(READER)
     yield folder.run("serve", "a.db", "0", folder=folder.top), 0, "<who>\n<hello>\n<checkpoint>\n<>\n<shutdown>\n"
+
+
+def a_signal_types_nothing_for_another_server(folder):
+    """The second launcher finds the pipe of the first, and DB.lock has the number of the first one's server: here of these tests."""
+    folder.release(SLEEPER)
+    folder.write("a.db.lock", f"{os.getpid()}\n")
+    for end in ".db", ".db.console":
+        (folder.top / f"link{end}").symlink_to(f"a{end}")
+    console = open_console(folder)
+    try:
+        for name in "a.db", "link.db":
+            yield Result(folder.run("serve", name, "0", folder=folder.top).status, b""), 128 + signal.SIGKILL, ""
+            yield Result(0, os.read(console, 100)), 0, ""
+            yield Result((folder.top / "a.db.console").is_fifo(), b""), True, ""
+    finally:
+        os.close(console)
+
+
+def a_pipe_that_was_left_is_used_again(folder):
+    """Nobody reads it, and DB.lock has the number of a process that has ended, or none."""
+    folder.release(READER)
+    os.mkfifo(folder.top / "a.db.console")
+    for text in f"{dead_process()}\n", "", "no number\n":
+        folder.write("a.db.lock", text)
+        yield folder.run("serve", "a.db", "0", folder=folder.top), 0, "<who>\n<hello>\n<checkpoint>\n<>\n<shutdown>\n"
 
 
 def options_may_come_before_the_database(folder):
@@ -311,6 +360,8 @@ CASES = [
     an_installed_program_needs_no_repository,
     a_server_has_limits_and_a_console,
     a_signal_ends_half_a_line_first,
+    a_signal_types_nothing_for_another_server,
+    a_pipe_that_was_left_is_used_again,
     options_may_come_before_the_database,
     each_option_may_come_before_the_database,
     a_server_without_a_pipe_has_no_console,

@@ -10,13 +10,14 @@ LAUNCH = os.path.join(TOP, "release", "launch")
 
 
 class Launched:
-    """A server that the launcher runs, over a database in a folder of its own. The options before come before the database."""
+    """A server that the launcher runs, over the database of this path or one in a folder of its own. The options before come before it."""
 
-    def __init__(self, *options, before=()):
+    def __init__(self, *options, before=(), path=None):
         self.folder = tempfile.mkdtemp(prefix="service-console-")
-        self.path = os.path.join(self.folder, "world.db")
-        shutil.copy(STARTER, self.path)
-        os.chmod(self.path, 0o600)
+        self.path = path or os.path.join(self.folder, "world.db")
+        if path is None:
+            shutil.copy(STARTER, self.path)
+            os.chmod(self.path, 0o600)
         self.log_path = os.path.join(self.folder, "log")
         # A signal that is ignored at the start can't be caught by a shell.
         with open(self.log_path, "wb") as log:
@@ -102,6 +103,25 @@ server.process.send_signal(signal.SIGHUP)
 checks.check("the first one has its console", server.waits_for("checkpoint done"), server.log())
 server.process.send_signal(signal.SIGTERM)
 checks.check("the first one ends when it is asked", server.status() == 0, server.log())
+
+server = Launched()
+with open(server.path + ".lock") as file:
+    number = int(file.read())
+console = launch("console", server.path, stdin=subprocess.PIPE)
+console.communicate(b"checkpoint\n", WAIT)
+checks.check("moo console: a line comes there", console.returncode == 0 and server.waits_for("checkpoint done"), server.log())
+server.process.kill()
+server.process.wait()
+os.kill(number, signal.SIGKILL)
+end = time.time() + WAIT
+while os.path.exists(f"/proc/{number}") and time.time() < end:
+    time.sleep(0.1)
+console = launch("console", server.path, stdin=subprocess.PIPE)
+said = console.communicate(b"checkpoint\n", WAIT)[1]
+checks.check("moo console: no server runs", (console.returncode, said) == (2, f"moo: no server of {server.path} runs\n".encode()), said)
+server = Launched(path=server.path)
+server.process.send_signal(signal.SIGTERM)
+checks.check("the next server uses the pipe that was left", server.status() == 0, server.log())
 
 server = Launched()
 player = wizard(server.port)

@@ -312,6 +312,17 @@ def what_is_typed_for_a_console_without_a_server_is_refused(folder):
     yield (folder.run("console", "a.db"), 2, "moo: a.db.console is no pipe: the server of this database was not started by moo serve\n")
 
 
+def a_console_of_a_server_that_was_killed_is_refused(folder):
+    folder.release()
+    console = open_console(folder)
+    try:
+        for text, status, printed in ("", 0, ""), (f"{os.getpid()}\n", 0, ""), (f"{dead_process()}\n", 2, "moo: no server of a.db runs\n"):
+            folder.write("a.db.lock", text)
+            yield folder.run("console", "a.db", folder=folder.top), status, printed
+    finally:
+        os.close(console)
+
+
 def a_command_of_the_launcher_refuses_other_words(folder):
     """No word for help begins a build of an hour."""
     folder.change()
@@ -367,6 +378,7 @@ CASES = [
     a_server_without_a_pipe_has_no_console,
     a_world_that_everybody_can_read_is_warned_of,
     what_is_typed_for_a_console_without_a_server_is_refused,
+    a_console_of_a_server_that_was_killed_is_refused,
     a_command_of_the_launcher_refuses_other_words,
     the_help_is_on_one_stream,
     a_script_finds_the_launcher_from_any_folder,

@@ -12,7 +12,7 @@ LAUNCH = os.path.join(TOP, "release", "launch")
 class Launched:
     """A server that the launcher runs, over the database of this path or one in a folder of its own. The options before come before it."""
 
-    def __init__(self, *options, before=(), path=None):
+    def __init__(self, *options, before=(), path=None, before_start=None):
         self.folder = tempfile.mkdtemp(prefix="service-console-")
         self.path = path or os.path.join(self.folder, "world.db")
         if path is None:
@@ -22,7 +22,7 @@ class Launched:
         # A signal that is ignored at the start can't be caught by a shell.
         with open(self.log_path, "wb") as log:
             self.process = subprocess.Popen([LAUNCH, "serve", *before, self.path, "0", *options], stdin=subprocess.DEVNULL, stdout=subprocess.PIPE,
-                                            stderr=log, env={**os.environ, "MOO_PROGRAM": moo})
+                                            stderr=log, env={**os.environ, "MOO_PROGRAM": moo}, preexec_fn=before_start)
         found = re.fullmatch(rb"listening on .*:(\d+)\n", self.process.stdout.readline())
         self.port = int(found[1]) if found else None
 
@@ -122,6 +122,10 @@ checks.check("moo console: no server runs", (console.returncode, said) == (2, f"
 server = Launched(path=server.path)
 server.process.send_signal(signal.SIGTERM)
 checks.check("the next server uses the pipe that was left", server.status() == 0, server.log())
+
+server = Launched(before_start=lambda: os.close(0))
+server.process.send_signal(signal.SIGTERM)
+checks.check("a shutdown with a closed standard input", server.status() == 0, server.log())
 
 server = Launched()
 player = wizard(server.port)

@@ -323,6 +323,13 @@ def a_console_of_a_server_that_was_killed_is_refused(folder):
         os.close(console)
 
 
+def a_closed_standard_input_is_empty(folder):
+    folder.release()
+    yield (folder.run("-c", "exec ./moo serve a.db 0 --rounds 3 <&-", command=folder.tools / "sh", folder=folder.top), 0,
+           "released serve a.db 0 --rounds 3 --login-seconds 300 --most-unconnected 1000 --telnet --must-save --log-logins 10 --console\n")
+    yield Result(0, "".join(path.name for path in folder.top.glob("a.db*")).encode()), 0, ""
+
+
 def a_command_of_the_launcher_refuses_other_words(folder):
     """No word for help begins a build of an hour."""
     folder.change()
@@ -379,6 +386,7 @@ CASES = [
     a_world_that_everybody_can_read_is_warned_of,
     what_is_typed_for_a_console_without_a_server_is_refused,
     a_console_of_a_server_that_was_killed_is_refused,
+    a_closed_standard_input_is_empty,
     a_command_of_the_launcher_refuses_other_words,
     the_help_is_on_one_stream,
     a_script_finds_the_launcher_from_any_folder,

@@ -181,12 +181,29 @@ def the_path_is_printed(folder):
     yield folder.run("--path"), 0, f"{folder.top}/release/moo\n"
 
 
+# What the launcher adds to the help of `serve`.
+GIVEN = """
+The launcher makes the pipe DB.console, and gives these options unless you do:
+  --rounds 18446744073709551615
+  --login-seconds 300
+  --most-unconnected 1000
+  --telnet
+  --must-save
+  --log-logins 10
+"""
+
+
 def an_installed_program_needs_no_repository(folder):
     folder.release()
     place = folder.top.parent / "place"
     yield folder.run("install", str(place)), 0, ""
+    for words in ["serve", "--help"], ["serve", "a.db", "-h"]:
+        yield folder.run(*words), 0, f"released {' '.join(words)}\n{GIVEN}"
     shutil.rmtree(folder.top)
     yield folder.run("check", "a.db", command=place / "moo"), 0, "released check a.db\n"
+    yield folder.run("serve", "--help", command=place / "moo"), 0, f"released serve --help\n{GIVEN}"
+    for words in [], ["-h"], ["--help"]:
+        yield headings(folder.run(*words, command=place / "moo")), 0, "The launcher adds:"
 
 
 def a_server_has_limits_and_a_console(folder):
@@ -197,9 +214,6 @@ def a_server_has_limits_and_a_console(folder):
     yield folder.run("serve", str(world), "0", "--rounds", "3"), 0, f"released serve {world} 0 --rounds 3 {limits} --console\n"
     given = ["--rounds", "3", "--login-seconds", "0", "--most-unconnected=5", "--telnet", "--must-save", "--log-logins=0", "--console"]
     yield folder.run("serve", str(world), "0", *given), 0, f"released serve {world} 0 {' '.join(given)}\n"
-    added = limits.replace(" --", "\n  --")
-    yield (folder.run("serve", "--help"), 0, "released serve --help\n\n./moo serve makes the pipe DB.console, and gives these options unless you do:\n"
-           f"  --rounds 18446744073709551615\n  {added}\n")
     yield Result(0, "".join(path.name for path in folder.top.glob("a.db*")).encode()), 0, ""
 
 
@@ -341,11 +355,16 @@ def a_command_of_the_launcher_refuses_other_words(folder):
     yield folder.run("--path", "a"), 2, "usage: ./moo --path\n"
 
 
+def headings(result):
+    """Returns a result with those lines alone that say who adds to the help."""
+    return Result(result.status, b"\n".join(re.findall(rb"^.* adds:$", result.printed, re.MULTILINE)))
+
+
 def the_help_is_on_one_stream(folder):
     folder.release("#!/bin/sh\n[ $# = 0 ] || exit 0\nexit 2\n")
     for words, status in ([], 2), (["--help"], 0):
-        done = subprocess.run([folder.top / "moo", *words], capture_output=True, text=True, check=False, env={"PATH": str(folder.tools)})
-        yield Result(done.returncode, (done.stdout if words else done.stderr)[:13].encode()), status, "\n./moo adds:\n"
+        done = subprocess.run([folder.top / "moo", *words], capture_output=True, check=False, env={"PATH": str(folder.tools)})
+        yield headings(Result(done.returncode, done.stdout if words else done.stderr)), status, "The launcher adds:\n./moo adds:"
 
 
 def a_script_finds_the_launcher_from_any_folder(folder):

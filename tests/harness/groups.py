@@ -71,7 +71,7 @@ def all_groups(program):
     files = [file_group(program, name) if name in KNOWN else (name, failing(name, Broken("not in the list of tests/harness/groups.py")))
              for name in file_names()]
     return [
-        ("the launcher", launcher_cases.units()),
+        ("the launcher", launcher_cases.units(program)),
         ("servers and their clients", serve_cases.units(program)),
         ("servers and browsers", web_cases.units(program)),
         *files,

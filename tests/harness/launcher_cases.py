@@ -4,7 +4,9 @@ import hashlib
 import os
 import pathlib
 import platform
+import re
 import shutil
+import signal
 import stat
 import subprocess
 import sys
@@ -31,10 +33,10 @@ def program(name):
 
 
 class Folder:
-    """A repository with one crate. It has no kit on the path unless a run asks for one."""
+    """A repository with one crate. It has no kit on the path unless a run asks for one. `tested` is the program that the tests are run with."""
 
-    def __init__(self, top):
-        self.top = pathlib.Path(top, "work")
+    def __init__(self, top, tested):
+        self.top, self.tested = pathlib.Path(top, "work"), tested
         for part in PARTS:
             (self.top / part).parent.mkdir(parents=True, exist_ok=True)
             shutil.copy(TOP / part, self.top / part)
@@ -179,12 +181,29 @@ def the_path_is_printed(folder):
     yield folder.run("--path"), 0, f"{folder.top}/release/moo\n"
 
 
+# What the launcher adds to the help of `serve`.
+GIVEN = """
+The launcher makes the pipe DB.console, and gives these options unless you do:
+  --rounds 18446744073709551615
+  --login-seconds 300
+  --most-unconnected 1000
+  --telnet
+  --must-save
+  --log-logins 10
+"""
+
+
 def an_installed_program_needs_no_repository(folder):
     folder.release()
     place = folder.top.parent / "place"
     yield folder.run("install", str(place)), 0, ""
+    for words in ["serve", "--help"], ["serve", "a.db", "-h"]:
+        yield folder.run(*words), 0, f"released {' '.join(words)}\n{GIVEN}"
     shutil.rmtree(folder.top)
     yield folder.run("check", "a.db", command=place / "moo"), 0, "released check a.db\n"
+    yield folder.run("serve", "--help", command=place / "moo"), 0, f"released serve --help\n{GIVEN}"
+    for words in [], ["-h"], ["--help"]:
+        yield headings(folder.run(*words, command=place / "moo")), 0, "The launcher adds:"
 
 
 def a_server_has_limits_and_a_console(folder):
@@ -195,10 +214,92 @@ def a_server_has_limits_and_a_console(folder):
     yield folder.run("serve", str(world), "0", "--rounds", "3"), 0, f"released serve {world} 0 --rounds 3 {limits} --console\n"
     given = ["--rounds", "3", "--login-seconds", "0", "--most-unconnected=5", "--telnet", "--must-save", "--log-logins=0", "--console"]
     yield folder.run("serve", str(world), "0", *given), 0, f"released serve {world} 0 {' '.join(given)}\n"
-    added = limits.replace(" --", "\n  --")
-    yield (folder.run("serve", "--help"), 0, "released serve --help\n\n./moo serve makes the pipe DB.console, and gives these options unless you do:\n"
-           f"  --rounds 18446744073709551615\n  {added}\n")
     yield Result(0, "".join(path.name for path in folder.top.glob("a.db*")).encode()), 0, ""
+
+
+# A program that says what it reads on the console, up to a shutdown. It says half a line there and then sends its parent signals.
+READER = """#!/bin/sh
+printf 'who\nhello' > "$2.console"
+kill -s USR1 "$PPID"
+while read -r line; do
+    echo "<$line>"
+    case $line in checkpoint) kill -s TERM "$PPID" ;; shutdown) break ;; esac
+done
+sleep 0.1
+"""
+
+# A program that does nothing but ask its parent for a checkpoint, and then for a shutdown.
+SLEEPER = """#!/bin/sh
+sleep 0.5
+kill -s USR1 "$PPID"
+sleep 0.5
+kill -s TERM "$PPID"
+exec sleep 20
+"""
+
+
+def dead_process():
+    """Returns the number of a process that has ended."""
+    process = subprocess.Popen(["true"])
+    process.wait()
+    return process.pid
+
+
+def open_console(folder):
+    """Makes the pipe of a database a.db and begins to read it."""
+    os.mkfifo(folder.top / "a.db.console")
+    return os.open(folder.top / "a.db.console", os.O_RDONLY | os.O_NONBLOCK)
+
+
+def a_signal_ends_half_a_line_first(folder):
+    folder.release(READER)
+    yield folder.run("serve", "a.db", "0", folder=folder.top), 0, "<who>\n<hello>\n<checkpoint>\n<>\n<shutdown>\n"
+
+
+def a_signal_types_nothing_for_another_server(folder):
+    """The second launcher finds the pipe of the first, and DB.lock has the number of the first one's server: here of these tests."""
+    folder.release(SLEEPER)
+    folder.write("a.db.lock", f"{os.getpid()}\n")
+    for end in ".db", ".db.console":
+        (folder.top / f"link{end}").symlink_to(f"a{end}")
+    console = open_console(folder)
+    try:
+        for name in "a.db", "link.db":
+            yield Result(folder.run("serve", name, "0", folder=folder.top).status, b""), 128 + signal.SIGKILL, ""
+            yield Result(0, os.read(console, 100)), 0, ""
+            yield Result((folder.top / "a.db.console").is_fifo(), b""), True, ""
+    finally:
+        os.close(console)
+
+
+def a_pipe_that_was_left_is_used_again(folder):
+    """Nobody reads it, and DB.lock has the number of a process that has ended, or none."""
+    folder.release(READER)
+    os.mkfifo(folder.top / "a.db.console")
+    for text in f"{dead_process()}\n", "", "no number\n":
+        folder.write("a.db.lock", text)
+        yield folder.run("serve", "a.db", "0", folder=folder.top), 0, "<who>\n<hello>\n<checkpoint>\n<>\n<shutdown>\n"
+
+
+def options_may_come_before_the_database(folder):
+    folder.release('#!/bin/sh\n[ -p a.db.console ] || echo "no console"\necho "$@"\n')
+    folder.write("a.db", "")
+    warned = "moo: everybody on this machine can read a.db, and the passwords in it: chmod o-r a.db\n"
+    for given in (["--web", "24080"], ["--web=24080"], ["--web", "24080", "--must-save", "--host", "::1"], ["--telnet"]):
+        added = [word for word in ("--telnet", "--must-save") if word not in given]
+        wanted = ["serve", *given, "a.db", "0", "--rounds", "18446744073709551615", "--login-seconds", "300", "--most-unconnected", "1000",
+                  *added, "--log-logins", "10", "--console"]
+        yield folder.run("serve", *given, "a.db", "0", folder=folder.top), 0, f"{warned}{' '.join(wanted)}\n"
+    yield folder.run("serve", "--web", "24080", folder=folder.top), 0, "no console\nserve --web 24080\n"
+    yield folder.run("serve", "--must-save", "--web", folder=folder.top), 0, "no console\nserve --must-save --web\n"
+
+
+def each_option_may_come_before_the_database(folder):
+    """The launcher has to know which options of the program take no value."""
+    folder.release('#!/bin/sh\n[ -p a.db.console ] || echo "no console"\n')
+    given = folder.tested.output(["serve", "--help"]).printed.decode()
+    for option, value in re.findall(r"^ +(--[a-z-]+)( <)?", given.replace("--console ", ""), re.MULTILINE):
+        yield folder.run("serve", option, *["1"] * bool(value), "a.db", "0", folder=folder.top), 0, ""
 
 
 def a_server_without_a_pipe_has_no_console(folder):
@@ -225,6 +326,24 @@ def what_is_typed_for_a_console_without_a_server_is_refused(folder):
     yield (folder.run("console", "a.db"), 2, "moo: a.db.console is no pipe: the server of this database was not started by moo serve\n")
 
 
+def a_console_of_a_server_that_was_killed_is_refused(folder):
+    folder.release()
+    console = open_console(folder)
+    try:
+        for text, status, printed in ("", 0, ""), (f"{os.getpid()}\n", 0, ""), (f"{dead_process()}\n", 2, "moo: no server of a.db runs\n"):
+            folder.write("a.db.lock", text)
+            yield folder.run("console", "a.db", folder=folder.top), status, printed
+    finally:
+        os.close(console)
+
+
+def a_closed_standard_input_is_empty(folder):
+    folder.release()
+    yield (folder.run("-c", "exec ./moo serve a.db 0 --rounds 3 <&-", command=folder.tools / "sh", folder=folder.top), 0,
+           "released serve a.db 0 --rounds 3 --login-seconds 300 --most-unconnected 1000 --telnet --must-save --log-logins 10 --console\n")
+    yield Result(0, "".join(path.name for path in folder.top.glob("a.db*")).encode()), 0, ""
+
+
 def a_command_of_the_launcher_refuses_other_words(folder):
     """No word for help begins a build of an hour."""
     folder.change()
@@ -236,11 +355,16 @@ def a_command_of_the_launcher_refuses_other_words(folder):
     yield folder.run("--path", "a"), 2, "usage: ./moo --path\n"
 
 
+def headings(result):
+    """Returns a result with those lines alone that say who adds to the help."""
+    return Result(result.status, b"\n".join(re.findall(rb"^.* adds:$", result.printed, re.MULTILINE)))
+
+
 def the_help_is_on_one_stream(folder):
     folder.release("#!/bin/sh\n[ $# = 0 ] || exit 0\nexit 2\n")
     for words, status in ([], 2), (["--help"], 0):
-        done = subprocess.run([folder.top / "moo", *words], capture_output=True, text=True, check=False, env={"PATH": str(folder.tools)})
-        yield Result(done.returncode, (done.stdout if words else done.stderr)[:13].encode()), status, "\n./moo adds:\n"
+        done = subprocess.run([folder.top / "moo", *words], capture_output=True, check=False, env={"PATH": str(folder.tools)})
+        yield headings(Result(done.returncode, done.stdout if words else done.stderr)), status, "The launcher adds:\n./moo adds:"
 
 
 def a_script_finds_the_launcher_from_any_folder(folder):
@@ -272,28 +396,35 @@ CASES = [
     the_path_is_printed,
     an_installed_program_needs_no_repository,
     a_server_has_limits_and_a_console,
+    a_signal_ends_half_a_line_first,
+    a_signal_types_nothing_for_another_server,
+    a_pipe_that_was_left_is_used_again,
+    options_may_come_before_the_database,
+    each_option_may_come_before_the_database,
     a_server_without_a_pipe_has_no_console,
     a_world_that_everybody_can_read_is_warned_of,
     what_is_typed_for_a_console_without_a_server_is_refused,
+    a_console_of_a_server_that_was_killed_is_refused,
+    a_closed_standard_input_is_empty,
     a_command_of_the_launcher_refuses_other_words,
     the_help_is_on_one_stream,
     a_script_finds_the_launcher_from_any_folder,
 ]
 
 
-def play_case(place, case):
+def play_case(tested, place, case):
     """Plays a case: its outcome is the first run that ends or prints otherwise than wanted."""
     if (platform.system(), platform.machine()) != ("Linux", "x86_64"):
         raise Skipped("the release is for x86-64 Linux")
     with tempfile.TemporaryDirectory() as top:
-        for number, (got, status, printed) in enumerate(case(Folder(top)), 1):
+        for number, (got, status, printed) in enumerate(case(Folder(top, tested)), 1):
             wanted = Result(status, printed.encode())
             if got != wanted:
                 return [Outcome(place, f"run {number} of ./moo", wanted, got)]
     return [Outcome(place, "", wanted, got)]
 
 
-def units():
+def units(tested):
     """Returns the units that play all cases, each with its place."""
     places = ["the launcher: " + case.__name__.replace("_", " ") for case in CASES]
-    return [(place, partial(play_case, place, case)) for place, case in zip(places, CASES)]
+    return [(place, partial(play_case, tested, place, case)) for place, case in zip(places, CASES)]

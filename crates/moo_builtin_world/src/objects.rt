@@ -20,8 +20,8 @@ use moo_world::World;
 use moo_world_tree::Below;
 use std::alloc::{AllocError, Global};
 
-/// Returns what `valid`, `is_player` or `parent` gives for an object. `None` for another function, and for an object that the
-/// function refuses.
+/// Returns what `valid`, `is_player` or `parent` gives for an object. `None` for another function, and for an object
+/// that the function refuses.
 #[inline(always)]
 pub fn shown(function: Function, o: i32, world: &World) -> Option<Value>
     ensures { IfSome result (λ v. Shows function world.now o (tree v)) }

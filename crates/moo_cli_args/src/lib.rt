@@ -123,10 +123,29 @@ fn is_origin(text: &str) -> bool {
     match text.split_once("://") {
         Some((scheme, rest)) => {
             let host = rest.strip_suffix("/").unwrap_or(rest);
-            !scheme.is_empty() && !host.is_empty() && !host.contains("/")
+            is_scheme(scheme) && is_host(host)
         }
         None => false,
     }
+}
+
+// Is true for a scheme, as `https`.
+fn is_scheme(text: &str) -> bool {
+    !text.is_empty() && text.bytes().all(is_scheme_byte)
+}
+
+fn is_scheme_byte(byte: u8) -> bool {
+    byte.is_ascii_alphanumeric() || matches!(byte, b'+' | b'-' | b'.')
+}
+
+// Is true for the name or the address of a host, perhaps with a port.
+fn is_host(text: &str) -> bool {
+    !text.is_empty() && !text.starts_with(":") && text.bytes().all(is_host_byte)
+}
+
+// An address of the sixth version is written in brackets.
+fn is_host_byte(byte: u8) -> bool {
+    byte.is_ascii_alphanumeric() || matches!(byte, b'.' | b'-' | b'_' | b':' | b'[' | b']')
 }
 
 fn work_of<'a>(name: &str, found: &ArgMatches<'a>) -> Option<Work<'a>> {
@@ -196,7 +215,7 @@ fn no_address(alloc: Global) -> Result<Error, AllocError> {
 
 fn no_origin(alloc: Global) -> Result<Error, AllocError> {
     let message =
-        "the value of '--web-origin <ORIGIN>' is no origin, such as https://moo.example.org";
+        "the value of '--web-origin <ORIGIN>' must be an origin, such as https://moo.example.org";
     command(alloc)?.error(ErrorKind::ValueValidation, message)
 }
 

@@ -26,6 +26,7 @@ pub step_up : (f : ℕ → Option (ℕ × ℕ)) (tree : List Links) (n m at up :
     filter_map f (climb n tree (above_of tree at)) ≡ filter_map f (climb m tree (above_of tree up))
 step_up f tree n m at up more above none = rw (more, above, none) refl
 
+-- a place of the list that is before the first one found is before its length
 early : (n many k first : ℕ) → first ≡ unwrap_or (cond (ltb n many) (Some n) None) many → k < many → k < first → k < n
 early n many k first is within before = grind (arith, nat_tests)
 

@@ -8,7 +8,7 @@ use Rattle.moo_builtin.specs.Telling.{Faults}
 use Rattle.moo_eval_frame.specs.Variables.{bind}
 use Rattle.moo_eval_frame.specs.State.{Context}
 use Rattle.moo_eval_access.specs.State.{State, bound}
-use Rattle.moo_eval_call.specs.VerbCalls.{verb_caller}
+use Rattle.moo_eval_hook.specs.VerbCalls.{verb_caller}
 use Rattle.moo_eval_call.specs.Updates.{MakesList, appends, inserts, adds, sets, deletes, removes}
 use Rattle.moo_eval_call.proofs.Updates.{list_calls}
 use Rattle.moo_eval_semantics.specs.Meaning.{EvaluatesAll, Computes, applies, no_more, call_is}

@@ -3,7 +3,7 @@ use Rattle.moo_eval.specs.declared.interpreter.Task.{Task}
 use Rattle.moo_eval_frame.specs.declared.frame.Activation.{Activation}
 use Rattle.moo_world_table.specs.World.{World}
 use Rattle.moo_eval_access.specs.State.{State}
-use Rattle.moo_eval_call.specs.Seen.{state_at}
+use Rattle.moo_eval_access.specs.SeenState.{state_at}
 
 abbrev pub state_of : Task → World → Activation → State
 state_of task world active = state_at task.ticks_left task.notices.items world active

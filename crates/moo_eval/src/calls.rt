@@ -9,7 +9,7 @@ ghost use Rattle.moo_syntax_ast.specs.Tree.{Expr, Items, no_statement, literal, 
 ghost use Rattle.moo_syntax_lower.specs.Source.{source, source_items};
 ghost use Rattle.moo_eval_frame.specs.declared.frame.Activation.{Activation};
 ghost use Rattle.moo_eval_access.specs.SeenCalled.{entered_of};
-ghost use Rattle.moo_eval_call.specs.SeenByHooks.{progress_of};
+ghost use Rattle.moo_eval_hook.specs.SeenByHooks.{progress_of};
 ghost use Rattle.moo_eval.specs.Hooks.{RunsCalled};
 ghost use Rattle.moo_eval_semantics.specs.Meaning.{Applies, Computes, Proceeds};
 ghost use Rattle.moo_eval_frame.specs.Seen.{context_of, variables_of, seen_answer, seen_flow, IsKnown, IsKnownFailure};
@@ -22,8 +22,8 @@ use crate::hooks::Pending;
 use crate::interpreter::Task;
 use crate::property::{as_text, object_of};
 use moo_eval_access::{Called, enter_verb, enter_written};
-use moo_eval_call::Progress;
 use moo_eval_frame::{Activation, CallStack, Failure, Flow, FrameMemory, Stop, Variables};
+use moo_eval_hook::Progress;
 use moo_syntax_ast::Text;
 use moo_syntax_lower::{Node, NodeItem};
 use moo_value::Value;

@@ -3,15 +3,15 @@ ghost use Rattle.std.specs.Prelude.{◌≡◌, None, IfOk, IfErr};
 ghost use Rattle.moo_value.specs.View.{tree};
 ghost use Rattle.moo_eval_frame.specs.Seen.{context_of, IsKnownFailure};
 ghost use Rattle.moo_builtin.specs.Telling.{Faults};
-ghost use Rattle.moo_eval_call.specs.SeenByHooks.{progress_of};
-ghost use Rattle.moo_eval_call.specs.Stages.{resumed};
+ghost use Rattle.moo_eval_hook.specs.SeenByHooks.{progress_of};
+ghost use Rattle.moo_eval_hook.specs.Stages.{resumed};
 ghost use Rattle.moo_eval.specs.Hooks.{LeadsTo, IsIdle, HasStatements, pending_progress, seen_pending};
 ghost use Rattle.moo_eval.specs.Seen.{state_of};
 
 use crate::interpreter::Task;
 use moo_eval_access::Called;
-use moo_eval_call::{Progress, Stage, resume_call};
 use moo_eval_frame::{Activation, CallStack, Failure};
+use moo_eval_hook::{Progress, Stage, resume_call};
 use moo_value::Value;
 use moo_world::World;
 

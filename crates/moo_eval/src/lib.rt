@@ -34,7 +34,7 @@ mod typed;
 mod update;
 
 pub use line::{EvalLine, eval_line};
-pub use moo_eval_call::typed_frame;
 pub use moo_eval_frame::{Connection, Frame, Login, Notice, Surroundings, TaskEnv};
+pub use moo_eval_hook::typed_frame;
 pub use task::{Ended, run_task};
 pub use typed::run_typed;

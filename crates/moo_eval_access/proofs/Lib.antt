@@ -4,3 +4,4 @@ pub mod LettingGo
 pub mod Written
 pub mod Longer
 pub mod Refused
+pub mod Counted

@@ -1,6 +1,7 @@
 pub mod State
 pub mod Calls
 pub mod Entering
+pub mod SeenState
 pub mod SeenCalled
 pub mod Target
 pub mod SeenTarget

@@ -1,7 +1,8 @@
 //! Accesses of evaluation to a world and to variables: properties, verbs to run, targets of assignments, and operators
-//! between values. An internal crate of `moo_eval`.
+//! between values. Also the number of arguments of a call. An internal crate of `moo_eval`.
 #![tactic(auto)]
 
+mod arguments;
 mod entering;
 mod fault;
 mod growth;
@@ -11,6 +12,7 @@ mod place;
 mod target;
 mod verb_name;
 
+pub use arguments::are_too_many;
 pub use entering::{
     Call, Called, Found, MOST_FRAMES, called_verb, enter_found, enter_verb, enter_verb_from,
     enter_written, has_frame_left, verb_frame, verb_there,

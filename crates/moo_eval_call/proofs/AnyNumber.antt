@@ -27,7 +27,7 @@ use Rattle.moo_builtin.specs.Outcomes.{Replies, IsReply}
 use Rattle.moo_eval_call.specs.declared.spliced.Extreme.{Extreme}
 use Rattle.moo_eval_call.specs.declared.spliced.Extreme.TheVariants.{Least, Greatest}
 use Rattle.moo_eval_call.specs.Spliced.{extreme_of, extreme_from}
-use Rattle.moo_eval_call.proofs.Counted.{raises_reply}
+use Rattle.moo_eval_call.proofs.Replies.{raises_reply}
 
 -- a result of the program, as it is returned
 pub settles : (o : Outcome) (a : Result Value OperationFault) (r : Result Tree ErrorCode) (w : World) (Such : Replies) → Tells o a → Gives a r → Such (raising r) w → IsReply o w w Such

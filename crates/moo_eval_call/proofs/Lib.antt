@@ -2,20 +2,9 @@ pub mod Unique
 pub mod Onward
 pub mod Wider
 mod Unchanged
-pub mod Counted
-pub mod Stretches
-pub mod Extremes
-pub mod Texts
-pub mod AnyNumber
-pub mod Evaluated
-pub mod Fewer
-pub mod Hooked
-pub mod Moves
-pub mod Passed
-pub mod Quotas
-pub mod Raised
-pub mod Turning
-pub mod HookUnique
-pub mod HookOnward
-pub mod HookWider
+mod Replies
+mod Stretches
+mod Extremes
+mod Texts
+mod AnyNumber
 pub mod Updates

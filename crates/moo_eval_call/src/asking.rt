@@ -8,7 +8,7 @@ ghost use Rattle.moo_eval_frame.specs.Seen.{seen_answer, IsKnownFailure};
 ghost use Rattle.moo_eval_frame.specs.declared.frame.Activation.{Activation};
 ghost use Rattle.moo_world_table.specs.World.{World as Objects};
 ghost use Rattle.moo_eval_call.specs.Asking.{leaves, notify, boot_player, dump_database, shutdown, server_log, set_player_flag};
-ghost use Rattle.moo_eval_call.specs.Seen.{state_at};
+ghost use Rattle.moo_eval_access.specs.SeenState.{state_at};
 
 use moo_builtin_operator::is_true;
 use moo_eval_access::failed;

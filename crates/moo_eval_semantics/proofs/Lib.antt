@@ -3,9 +3,12 @@ pub mod Moving
 pub mod Creating
 pub mod HookRecycling
 mod Moved
+mod HookUnique
 mod Unique
 mod UniqueTask
+mod HookOnward
 mod Onward
+mod HookWider
 mod Wider
 mod Choices
 mod Room

@@ -21,14 +21,14 @@ use Rattle.moo_eval_frame.specs.State.{Context}
 use Rattle.moo_eval_access.specs.State.{State}
 use Rattle.moo_builtin.specs.Telling.{Telling}
 use Rattle.moo_eval_call.specs.Later.{Later}
-use Rattle.moo_eval_call.specs.declared.progress.Stage.{Stage}
-use Rattle.moo_eval_call.specs.declared.progress.Stage.TheVariants as stage
-use Rattle.moo_eval_call.specs.Progressing.{Calling, calling, Progress}
-use Rattle.moo_eval_call.specs.Objects.{first_inside}
-use Rattle.moo_eval_call.specs.Quota.{quota, where_allowed, set_if_there, with_quota}
-use Rattle.moo_eval_call.specs.Recycling.{recycle_calls, recycling, owner_of, taken_away, moved_out, emptied}
-use Rattle.moo_eval_call.specs.Stages.{resumed}
-use Rattle.moo_eval_call.specs.VerbCalls.{Starts, refused, starts}
+use Rattle.moo_eval_hook.specs.declared.progress.Stage.{Stage}
+use Rattle.moo_eval_hook.specs.declared.progress.Stage.TheVariants as stage
+use Rattle.moo_eval_hook.specs.Progressing.{Calling, calling, Progress}
+use Rattle.moo_eval_hook.specs.Objects.{first_inside}
+use Rattle.moo_eval_hook.specs.Quota.{quota, where_allowed, set_if_there, with_quota}
+use Rattle.moo_eval_hook.specs.Recycling.{recycle_calls, recycling, owner_of, taken_away, moved_out, emptied}
+use Rattle.moo_eval_hook.specs.Stages.{resumed}
+use Rattle.moo_eval_hook.specs.VerbCalls.{Starts, refused, starts}
 use Rattle.moo_eval_semantics.specs.Notices.{IsBegunBy}
 use Rattle.moo_eval_semantics.specs.HookLaws.{IsToldLast}
 use Rattle.moo_eval_semantics.specs.Meaning.{Proceeds}

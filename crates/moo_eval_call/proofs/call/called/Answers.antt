@@ -4,7 +4,8 @@ use Rattle.moo_builtin_value.specs.Calls.{plainly}
 use Rattle.moo_builtin_world.specs.Objects.{is_valid}
 use Rattle.moo_builtin.specs.Telling.{Faults}
 use Rattle.moo_builtin.specs.Calls.{CallsPlain, refused}
-use Rattle.moo_eval_call.proofs.Counted.{refused_for_number, raises_reply}
+use Rattle.moo_eval_access.proofs.Counted.{refused_for_number}
+use Rattle.moo_eval_call.proofs.Replies.{raises_reply}
 use Rattle.moo_eval_call.proofs.call.called.Goals as goal
 
 pub returns-then-are_too_many : goal.returns-then-are_too_many

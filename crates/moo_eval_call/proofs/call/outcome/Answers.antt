@@ -7,7 +7,7 @@ use Rattle.moo_builtin.specs.Calls.{CallsPlain, unknown}
 use Rattle.moo_eval_call.specs.declared.spliced.Extreme.TheVariants.{Least, Greatest}
 use Rattle.moo_eval_call.specs.Spliced.{extreme_from}
 use Rattle.moo_eval_call.proofs.AnyNumber.{settles, calls_text, calls_least, calls_greatest}
-use Rattle.moo_eval_call.proofs.Counted.{raises_reply}
+use Rattle.moo_eval_call.proofs.Replies.{raises_reply}
 use Rattle.moo_eval_call.proofs.call.outcome.Goals as goal
 
 pub returns-in_default : goal.returns-in_default

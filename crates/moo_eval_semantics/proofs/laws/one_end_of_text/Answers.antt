@@ -5,7 +5,7 @@ use Rattle.moo_builtin.specs.Telling.{chosen_by}
 use Rattle.moo_eval_call.proofs.Unique.{chosen_once}
 use Rattle.moo_eval_semantics.proofs.Agreed.{alike}
 use Rattle.moo_eval_semantics.specs.Task.{TaskEnds}
-use Rattle.moo_eval_call.specs.Evaluating.{typed_frame}
+use Rattle.moo_eval_hook.specs.Evaluating.{typed_frame}
 use Rattle.moo_eval_semantics.specs.Typed.{nowhere}
 use Rattle.moo_eval_semantics.specs.Line.{no_world}
 use Rattle.moo_eval_semantics.proofs.UniqueTask.{one_end}

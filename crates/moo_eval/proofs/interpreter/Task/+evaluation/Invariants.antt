@@ -14,7 +14,7 @@ use Rattle.moo_builtin.specs.Telling.{Faults}
 use Rattle.moo_eval.specs.Seen.{state_of}
 use Rattle.moo_eval.specs.Arguments.{is_splice}
 use Rattle.moo_eval.specs.Hooks.{HasStatements, LeadsTo, pending_progress}
-use Rattle.moo_eval_call.specs.SeenByHooks.{progress_of}
+use Rattle.moo_eval_hook.specs.SeenByHooks.{progress_of}
 use Rattle.std.specs.Prelude.{◌≤ℤ◌, ◌≡◌, false}
 use Rattle.std.specs.List.{list_any}
 use Rattle.moo_eval_frame.specs.Handling.{Guarded, guarded_before}

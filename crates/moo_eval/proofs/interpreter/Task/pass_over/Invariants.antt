@@ -1,8 +1,8 @@
 use Rattle.std.proofs.Common.{◌≡◌, None}
 use Rattle.moo_eval_frame.specs.Seen.{context_of}
 use Rattle.moo_builtin.specs.Telling.{Faults}
-use Rattle.moo_eval_call.specs.SeenByHooks.{progress_of}
-use Rattle.moo_eval_call.specs.Turns.{progress_turns}
+use Rattle.moo_eval_hook.specs.SeenByHooks.{progress_of}
+use Rattle.moo_eval_hook.specs.Turns.{progress_turns}
 use Rattle.moo_eval.specs.Hooks.{LeadsTo}
 use Rattle.moo_eval.specs.Seen.{state_of}
 use Rattle.moo_eval.proofs.interpreter.Task.pass_over.Given as goal

@@ -1,5 +1,0 @@
-use Rattle.std.proofs.Common.{refl}
-use Rattle.moo_eval_call.proofs.hook.through.Goals as goal
-
-pub returns : goal.returns
-returns c = λ f rest e. rw (c.through.ensures f rest e) refl

@@ -1,0 +1,42 @@
+//! `pass`: 'Object-Oriented Programming' of the LambdaMOO Programmer's Manual, 'Functions over the running task' of
+//! docs/reference/language.md.
+ghost use Rattle.std.specs.Prelude.{◌≡◌};
+ghost use Rattle.moo_value.specs.View.{trees};
+ghost use Rattle.moo_eval_frame.specs.Seen.{IsKnownFailure};
+ghost use Rattle.moo_eval_hook.specs.Passing.{passing};
+ghost use Rattle.moo_eval_hook.specs.SeenByHooks.{calling_of, seen_progress};
+
+use crate::objects::parent;
+use crate::progress::{Progress, Stage};
+use moo_eval_access::enter_verb_from;
+use moo_eval_frame::{Activation, CallStack, Failure};
+use moo_value::Value;
+use moo_world::World;
+use std::alloc::Global;
+
+/// Calls the verb of the running one's name that is found from the parent of its object on. E_QUOTA for a list of
+/// arguments past the limits, E_INVIND if there is no parent, E_VERBNF if it has no such executable verb, E_MAXREC if
+/// no frame is left.
+pub(crate) fn pass<'a>(
+    alloc: Global,
+    world: &World,
+    stack: &'a CallStack<'_>,
+    active: &Activation,
+    args: Vec<Value>,
+) -> Result<Progress<'a>, Failure>
+    ensures { IsKnownFailure result → passing (calling_of stack.now active.now) world.now (trees args.items) ≡ seen_progress result }
+{
+    let frame = &stack.running;
+    let from = parent(world, frame.definer);
+    let called = enter_verb_from(
+        alloc,
+        world,
+        stack,
+        active,
+        frame.this,
+        from,
+        &frame.verb,
+        args,
+    )?;
+    Ok(Progress::verb_next(alloc, called, Stage::Passed)?)
+}

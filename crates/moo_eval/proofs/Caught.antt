@@ -9,14 +9,15 @@ use Rattle.moo_eval_frame.specs.Outcome.{Stop, Failure, passes, out_of_ticks}
 use Rattle.moo_eval_frame.specs.State.{Context}
 use Rattle.moo_eval_access.specs.State.{State, trace}
 use Rattle.moo_builtin.specs.Telling.{Telling}
-use Rattle.moo_eval_frame.specs.Catching.{guards, caught}
+use Rattle.moo_eval_control.specs.Catching.{guards, caught}
 use Rattle.moo_eval_semantics.specs.Meaning.{Evaluates, EvaluatesAll, Computes, spent, operands_end, applies, no_more, catch_passes, catch_or_passes, catch_gives, catch_or_goes_on}
 use Rattle.moo_value.specs.declared.value.Value.{Value}
 use Rattle.moo_value.specs.View.{tree}
 use Rattle.moo_eval_frame.specs.declared.outcome.Failure as code_failure
 use Rattle.moo_eval_frame.specs.declared.outcome.Failure.TheVariants as failure_case
 use Rattle.moo_eval_frame.specs.declared.outcome.Stop as code_stop
-use Rattle.moo_eval_frame.specs.Seen.{catch_of, failure_of, stop_of}
+use Rattle.moo_eval_frame.specs.Seen.{failure_of, stop_of}
+use Rattle.moo_eval_control.specs.SeenCatching.{catch_of}
 use Rattle.moo_eval.specs.declared.catching.Attempt.TheVariants as attempt
 use Rattle.moo_eval.specs.Attempts.{Attempts}
 

@@ -4,7 +4,7 @@ use Rattle.moo_value.specs.Tree.{Tree, list_of}
 use Rattle.moo_syntax_ast.specs.Tree.{Expr, list, assign, performs}
 use Rattle.moo_syntax_lower.specs.Blocks.{named_items}
 use Rattle.moo_eval_frame.specs.Outcome.{next}
-use Rattle.moo_eval_frame.specs.Scatter.{dealt, given}
+use Rattle.moo_eval_control.specs.Scatter.{dealt, given}
 use Rattle.moo_eval_frame.specs.State.{Context}
 use Rattle.moo_eval_frame.specs.Variables.{with_all}
 use Rattle.moo_eval_access.specs.State.{State, ticked}

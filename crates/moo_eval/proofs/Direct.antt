@@ -5,7 +5,7 @@ use Rattle.moo_value.specs.Tree.{Tree}
 use Rattle.moo_value.specs.Compare.{folded}
 use Rattle.moo_syntax_ast.specs.declared.tree.Literal.{Literal}
 use Rattle.moo_syntax_ast.specs.Tree.{Expr, literal, literal_value, variable, assign, performs}
-use Rattle.moo_eval_frame.specs.Variables.{bind}
+use Rattle.moo_eval_slot.specs.Bindings.{bind}
 use Rattle.moo_eval_frame.specs.Outcome.{Stop, Failure, stops, next, or_error, answers, settled}
 use Rattle.moo_eval_frame.specs.State.{Context}
 use Rattle.moo_eval_access.specs.State.{State, ticked, bound, trace}

@@ -7,7 +7,8 @@ use Rattle.moo_eval_frame.specs.declared.frame.TraceEntry.{TraceEntry}
 use Rattle.moo_eval_frame.specs.declared.notice.Notice.{Notice}
 use Rattle.moo_eval_frame.specs.Surroundings.{Surroundings}
 use Rattle.moo_eval_frame.specs.Outcome.{Stop, Flow}
-use Rattle.moo_eval_frame.specs.Variables.{first_bindings, value_of_name}
+use Rattle.moo_eval_frame.specs.Variables.{first_bindings}
+use Rattle.moo_eval_slot.specs.Bindings.{value_of_name}
 use Rattle.moo_eval_frame.specs.State.{Context, running_of}
 use Rattle.moo_value.specs.Tree.{Tree}
 use Rattle.moo_syntax_ast.specs.Tree.{Block}

@@ -20,7 +20,7 @@ use Rattle.moo_builtin.specs.Telling.{Telling}
 use Rattle.moo_eval_access.specs.Calls.{write_property}
 use Rattle.moo_eval_access.specs.Target.{owned}
 use Rattle.moo_eval_access.specs.Entering.{after_list}
-use Rattle.moo_eval_frame.specs.Handling.{Guarded, guarded_before}
+use Rattle.moo_eval_control.specs.Handling.{Guarded, guarded_before}
 use Rattle.moo_eval_frame.specs.Outcome.{Stop, Failure, Flow, fails, answers, goes_on}
 use Rattle.moo_eval_semantics.specs.Operands.{before}
 use Rattle.moo_eval_semantics.specs.Meaning.{EvaluatesAll, optional_fails, defaulted_fails, Puts, property_unset, puts_property, RunsAll}

@@ -8,7 +8,7 @@ use Rattle.moo_syntax_ast.specs.declared.operator.BinaryOperator.TheVariants.{Ad
 use Rattle.moo_syntax_ast.specs.Tree.{Expr, variable, binary, assign, performs}
 use Rattle.moo_builtin_operator.specs.Operators.{added}
 use Rattle.moo_builtin_operator.proofs.Lawful.{limited_within}
-use Rattle.moo_eval_frame.specs.Variables.{bind, with_variable}
+use Rattle.moo_eval_slot.specs.Bindings.{bind, with_variable}
 use Rattle.moo_eval_frame.specs.Outcome.{Failure, next, or_error, answers}
 use Rattle.moo_eval_frame.specs.State.{Context}
 use Rattle.moo_eval_access.specs.State.{State, bound}

@@ -11,7 +11,7 @@ use Rattle.moo_syntax_ast.specs.Tree as program
 use Rattle.moo_syntax_ast.specs.Tree.{Expr, Items, variable, splice, element, no_items, assign, performs}
 use Rattle.moo_builtin_operator.specs.Places.{made_list, spliced_of}
 use Rattle.moo_builtin_operator.proofs.Lawful.{limited_within}
-use Rattle.moo_eval_frame.specs.Variables.{bind, with_variable}
+use Rattle.moo_eval_slot.specs.Bindings.{bind, with_variable}
 use Rattle.moo_eval_frame.specs.Outcome.{Stop, Failure, stops, fails, next, or_error, answers, settled}
 use Rattle.moo_eval_frame.specs.State.{Context}
 use Rattle.moo_eval_access.specs.State.{State, ticked, bound, trace}

@@ -7,7 +7,7 @@ use Rattle.moo_syntax_ast.specs.Tree.{Expr, Stmt, variable, assign, performs}
 use Rattle.moo_builtin_operator.specs.Assignment.{with_index_of}
 use Rattle.moo_eval_frame.specs.Outcome.{Stop, Failure, Flow, stops, next, or_error, answers, settled}
 use Rattle.moo_eval_frame.specs.State.{Context, within}
-use Rattle.moo_eval_frame.specs.Variables.{bind, with_variable}
+use Rattle.moo_eval_slot.specs.Bindings.{bind, with_variable}
 use Rattle.moo_eval_access.specs.Target.{Step, rebuilt}
 use Rattle.moo_eval_access.specs.State.{State, ticked, bound, trace}
 use Rattle.moo_builtin.specs.Telling.{Telling, Faults}

@@ -6,7 +6,7 @@ use Rattle.moo_value.specs.TreeCode.{trees_of-elements_of}
 use Rattle.moo_syntax_ast.specs.Tree as program
 use Rattle.moo_syntax_ast.specs.Tree.{Expr, variable, splice, element, no_items}
 use Rattle.moo_builtin_operator.specs.Places.{made_list, spliced_of}
-use Rattle.moo_eval_frame.specs.Variables.{bind}
+use Rattle.moo_eval_slot.specs.Bindings.{bind}
 use Rattle.moo_eval_frame.specs.Outcome.{Stop, Failure, stops, answers}
 use Rattle.moo_eval_frame.specs.State.{Context}
 use Rattle.moo_eval_access.specs.State.{State, bound}

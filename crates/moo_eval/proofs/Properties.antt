@@ -8,8 +8,8 @@ use Rattle.moo_syntax_ast.specs.declared.tree.Literal.TheVariants.{Str}
 use Rattle.moo_syntax_ast.specs.Tree.{Expr, Items, literal, list, property, assign}
 use Rattle.moo_syntax_lower.specs.Blocks.{named_items}
 use Rattle.moo_eval_frame.specs.Outcome.{Stop, Failure, stops, fails, answers}
-use Rattle.moo_eval_frame.specs.Scatter.{lacking, given}
-use Rattle.moo_eval_frame.specs.Scatter as scatter
+use Rattle.moo_eval_control.specs.Scatter.{lacking, given}
+use Rattle.moo_eval_control.specs.Scatter as scatter
 use Rattle.moo_eval_frame.specs.State.{Context}
 use Rattle.moo_eval_access.specs.Calls.{read_property}
 use Rattle.moo_eval_access.specs.State.{State, ticked, bound}

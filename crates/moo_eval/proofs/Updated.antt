@@ -5,7 +5,7 @@ use Rattle.moo_syntax_ast.specs.Tree.{Items, call}
 use Rattle.moo_syntax_function.specs.declared.function.Function.{Function}
 use Rattle.moo_syntax_function.specs.Names.{function_of}
 use Rattle.moo_builtin.specs.Telling.{Faults}
-use Rattle.moo_eval_frame.specs.Variables.{bind}
+use Rattle.moo_eval_slot.specs.Bindings.{bind}
 use Rattle.moo_eval_frame.specs.State.{Context}
 use Rattle.moo_eval_access.specs.State.{State, bound}
 use Rattle.moo_eval_hook.specs.VerbCalls.{verb_caller}

@@ -6,7 +6,7 @@ use Rattle.moo_syntax_ast.specs.Tree.{Expr, Codes}
 use Rattle.moo_builtin.specs.Telling.{Telling}
 use Rattle.moo_eval_frame.specs.Outcome.{Stop, passes}
 use Rattle.moo_eval_frame.specs.State.{Context}
-use Rattle.moo_eval_frame.specs.Catching.{caught}
+use Rattle.moo_eval_control.specs.Catching.{caught}
 use Rattle.moo_eval_frame.specs.declared.outcome.Failure as code_failure
 use Rattle.moo_eval_frame.specs.Seen.{failure_of}
 use Rattle.moo_eval_access.specs.State.{State}

@@ -7,11 +7,12 @@ use Rattle.moo_value.specs.declared.value.Value.{Value}
 use Rattle.moo_syntax_ast.specs.Tree.{Codes}
 use Rattle.moo_syntax_lower.specs.declared.node.NodeCodes.{NodeCodes}
 use Rattle.moo_builtin.specs.Telling.{Telling}
-use Rattle.moo_eval_frame.specs.Catching.{guards, coded}
+use Rattle.moo_eval_control.specs.Catching.{guards, coded}
 use Rattle.moo_eval_frame.specs.Outcome.{Stop, Failure}
 use Rattle.moo_eval_frame.specs.State.{Context}
 use Rattle.moo_eval_frame.specs.declared.outcome.Stop as code_stop
-use Rattle.moo_eval_frame.specs.Seen.{stop_of, code_values}
+use Rattle.moo_eval_frame.specs.Seen.{stop_of}
+use Rattle.moo_eval_control.specs.SeenCatching.{code_values}
 use Rattle.moo_eval_access.specs.State.{State, trace}
 use Rattle.moo_eval_semantics.specs.Meaning.{EvaluatesAll}
 

@@ -1,5 +1,5 @@
 -- The meaning of the program's result for a task.
-pub use Rattle.moo_eval_frame.specs.Traceback.{texts}
+pub use Rattle.moo_eval_control.specs.Traceback.{texts}
 pub use Rattle.moo_eval_semantics.specs.Notices.{LeavesNotices, IsBegunBy}
 use Rattle.moo_value.specs.View.{tree}
 use Rattle.moo_eval.specs.declared.task.Ended as code

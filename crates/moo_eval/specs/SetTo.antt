@@ -2,7 +2,7 @@
 use Rattle.std.specs.Prelude.{◌≡◌, ℕ, List, [], ◌∷◌, Ok}
 use Rattle.moo_value.specs.Tree.{Tree}
 use Rattle.moo_syntax_ast.specs.Tree.{Expr}
-use Rattle.moo_eval_frame.specs.Variables.{bind}
+use Rattle.moo_eval_slot.specs.Bindings.{bind}
 use Rattle.moo_eval_frame.specs.State.{Context}
 use Rattle.moo_eval_access.specs.State.{State, bound}
 use Rattle.moo_builtin.specs.Telling.{Telling}

@@ -1,16 +1,18 @@
 //! Evaluates catches.
 ghost use Rattle.std.specs.Prelude.{◌≤◌, Err};
 ghost use Rattle.moo_syntax_lower.specs.Source.{source, source_codes, source_items};
-ghost use Rattle.moo_eval_frame.specs.Catching.{guards};
+ghost use Rattle.moo_eval_control.specs.Catching.{guards};
 ghost use Rattle.moo_eval_frame.specs.Outcome.{settled};
-ghost use Rattle.moo_eval_frame.specs.Seen.{context_of, trace_of, failure_of, seen_answer, seen_answers, seen_by, seen_value, code_values, catch_of, HadMemoryIn, IsKnown, IsKnownFailure};
+ghost use Rattle.moo_eval_frame.specs.Seen.{context_of, trace_of, failure_of, seen_answer, seen_answers, seen_by, seen_value, HadMemoryIn, IsKnown, IsKnownFailure};
+ghost use Rattle.moo_eval_control.specs.SeenCatching.{code_values, catch_of};
 ghost use Rattle.moo_builtin.specs.Telling.{Faults};
 ghost use Rattle.moo_eval_semantics.specs.Meaning.{Computes, EvaluatesAll};
 ghost use Rattle.moo_eval.specs.Attempts.{Attempts, IsSeen};
 ghost use Rattle.moo_eval.specs.Seen.{state_of};
 
 use crate::interpreter::Task;
-use moo_eval_frame::{Activation, CallStack, Failure, Stop, caught, is_caught};
+use moo_eval_control::{caught, is_caught};
+use moo_eval_frame::{Activation, CallStack, Failure, Stop};
 use moo_syntax_lower::{Node, NodeCodes, NodeItem};
 use moo_value::{ErrorCode, Value};
 use moo_world::World;

@@ -5,10 +5,11 @@ ghost use Rattle.moo_value.specs.Size.{IsWithinLimits};
 ghost use Rattle.moo_value.specs.View.{trees};
 ghost use Rattle.moo_builtin_operator.specs.Places.{made_list};
 ghost use Rattle.moo_eval_frame.specs.Outcome.{answers};
-ghost use Rattle.moo_eval_frame.specs.Variables.{bind, with_variable};
+ghost use Rattle.moo_eval_slot.specs.Bindings.{bind, with_variable};
 ghost use Rattle.moo_eval_frame.specs.Seen.{variables_of, failure_of, HadMemoryIn};
 
-use moo_eval_frame::{Failure, Gathered, Variables, pushed};
+use moo_eval_frame::{Failure, Gathered, Variables};
+use moo_eval_slot::pushed;
 use moo_syntax_ast::Name;
 use moo_value::{DEPTH_LIMIT, ErrorCode, MooList, Value, WEIGHT_LIMIT};
 use std::alloc::{AllocError, Global};

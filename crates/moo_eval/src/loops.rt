@@ -5,14 +5,15 @@ ghost use Rattle.moo_syntax_ast.specs.Tree.{for_list, for_range};
 ghost use Rattle.moo_syntax_lower.specs.Source.{source};
 ghost use Rattle.moo_syntax_lower.specs.Blocks.{source_block};
 ghost use Rattle.moo_eval_semantics.specs.Meaning.{Does, Turns, Loops, Visits, Counts};
-ghost use Rattle.moo_eval_frame.specs.Variables.{bind, with_variable};
+ghost use Rattle.moo_eval_slot.specs.Bindings.{bind, with_variable};
 ghost use Rattle.moo_eval_frame.specs.Seen.{context_of, seen_flow, seen_turn, variables_of, IsKnown};
 ghost use Rattle.moo_builtin.specs.Telling.{Faults};
 ghost use Rattle.moo_eval.specs.Seen.{state_of};
 
 use crate::interpreter::Task;
 use moo_builtin_operator::spliced;
-use moo_eval_frame::{Activation, CallStack, Flow, Span, Stop, Variables, after_turn, no_turn};
+use moo_eval_control::{Span, after_turn, no_turn};
+use moo_eval_frame::{Activation, CallStack, Flow, Stop, Variables};
 use moo_syntax_ast::Name;
 use moo_syntax_lower::{Node, NodeStmt};
 use moo_value::{MooStr, Value};

@@ -15,13 +15,11 @@ ghost use Rattle.moo_world_table.specs.World.{World as WorldModel};
 ghost use Rattle.moo_eval_access.specs.State.{State};
 ghost use Rattle.moo_builtin.specs.Telling.{Faults};
 ghost use Rattle.moo_eval.specs.Seen.{state_of};
-ghost use Rattle.moo_eval_frame.specs.SeenScatter.{left_out_of};
+ghost use Rattle.moo_eval_control.specs.SeenScatter.{left_out_of};
 
 use crate::interpreter::Task;
-use moo_eval_frame::{
-    Activation, CallStack, Failure, Flow, LeftOut, Stop, dealt, missing, set_names, set_shares,
-    try_set_names,
-};
+use moo_eval_control::{LeftOut, dealt, missing, set_names, set_shares, try_set_names};
+use moo_eval_frame::{Activation, CallStack, Failure, Flow, Stop};
 use moo_syntax_ast::Name;
 use moo_syntax_lower::{Node, NodeItem};
 use moo_value::{MooList, Value};

@@ -14,9 +14,8 @@ ghost use Rattle.moo_eval.specs.Seen.{state_of};
 use crate::interpreter::Task;
 use moo_eval_access::drop_written;
 use moo_eval_call::{has_list, make_list};
-use moo_eval_frame::{
-    Activation, CallStack, Failure, Gathered, Stop, has_room_for, prepended, pushed,
-};
+use moo_eval_frame::{Activation, CallStack, Failure, Gathered, Stop};
+use moo_eval_slot::{has_room_for, prepended, pushed};
 use moo_syntax_ast::Text;
 use moo_syntax_lower::{FunctionName, Node, NodeItem};
 use moo_value::{ErrorCode, Value};

@@ -1,8 +1,10 @@
 //! Runs whole tasks: 'MOO Tasks' of the LambdaMOO Programmer's Manual, 'Tracebacks' and 'Limits' of
 //! docs/reference/language.md.
 ghost use Rattle.std.specs.Prelude.{◌≡◌, [], IfOk};
-ghost use Rattle.moo_eval_frame.specs.Seen.{seen_flow, IsKnown, slot_value};
-ghost use Rattle.moo_eval_frame.specs.Variables.{first_bindings, value_of_name};
+ghost use Rattle.moo_eval_frame.specs.Seen.{seen_flow, IsKnown};
+ghost use Rattle.moo_eval_slot.specs.Held.{slot_value};
+ghost use Rattle.moo_eval_frame.specs.Variables.{first_bindings};
+ghost use Rattle.moo_eval_slot.specs.Bindings.{value_of_name};
 ghost use Rattle.moo_eval_frame.specs.Seen.{surroundings_of, variables_of};
 ghost use Rattle.moo_builtin.specs.Telling.{Faults};
 ghost use Rattle.moo_eval_semantics.specs.Task.{TaskEnds, end_of};
@@ -11,9 +13,9 @@ ghost use Rattle.moo_syntax_ast.specs.Given.{given_names};
 ghost use Rattle.moo_eval_frame.specs.GivenValues.{given_values};
 
 use crate::interpreter::Task;
+use moo_eval_control::traceback_lines;
 use moo_eval_frame::{
-    Activation, CallStack, Callers, Flow, Frame, FrameMemory, GivenValues, Stop, TaskEnv,
-    Variables, traceback_lines,
+    Activation, CallStack, Callers, Flow, Frame, FrameMemory, GivenValues, Stop, TaskEnv, Variables,
 };
 use moo_value::Value;
 use moo_world::World;

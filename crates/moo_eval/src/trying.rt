@@ -4,10 +4,10 @@ ghost use Rattle.moo_syntax_ast.specs.Tree.{try_except, try_finally, no_handler}
 ghost use Rattle.moo_syntax_lower.specs.Source.{source_codes};
 ghost use Rattle.moo_syntax_lower.specs.Blocks.{source_block, source_handler_list, with_source_handler};
 ghost use Rattle.moo_eval_semantics.specs.Meaning.{Does, RunsAll, Prepares, Handles, Takes};
-ghost use Rattle.moo_eval_frame.specs.Handling.{chosen};
+ghost use Rattle.moo_eval_control.specs.Handling.{chosen};
 ghost use Rattle.moo_eval_frame.specs.Outcome.{Flow as Flowing, Stop as Stopped};
 ghost use Rattle.moo_eval_frame.specs.Seen.{context_of, raise_of, seen_flow, stop_of, HadMemory, IsKnown};
-ghost use Rattle.moo_eval_frame.specs.SeenHandling.{guarded_of, seen_guarded};
+ghost use Rattle.moo_eval_control.specs.SeenHandling.{guarded_of, seen_guarded};
 ghost use Rattle.moo_world_table.specs.World.{World as WorldModel};
 ghost use Rattle.moo_eval_access.specs.State.{State};
 ghost use Rattle.moo_builtin.specs.Telling.{Faults};
@@ -15,10 +15,11 @@ ghost use Rattle.moo_eval.specs.Codes.{GivesCodes, seen_values};
 ghost use Rattle.moo_eval.specs.Seen.{state_of};
 
 use crate::interpreter::Task;
-use moo_eval_frame::{
-    Activation, CallStack, Flow, Guarded, Raise, Stop, after_finally, chosen, handler_parts,
-    push_guarded, runs_finally, set_caught, settle_codes, with_values,
+use moo_eval_control::{
+    Guarded, after_finally, chosen, handler_parts, push_guarded, runs_finally, set_caught,
+    settle_codes, with_values,
 };
+use moo_eval_frame::{Activation, CallStack, Flow, Raise, Stop};
 use moo_syntax_lower::{NodeCodes, NodeHandler, NodeStmt};
 use moo_value::Value;
 use moo_world::World;

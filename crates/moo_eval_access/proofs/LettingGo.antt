@@ -5,7 +5,7 @@ use Rattle.std.specs.Result.{result_err}
 use Rattle.moo_value.specs.declared.error_code.ErrorCode.{ErrorCode}
 use Rattle.moo_value.specs.Tree.{Tree}
 use Rattle.moo_value.specs.Compare.{folded}
-use Rattle.moo_eval_frame.specs.Variables.{bind, with_variable}
+use Rattle.moo_eval_slot.specs.Bindings.{bind, with_variable}
 use Rattle.moo_eval_access.specs.LetGo.{IsLetGo, kept, let_go}
 
 one_test : (a : Bool) (x y z : Option Tree) → cond a x (cond a y z) ≡ cond a x z

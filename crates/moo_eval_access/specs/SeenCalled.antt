@@ -2,9 +2,10 @@
 use Rattle.std.specs.Prelude.{ℤ, [], None}
 use Rattle.moo_world_object.specs.declared.verb.Verb.{Verb}
 use Rattle.moo_syntax_ast.specs.Given.{given_names}
-use Rattle.moo_eval_frame.specs.Variables.{value_of_name}
+use Rattle.moo_eval_slot.specs.Bindings.{value_of_name}
 use Rattle.moo_eval_frame.specs.GivenValues.{given_values}
-use Rattle.moo_eval_frame.specs.Seen.{context_of, slot_value}
+use Rattle.moo_eval_frame.specs.Seen.{context_of}
+use Rattle.moo_eval_slot.specs.Held.{slot_value}
 use Rattle.moo_eval_access.specs.declared.entering.Called.{Called}
 use Rattle.moo_eval_access.specs.declared.entering.Found.{Found}
 use Rattle.moo_eval_access.specs.Entering.{Entered}

@@ -2,7 +2,8 @@
 use Rattle.std.specs.Prelude.{ℕ, ◌-◌, ℤ, List, Option}
 use Rattle.moo_value.specs.Tree.{Tree}
 use Rattle.moo_world_table.specs.World.{World}
-use Rattle.moo_eval_frame.specs.Variables.{Binding, with_all}
+use Rattle.moo_eval_frame.specs.Variables.{with_all}
+use Rattle.moo_eval_slot.specs.Bindings.{Binding}
 use Rattle.moo_eval_frame.specs.State.{Context, entries}
 use Rattle.moo_eval_frame.specs.declared.frame.TraceEntry.{TraceEntry}
 use Rattle.moo_eval_frame.specs.declared.notice.Notice.{Notice}

@@ -5,13 +5,12 @@ ghost use Rattle.moo_value.specs.View.{tree};
 ghost use Rattle.moo_builtin_operator.specs.Operators.{added};
 ghost use Rattle.moo_builtin_operator.specs.Places.{made_list};
 ghost use Rattle.moo_eval_frame.specs.Outcome.{answers};
-ghost use Rattle.moo_eval_frame.specs.Variables.{bind, with_variable};
+ghost use Rattle.moo_eval_slot.specs.Bindings.{bind, with_variable};
 ghost use Rattle.moo_eval_frame.specs.Seen.{variables_of, failure_of, HadMemoryIn};
 
 use crate::integers::binary;
-use moo_eval_frame::{
-    Failure, Variables, extended, has_room_after, has_room_for, prepended, pushed,
-};
+use moo_eval_frame::{Failure, Variables};
+use moo_eval_slot::{extended, has_room_after, has_room_for, prepended, pushed};
 use moo_syntax_ast::Name;
 use moo_syntax_ast::operator::BinaryOperator;
 use moo_value::{ErrorCode, MooList, MooStr, Value};

@@ -4,7 +4,7 @@ ghost use Rattle.moo_value.specs.Tree.{Tree, string};
 ghost use Rattle.moo_value.specs.View.{tree};
 ghost use Rattle.moo_builtin_operator.specs.Assignment.{with_index_of};
 ghost use Rattle.moo_eval_frame.specs.Outcome.{answers};
-ghost use Rattle.moo_eval_frame.specs.Variables.{bind, with_variable};
+ghost use Rattle.moo_eval_slot.specs.Bindings.{bind, with_variable};
 ghost use Rattle.moo_eval_frame.specs.Seen.{variables_of, failure_of, seen_by, HadMemoryIn, IsKnownFailure};
 ghost use Rattle.moo_eval_access.specs.Calls.{write_result};
 

@@ -10,7 +10,7 @@ ghost use Rattle.moo_eval_frame.specs.Outcome.{answers};
 ghost use Rattle.moo_eval_access.specs.Target.{root_of, root_parts, root_from, spots, part_at, with_part, root_value, held, rebuilt};
 ghost use Rattle.moo_eval_frame.specs.Seen.{variables_of, seen_answer, seen_by, failure_of, IsKnownFailure, HadMemoryIn};
 ghost use Rattle.moo_eval_access.specs.SeenTarget.{root_seen, places_of, step_of, steps_of, spot_of};
-ghost use Rattle.moo_eval_frame.specs.Variables.{bind, with_variable};
+ghost use Rattle.moo_eval_slot.specs.Bindings.{bind, with_variable};
 ghost use Rattle.moo_eval_access.specs.LetGo.{IsLetGo};
 
 use crate::object::read_property;

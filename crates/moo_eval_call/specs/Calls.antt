@@ -11,7 +11,7 @@ use Rattle.moo_syntax_function.specs.Check.{refusal}
 use Rattle.moo_builtin_value.specs.Calls.{Raised}
 use Rattle.moo_world_table.specs.World.{World}
 use Rattle.moo_builtin_world.specs.Objects.{is_valid}
-use Rattle.moo_eval_frame.specs.Handling.{frame_lists, listed}
+use Rattle.moo_eval_control.specs.Handling.{frame_lists, listed}
 use Rattle.moo_eval_frame.specs.Outcome.{Failure, fails, answers}
 use Rattle.moo_eval_frame.specs.State.{Context}
 use Rattle.moo_eval_access.specs.State.{State, trace}

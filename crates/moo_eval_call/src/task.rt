@@ -2,7 +2,7 @@
 ghost use Rattle.std.specs.Prelude.{◌≡◌, ℕ, List, None};
 ghost use Rattle.moo_value.specs.View.{trees};
 ghost use Rattle.moo_eval_frame.specs.declared.notice.Notice.{Notice};
-ghost use Rattle.moo_eval_frame.specs.Handling.{frame_lists, listed};
+ghost use Rattle.moo_eval_control.specs.Handling.{frame_lists, listed};
 ghost use Rattle.moo_eval_frame.specs.Outcome.{answers};
 ghost use Rattle.moo_eval_frame.specs.Seen.{context_of, seen_answer, IsKnownFailure};
 ghost use Rattle.moo_eval_call.specs.Tasks.{set_task_perms};
@@ -13,7 +13,8 @@ use crate::asking::{boot_player, dump_database, notify, server_log, set_player_f
 use crate::connections::{connected_players, connected_seconds, idle_seconds};
 use crate::ticks::Ticks;
 use moo_builtin_operator as operation;
-use moo_eval_frame::{Activation, CallStack, Failure, Notice, frame_lists};
+use moo_eval_control::frame_lists;
+use moo_eval_frame::{Activation, CallStack, Failure, Notice};
 use moo_syntax_function::Function;
 use moo_value::{ErrorCode, Value};
 use moo_world::{Rights, World};

@@ -3,13 +3,14 @@ ghost use Rattle.std.specs.Prelude.{◌≡◌, [], ◌∷◌, Some, IsTrue, IfOk
 ghost use Rattle.moo_value.specs.Tree.{Tree, integer, list_of};
 ghost use Rattle.moo_value.specs.View.{tree, trees};
 ghost use Rattle.moo_builtin_operator.specs.declared.fault.OperationFault.TheVariants.{Memory};
-ghost use Rattle.moo_eval_frame.specs.Variables.{bind, with_variable};
+ghost use Rattle.moo_eval_slot.specs.Bindings.{bind, with_variable};
 ghost use Rattle.moo_eval_frame.specs.Seen.{variables_of};
 ghost use Rattle.moo_eval_call.specs.Updates.{MakesList, HasList, HasPlace, Takes};
 
 use moo_builtin_operator::{OperationFault, before_place};
 use moo_builtin_value::plain_answer;
-use moo_eval_frame::{Variables, has_room_for};
+use moo_eval_frame::Variables;
+use moo_eval_slot::has_room_for;
 use moo_syntax_ast::Name;
 use moo_syntax_function::Function;
 use moo_value::{MooList, Value, WEIGHT_LIMIT};

@@ -1,5 +1,5 @@
 -- The variables that a frame begins with.
-use Rattle.std.proofs.Common.{◌≡◌, ℕ, ℤ, List, [], ◌∷◌, ◌++◌, take, drop, codes, Option, Some, None, Result, Ok, Err, IfOk, cond, map, refl, sym, ap, ◌∙◌}
+use Rattle.std.proofs.Common.{◌≡◌, ℕ, ℤ, List, [], ◌∷◌, ◌++◌, take, drop, codes, Option, Some, Result, Ok, Err, IfOk, cond, map, refl, sym, ap, ◌∙◌}
 use Rattle.std.specs.declared.alloc.AllocError.{AllocError}
 use Rattle.std.specs.Option.{option_map}
 use Rattle.std.specs.List.{find}
@@ -14,11 +14,13 @@ use Rattle.moo_eval_frame.specs.declared.frame.Running.{Running}
 use Rattle.moo_eval_frame.specs.Shared.{Shared, types_of, types}
 use Rattle.moo_eval_frame.specs.declared.variables.Variables.{Variables}
 use Rattle.moo_eval_frame.specs.State.{running_of}
-use Rattle.moo_eval_frame.specs.Variables.{Binding, bind, type_bindings, first_bindings, own_bindings, value_of_name, with_variable, called_variables}
+use Rattle.moo_eval_frame.specs.Variables.{type_bindings, first_bindings, own_bindings, called_variables}
+use Rattle.moo_eval_slot.specs.Bindings.{Binding, bind, value_of_name, with_variable}
 use Rattle.moo_eval_frame.specs.declared.given_values.GivenValues.{GivenValues}
 use Rattle.moo_eval_frame.specs.GivenValues.{given_values, values_with, command_of, command_in}
-use Rattle.moo_eval_frame.specs.Seen.{slot_value, seen_values, bound_values, variables_of}
-use Rattle.moo_eval_frame.proofs.Names.{split, nothing_set}
+use Rattle.moo_eval_frame.specs.Seen.{seen_values, bound_values, variables_of}
+use Rattle.moo_eval_slot.specs.Held.{slot_value}
+use Rattle.moo_eval_slot.proofs.Names.{split}
 use Rattle.moo_eval_frame.proofs.Newest.{first}
 
 -- these values of the names of types and of the command among those of a frame
@@ -110,7 +112,6 @@ handed_bound f caller args s variables values e t c =
     (λ j n. bound all values n (e ∙ handed_values f caller args s shared t c) j)
     ∙ commanded f caller args (tree shared.dobj) (tree shared.iobj) (tree shared.argstr) (tree shared.dobjstr) (tree shared.prepstr) (tree shared.iobjstr)
 
--- no slot has a value
 -- what a frame begins with is the values that a call hands on
 pub handed_so : (f : Running) (caller : ℤ) (args : List Tree) (variables : Variables) (r : Result GivenValues AllocError) →
     IfOk r (λ given. seen_values (given_values given) ≡ values_with f caller args given.shared.value) → IfOk r (λ given. types_of given.shared.value ≡ types) → IfOk r (λ given. command_of given.shared.value ≡ command_of variables.given.shared.value) →
@@ -123,6 +124,3 @@ pub first_so : (f : Frame) (r : Result GivenValues AllocError) →
     IfOk r (λ given. slot_value given_names (given_values given) (value_of_name []) ≡ value_of_name (first_bindings f))
 first_so f (Ok given) e t c = first_bound f given.shared.value (given_values given) e t c
 first_so f (Err failed) e t c = tt
-
-pub unset_all : (slots : List (List ℕ)) → slot_value slots (map (λ name. None) slots) (value_of_name []) ≡ value_of_name []
-unset_all slots = λ j n. nothing_set slots slots n j

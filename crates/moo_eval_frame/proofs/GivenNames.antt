@@ -13,10 +13,10 @@ use Rattle.moo_syntax_ast.specs.declared.given.Given.TheVariants as given
 use Rattle.moo_syntax_ast.specs.Given.{given_name, all_given, given_names, given_slot, is_given, given_of}
 use Rattle.moo_syntax_ast.proofs.GivenNames.{passes, same_name}
 use Rattle.moo_eval_frame.specs.declared.given_values.GivenValues.{GivenValues}
-use Rattle.moo_eval_frame.specs.Variables.{bind, with_variable}
+use Rattle.moo_eval_slot.specs.Bindings.{bind, with_variable}
 use Rattle.moo_eval_frame.specs.GivenValues.{given_values}
-use Rattle.moo_eval_frame.specs.Seen.{slot_value}
-use Rattle.moo_eval_frame.proofs.Names.{is_own, slot_at, no_slot, unslotted}
+use Rattle.moo_eval_slot.specs.Held.{slot_value}
+use Rattle.moo_eval_slot.proofs.Names.{is_own, slot_at, no_slot, unslotted}
 use Rattle.moo_eval_frame.proofs.Stored.{set_slot, put_elsewhere}
 
 -- the place of a name whose letters are folded

@@ -1,17 +1,7 @@
-pub mod Shared
-pub mod OneSharing
-pub mod Names
 pub mod GivenNames
 pub mod FirstValues
-pub mod Hinted
 pub mod Newest
-pub mod Rest
-pub mod Scattered
 pub mod Stored
-pub mod Told
 pub mod Measured
-pub mod Named
 pub mod Rows
 pub mod Options
-pub mod InnerPuts
-pub mod Room

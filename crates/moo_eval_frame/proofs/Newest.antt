@@ -4,8 +4,8 @@ use Rattle.std.specs.List.{find}
 use Rattle.std.specs.Str.{bytes_eq}
 use Rattle.moo_value.specs.Tree.{Tree}
 use Rattle.moo_value.specs.Compare.{folded}
-use Rattle.moo_eval_frame.specs.Variables.{Binding, bind, value_of_name, with_variable}
-use Rattle.moo_eval_frame.proofs.Names.{split}
+use Rattle.moo_eval_slot.specs.Bindings.{Binding, bind, value_of_name, with_variable}
+use Rattle.moo_eval_slot.proofs.Names.{split}
 use Rattle.moo_eval_frame.proofs.Stored.{two_tests, apart}
 
 -- a name that none of these bindings has

@@ -12,9 +12,11 @@ use Rattle.moo_value.specs.declared.value.Value.{Value}
 use Rattle.moo_value.specs.Tree.{Tree}
 use Rattle.moo_value.specs.Compare.{folded}
 use Rattle.moo_value.specs.View.{tree}
-use Rattle.moo_eval_frame.specs.Variables.{Binding, bind, with_variable, value_of_name, with_all}
-use Rattle.moo_eval_frame.specs.Seen.{binding_of, value_among, slot_value}
-use Rattle.moo_eval_frame.proofs.Names.{is_own, first_name, unslotted}
+use Rattle.moo_eval_frame.specs.Variables.{with_all}
+use Rattle.moo_eval_slot.specs.Bindings.{Binding, bind, with_variable, value_of_name}
+use Rattle.moo_eval_frame.specs.Seen.{binding_of, value_among}
+use Rattle.moo_eval_slot.specs.Held.{slot_value}
+use Rattle.moo_eval_slot.proofs.Names.{is_own, first_name, unslotted}
 
 -- names that compare as the same are the same
 same_text : (a b : List ℕ) → bytes_eq a b ≡ true → a ≡ b

@@ -1,17 +1,11 @@
 -- The meaning of the program's values.
-use Rattle.std.specs.Prelude.{ℕ, Bool, IsTrue, List, [], ◌∷◌, Box, Option, Some, None, Result, Ok, Err, map, option_map, reverse, if◌then◌else◌}
-use Rattle.std.specs.Str.{bytes_eq}
+use Rattle.std.specs.Prelude.{ℕ, Bool, IsTrue, List, [], Option, Some, None, Result, Ok, Err, map, option_map, reverse}
 use Rattle.std.specs.Borrow.{Bor}
 use Rattle.std.specs.declared.vec.Vec.{Vec}
 use Rattle.std.specs.declared.alloc.Global.{Global}
 use Rattle.moo_value.specs.declared.value.Value.{Value}
-use Rattle.moo_value.specs.Tree.{Tree, error}
-use Rattle.moo_value.specs.Compare.{folded}
+use Rattle.moo_value.specs.Tree.{Tree}
 use Rattle.moo_value.specs.View.{tree, trees}
-use Rattle.moo_syntax_lower.specs.declared.node.Node.{Node}
-use Rattle.moo_syntax_lower.specs.declared.node.NodeCodes.{NodeCodes, Any, Known, Listed'}
-use Rattle.moo_syntax_ast.specs.Tree.{Expr, catch, catch_or, Codes}
-use Rattle.moo_syntax_lower.specs.Source.{source}
 use Rattle.moo_eval_frame.specs.declared.frame.CallStack.{CallStack}
 use Rattle.moo_eval_frame.specs.declared.frame.Activation.{Activation}
 use Rattle.moo_eval_frame.specs.declared.surroundings.Surroundings as code_surroundings
@@ -25,7 +19,8 @@ use Rattle.moo_eval_frame.specs.declared.outcome.Failure.TheVariants as failure_
 use Rattle.moo_eval_frame.specs.declared.outcome.Flow as code_flow
 use Rattle.moo_eval_frame.specs.declared.outcome.Flow.TheVariants as flow_case
 use Rattle.moo_syntax_ast.specs.Given.{given_names}
-use Rattle.moo_eval_frame.specs.Variables.{Binding, value_of_name}
+use Rattle.moo_eval_slot.specs.Bindings.{Binding, value_of_name}
+use Rattle.moo_eval_slot.specs.Held.{slot_value}
 use Rattle.moo_eval_frame.specs.GivenValues.{given_values}
 use Rattle.moo_eval_frame.specs.Surroundings.{Surroundings}
 use Rattle.moo_eval_frame.specs.State.{Context, entries}
@@ -38,12 +33,6 @@ binding_of v = record { name = v.name; value = tree v.value }
 -- of these variables the newest, the last one, hides the others of its name
 abbrev pub value_among : List Variable → List ℕ → Option Tree
 value_among others = value_of_name (map binding_of (reverse others))
-
--- the value in the slot of a folded name, and if it has none the value elsewhere
-abbrev pub slot_value : List (List ℕ) → List (Option Value) → (List ℕ → Option Tree) → List ℕ → Option Tree
-slot_value (own ∷ slots) (value ∷ values) elsewhere name =
-    if bytes_eq (folded own) name then option_map (λ v. tree v) value else slot_value slots values elsewhere name
-slot_value _ _ elsewhere name = elsewhere name
 
 -- the variables that not every frame has
 abbrev pub own_variables : Variables → List ℕ → Option Tree
@@ -129,21 +118,6 @@ abbrev pub seen_turn : Result (Option code_flow.Flow) code_stop.Stop → Option 
 seen_turn (Ok None) = None
 seen_turn (Ok (Some flow)) = Some (Ok (flow_of flow))
 seen_turn (Err stop) = Some (Err (stop_of stop))
-
-abbrev pub seen_codes : Result (Vec Value Global) code_stop.Stop → Result (List Tree) Stop
-seen_codes (Ok vs) = Ok (trees vs.items)
-seen_codes (Err stop) = Err (stop_of stop)
-
--- The values of codes: literal errors are their own, and others have these.
-abbrev pub code_values : NodeCodes → List Value → List Tree
-code_values Any vs = trees vs
-code_values (Known es) vs = map (λ e. error e) es.items
-code_values (Listed' shape items) vs = trees vs
-
--- a catch, with or without what it goes on to
-abbrev pub catch_of : Expr → Codes → Option (Box Node Global) → Expr
-catch_of a codes None = catch a codes
-catch_of a codes (Some b) = catch_or a codes (source b.value)
 
 -- there was memory enough
 abbrev pub HadMemory : code_stop.Stop → Type 0

@@ -1,19 +1,9 @@
 -- The variables of a frame.
-use Rattle.std.specs.Prelude.{ℕ, ℤ, pos, List, [], ◌∷◌, ◌++◌, Option, Some, None, codes, option_map, if◌then◌else◌}
-use Rattle.std.specs.List.{find}
-use Rattle.std.specs.Str.{bytes_eq}
+use Rattle.std.specs.Prelude.{ℕ, ℤ, pos, List, [], ◌∷◌, ◌++◌, Option, Some, None, codes}
 use Rattle.moo_value.specs.Tree.{Tree, integer, object, string, list_of}
-use Rattle.moo_value.specs.Compare.{folded}
+use Rattle.moo_eval_slot.specs.Bindings.{Binding, bind, value_of_name, with_variable}
 use Rattle.moo_eval_frame.specs.declared.frame.Frame.{Frame}
 use Rattle.moo_eval_frame.specs.declared.frame.Running.{Running}
-
--- a name and its value
-pub record Binding : Type 0 where
-  pub name : List ℕ
-  pub value : Tree
-
-abbrev pub bind : List ℕ → Tree → Binding
-bind name value = record { name = name; value = value }
 
 abbrev pub type_bindings : List Binding
 type_bindings =
@@ -62,14 +52,6 @@ own_bindings f caller args =
 -- the variables of the command
 abbrev pub command_names : List (List ℕ)
 command_names = codes "argstr" ∷ codes "dobj" ∷ codes "dobjstr" ∷ codes "prepstr" ∷ codes "iobj" ∷ codes "iobjstr" ∷ []
-
--- the value that a folded name has
-abbrev pub value_of_name : List Binding → List ℕ → Option Tree
-value_of_name bindings name = option_map (λ b. b.value) (find (λ b. bytes_eq (folded b.name) name) bindings)
-
--- the variables with this one set
-abbrev pub with_variable : (List ℕ → Option Tree) → Binding → List ℕ → Option Tree
-with_variable variables b name = if bytes_eq (folded b.name) name then Some b.value else variables name
 
 -- with the value of a variable from elsewhere, if it is set there
 abbrev pub with_taken : (List ℕ → Option Tree) → List ℕ → Option Tree → List ℕ → Option Tree

@@ -152,7 +152,7 @@ impl<'a> Callers<'a> {
     }
 
     /// Returns how many of so many entries are left without these.
-    pub(crate) fn remaining(&self, many: usize) -> usize
+    pub fn remaining(&self, many: usize) -> usize
         ensures { result ≡ many - length self.now }
     {
         let mut count = many;

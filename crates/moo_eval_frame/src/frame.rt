@@ -85,7 +85,7 @@ pub struct TraceFrame {
     pub names: MooStr,
 }
 
-/// Names a step from the running code down to the one that began the task.
+/// Holds a step from the running code down to the one that began the task.
 #[derive(Drop)]
 pub enum TraceEntry {
     /// A frame of a verb, or of a program that is typed in.

@@ -4,8 +4,10 @@ ghost use Rattle.moo_syntax_ast.specs.Given.{given_slot, given_names};
 ghost use Rattle.moo_eval_frame.specs.Shared.{types_of, types};
 ghost use Rattle.moo_eval_frame.specs.GivenValues.{given_values, values_with, command_of, command_in};
 ghost use Rattle.moo_eval_frame.specs.State.{running_of};
-ghost use Rattle.moo_eval_frame.specs.Variables.{first_bindings, value_of_name};
-ghost use Rattle.moo_eval_frame.specs.Seen.{seen_values, slot_value};
+ghost use Rattle.moo_eval_frame.specs.Variables.{first_bindings};
+ghost use Rattle.moo_eval_slot.specs.Bindings.{value_of_name};
+ghost use Rattle.moo_eval_frame.specs.Seen.{seen_values};
+ghost use Rattle.moo_eval_slot.specs.Held.{slot_value};
 
 use crate::frame::{Frame, Running};
 use crate::shared_values::{SharedValues, set_shared};

@@ -6,7 +6,7 @@ ghost use Rattle.moo_value.specs.Compare.{folded};
 use moo_value::MooStr;
 
 /// Returns whether two names are equal, letters folded.
-pub(crate) fn is_same_name(a: &MooStr, b: &MooStr) -> bool
+pub fn is_same_name(a: &MooStr, b: &MooStr) -> bool
     ensures { result ≡ bytes_eq (folded a.now) (folded b.now) }
 {
     is_named(a, b.as_bytes())

@@ -12,7 +12,8 @@ use Rattle.moo_builtin_operator.specs.Places.{made_list}
 use Rattle.moo_eval_frame.specs.declared.frame.Frame.{Frame}
 use Rattle.moo_eval_frame.specs.Outcome.{answers}
 use Rattle.moo_eval_frame.specs.State.{entries, running_of}
-use Rattle.moo_eval_frame.specs.Variables.{first_bindings, value_of_name}
+use Rattle.moo_eval_frame.specs.Variables.{first_bindings}
+use Rattle.moo_eval_slot.specs.Bindings.{value_of_name}
 use Rattle.moo_world_table.specs.World.{World}
 use Rattle.moo_builtin.specs.Setting.{is_programmer}
 use Rattle.moo_builtin.specs.Telling.{Telling}

@@ -5,7 +5,7 @@ use Rattle.moo_value.specs.Compare.{folded}
 use Rattle.moo_syntax_ast.specs.Tree.{Expr}
 use Rattle.moo_builtin_operator.specs.Places.{index_of}
 use Rattle.moo_builtin_operator.specs.Assignment.{with_index_of}
-use Rattle.moo_eval_frame.specs.Variables.{bind, with_variable}
+use Rattle.moo_eval_slot.specs.Bindings.{bind, with_variable}
 use Rattle.moo_eval_integer.specs.Integers.{GivesInteger}
 
 -- `name[place] = e` with integers: with these variables the place and then the value give integers, and the container in

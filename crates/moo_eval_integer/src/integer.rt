@@ -9,7 +9,7 @@ ghost use Rattle.moo_syntax_ast.specs.Tree.{literal, variable, binary, index};
 ghost use Rattle.moo_syntax_lower.specs.Source.{source};
 ghost use Rattle.moo_builtin_operator.specs.Operators.{binary_of};
 ghost use Rattle.moo_builtin_operator.specs.Truth.{is_true};
-ghost use Rattle.moo_eval_frame.specs.Variables.{bind, with_variable};
+ghost use Rattle.moo_eval_slot.specs.Bindings.{bind, with_variable};
 ghost use Rattle.moo_eval_frame.specs.Seen.{indexed_of, variables_of};
 ghost use Rattle.moo_eval_integer.specs.Integers.{GivesInteger, GivesLeafInteger, GivesValue};
 

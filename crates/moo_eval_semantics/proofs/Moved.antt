@@ -3,8 +3,8 @@ use Rattle.std.proofs.Common.{◌≡◌, List, Result, sym, ap, ◌∙◌, subst
 use Rattle.moo_value.specs.declared.error_code.ErrorCode.{ErrorCode}
 use Rattle.moo_value.specs.Tree.{Tree}
 use Rattle.moo_eval_frame.specs.Outcome.{Stop, Failure, Flow}
-use Rattle.moo_eval_frame.specs.Catching.{coded}
-use Rattle.moo_eval_frame.specs.Leading.{no_turn}
+use Rattle.moo_eval_control.specs.Catching.{coded}
+use Rattle.moo_eval_control.specs.Leading.{no_turn}
 use Rattle.moo_eval_frame.specs.State.{Context}
 use Rattle.moo_eval_access.specs.State.{State, trace}
 

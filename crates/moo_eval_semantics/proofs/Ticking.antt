@@ -3,7 +3,7 @@ use Rattle.std.proofs.Common.{◌≡◌, ℕ, ◌<◌, List, Option, Some, Resul
 use Rattle.moo_value.specs.Tree.{Tree}
 use Rattle.moo_syntax_ast.specs.Tree.{Expr, Stmt, Block}
 use Rattle.moo_eval_frame.specs.Outcome.{Stop, out_of_ticks, Flow}
-use Rattle.moo_eval_frame.specs.Variables.{Binding}
+use Rattle.moo_eval_slot.specs.Bindings.{Binding}
 use Rattle.moo_eval_frame.specs.State.{Context}
 use Rattle.moo_eval_access.specs.State.{State, ticked, trace}
 use Rattle.moo_builtin.specs.Telling.{Telling}

@@ -2,13 +2,13 @@
 use Rattle.std.proofs.Common.{◌≡◌, ℕ, ℤ, pos, ◌+ℤ◌, List, [], ◌∷◌, Option, Some, None, Result, Ok, Err, refl, sym, ap, ◌∙◌, subst, arith}
 use Rattle.moo_value.specs.Tree.{Tree}
 use Rattle.moo_syntax_ast.specs.Tree.{Expr, Items, Stmt, Arms, Handlers, Block}
-use Rattle.moo_eval_frame.specs.declared.leading.Span.{Span}
+use Rattle.moo_eval_control.specs.declared.leading.Span.{Span}
 use Rattle.moo_eval_frame.specs.Outcome.{Raise, Stop, Failure, Flow, answers, passes, settled, goes_out, goes_next, goes_on}
-use Rattle.moo_eval_frame.specs.Variables.{Binding, bind}
-use Rattle.moo_eval_frame.specs.Catching.{caught}
-use Rattle.moo_eval_frame.specs.Leading.{after_turn, runs_finally, after_finally}
-use Rattle.moo_eval_frame.specs.Handling.{Guarded, guarded, guarded_before}
-use Rattle.moo_eval_frame.specs.Scatter.{given, LeftOut, missing}
+use Rattle.moo_eval_slot.specs.Bindings.{Binding, bind}
+use Rattle.moo_eval_control.specs.Catching.{caught}
+use Rattle.moo_eval_control.specs.Leading.{after_turn, runs_finally, after_finally}
+use Rattle.moo_eval_control.specs.Handling.{Guarded, guarded, guarded_before}
+use Rattle.moo_eval_control.specs.Scatter.{given, LeftOut, missing}
 use Rattle.moo_eval_frame.specs.State.{Context, within, outside}
 use Rattle.moo_builtin.specs.Telling.{Telling}
 use Rattle.moo_eval_semantics.proofs.Agreed.{Agree, agreed_call}

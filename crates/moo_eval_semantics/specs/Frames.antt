@@ -2,11 +2,11 @@
 use Rattle.std.specs.Prelude.{◌≤◌, ℕ, ℤ, List, [], ◌∷◌, ◌++◌, Option, Result}
 use Rattle.moo_value.specs.Tree.{Tree}
 use Rattle.moo_syntax_ast.specs.Tree.{Expr, Items, Stmt, Arms, Handlers, Block}
-use Rattle.moo_eval_frame.specs.declared.leading.Span.{Span}
+use Rattle.moo_eval_control.specs.declared.leading.Span.{Span}
 use Rattle.moo_eval_frame.specs.Outcome.{Raise, Stop, Failure, Flow}
-use Rattle.moo_eval_frame.specs.Variables.{Binding}
-use Rattle.moo_eval_frame.specs.Handling.{Guarded}
-use Rattle.moo_eval_frame.specs.Scatter.{LeftOut}
+use Rattle.moo_eval_slot.specs.Bindings.{Binding}
+use Rattle.moo_eval_control.specs.Handling.{Guarded}
+use Rattle.moo_eval_control.specs.Scatter.{LeftOut}
 use Rattle.moo_eval_frame.specs.State.{Context}
 use Rattle.moo_eval_access.specs.State.{State}
 use Rattle.moo_eval_access.specs.Entering.{Entered, frames, most_frames}

@@ -9,7 +9,7 @@ use Rattle.moo_eval_frame.specs.declared.frame.Frame.{Frame}
 use Rattle.moo_eval_frame.specs.declared.notice.Notice.{Notice}
 use Rattle.moo_eval_frame.specs.Surroundings.{Surroundings}
 use Rattle.moo_eval_frame.specs.Outcome.{Stop, out_of_ticks, Failure, Flow}
-use Rattle.moo_eval_frame.specs.Variables.{Binding}
+use Rattle.moo_eval_slot.specs.Bindings.{Binding}
 use Rattle.moo_eval_frame.specs.State.{Context}
 use Rattle.moo_eval_access.specs.State.{State, trace}
 use Rattle.moo_eval_access.specs.Entering.{frames}

@@ -17,13 +17,13 @@ use Rattle.moo_builtin_operator.specs.Truth.{is_true, is_decided}
 use Rattle.moo_builtin_operator.specs.Operators.{unary_of, binary_of}
 use Rattle.moo_builtin_operator.specs.Places.{index_of, range_of, spliced_of, made_list}
 use Rattle.moo_eval_frame.specs.declared.frame.TraceEntry.{TraceEntry}
-use Rattle.moo_eval_frame.specs.declared.leading.Span.{Span}
-use Rattle.moo_eval_frame.specs.Variables.{Binding, bind}
+use Rattle.moo_eval_control.specs.declared.leading.Span.{Span}
+use Rattle.moo_eval_slot.specs.Bindings.{Binding, bind}
 use Rattle.moo_eval_frame.specs.State.{Context, within, outside, measured}
-use Rattle.moo_eval_frame.specs.Catching.{guards, caught, coded}
-use Rattle.moo_eval_frame.specs.Leading.{after_turn, no_turn, runs_finally, after_finally, span_of, numbered}
-use Rattle.moo_eval_frame.specs.Handling.{Guarded, guarded, guarded_before, chosen, told_as}
-use Rattle.moo_eval_frame.specs.Scatter.{dealt, given, LeftOut, missing}
+use Rattle.moo_eval_control.specs.Catching.{guards, caught, coded}
+use Rattle.moo_eval_control.specs.Leading.{after_turn, no_turn, runs_finally, after_finally, span_of, numbered}
+use Rattle.moo_eval_control.specs.Handling.{Guarded, guarded, guarded_before, chosen, told_as}
+use Rattle.moo_eval_control.specs.Scatter.{dealt, given, LeftOut, missing}
 use Rattle.moo_eval_access.specs.State.{State, ticked, bound, trace}
 use Rattle.moo_eval_access.specs.Calls.{read_property, write_property}
 use Rattle.moo_builtin.specs.Telling.{Telling}

@@ -3,7 +3,7 @@ use Rattle.std.specs.Prelude.{pos, List, ◌++◌, Result, Ok, Err}
 use Rattle.moo_value.specs.Tree.{Tree, integer}
 use Rattle.moo_syntax_ast.specs.Tree as program
 use Rattle.moo_syntax_ast.specs.Tree.{Expr, literal, variable, length_mark, unary, binary, logic, conditional, index, range, property, verb_call, call, assign, catch, catch_or, Items, no_items, element}
-use Rattle.moo_eval_frame.specs.Catching.{guards}
+use Rattle.moo_eval_control.specs.Catching.{guards}
 use Rattle.moo_eval_frame.specs.Outcome.{Stop, Failure, stops, Flow, next, returned, broken, continued}
 use Rattle.moo_eval_access.specs.State.{State}
 use Rattle.moo_eval_access.specs.Entering.{Entered}

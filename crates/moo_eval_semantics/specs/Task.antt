@@ -9,8 +9,9 @@ use Rattle.moo_eval_frame.specs.declared.notice.Notice.{Notice}
 use Rattle.moo_eval_frame.specs.Surroundings.{Surroundings}
 use Rattle.moo_eval_frame.specs.State.{Context, running_of}
 use Rattle.moo_eval_access.specs.State.{State}
-use Rattle.moo_eval_frame.specs.Variables.{first_bindings, value_of_name}
-use Rattle.moo_eval_frame.specs.Traceback.{traceback}
+use Rattle.moo_eval_frame.specs.Variables.{first_bindings}
+use Rattle.moo_eval_slot.specs.Bindings.{value_of_name}
+use Rattle.moo_eval_control.specs.Traceback.{traceback}
 use Rattle.moo_world_table.specs.World.{World}
 use Rattle.moo_eval_call.specs.Tasks.{most_ticks}
 use Rattle.moo_builtin.specs.Telling.{Telling, Choice, PassesPrograms, chosen_by}

@@ -1,6 +1,6 @@
 //! Lines for connections.
 ghost use Rattle.std.specs.Prelude.{◌≡◌, ◌++◌, ◌∷◌, [], OnOk};
-ghost use Rattle.moo_eval_frame.specs.Traceback.{texts};
+ghost use Rattle.moo_eval_control.specs.Traceback.{texts};
 ghost use Rattle.moo_session_task.specs.Sending.{sent, notified, all_notified};
 
 use crate::session::Session;

@@ -2,7 +2,7 @@ use Rattle.std.proofs.Common.{◌∙◌, pos, suc, set, Ok, refl, sym, ap, w32, 
 use Rattle.std.proofs.lemmas.Int.{to_z-of_z}
 use mir.Val.{SFits}
 use Rattle.moo_value.specs.Tree.{integer, list_of}
-use Rattle.moo_eval_frame.proofs.InnerPuts.{if_ok_map}
+use Rattle.moo_eval_slot.proofs.InnerPuts.{if_ok_map}
 use Rattle.moo_eval_integer.proofs.Given.{value_taken, list_takes, element_there}
 use Rattle.moo_eval_integer.proofs.element.try_put_inner_integer.Goals as goal
 

@@ -1,6 +1,6 @@
 use Rattle.std.proofs.Common.{◌+◌, drop}
 use Rattle.std.proofs.Math.ListN.{drop_of_length-le}
-use Rattle.moo_eval_frame.proofs.Rest.{drop_next}
+use Rattle.moo_eval_control.proofs.Rest.{drop_next}
 use Rattle.moo_session.specs.Input.{no_line_more}
 use Rattle.moo_session.proofs.InputSteps.{more}
 use Rattle.moo_session.proofs.input.meet_lines.Goals as goal

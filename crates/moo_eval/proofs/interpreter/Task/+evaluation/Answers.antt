@@ -9,7 +9,7 @@ use Rattle.moo_syntax_lower.specs.Source.{source, source_items, source_codes}
 use Rattle.moo_syntax_lower.specs.Blocks.{source_block, source_handler_list}
 use Rattle.moo_eval.specs.declared.interpreter.Task.{Task}
 use Rattle.moo_eval_frame.specs.declared.frame.Activation.{Activation}
-use Rattle.moo_eval_frame.specs.Seen.{context_of, stop_of, failure_of, flow_of, variables_of}
+use Rattle.moo_eval_frame.specs.Seen.{context_of, stop_of, failure_of, flow_of, variables_of, seen_answers, trace_of}
 use Rattle.moo_builtin.specs.Telling.{Faults}
 use Rattle.moo_eval_hook.specs.VerbCalls.{verb_caller}
 use Rattle.moo_eval.specs.Seen.{state_of}
@@ -41,22 +41,22 @@ use Rattle.moo_eval.proofs.Passing.{undecided, decided, operand_stops, negated, 
 use Rattle.moo_eval.proofs.Choosing.{passed}
 use Rattle.moo_eval.proofs.Spliced.{plain_rest, not_spliced}
 use Rattle.moo_eval.proofs.Known.{codes_given, errors_given, errors_end, seen_listed}
-use Rattle.moo_eval_frame.specs.Seen.{code_values, seen_answers, trace_of}
-use Rattle.moo_eval_frame.specs.Catching.{guards}
+use Rattle.moo_eval_control.specs.SeenCatching.{code_values}
+use Rattle.moo_eval_control.specs.Catching.{guards}
 use Rattle.moo_eval_frame.specs.Outcome.{out_of_ticks}
 use Rattle.moo_value.specs.Tree.{error}
 use Rattle.moo_eval.specs.Arguments.{is_splice}
 use Rattle.moo_eval.proofs.Exits.{none_left, refused, gathered, unlisted, same_state, optional_ends, goes_on-not, state_at, guarded_on, property_put, runs_from}
-use Rattle.moo_eval_frame.proofs.Rest.{drop_next}
+use Rattle.moo_eval_control.proofs.Rest.{drop_next}
 use Rattle.moo_syntax_lower.proofs.Rows.{row_items}
 use Rattle.moo_syntax_lower.proofs.StatementRows.{row_block, row_arms, row_handlers}
 use Rattle.std.specs.Prelude.{◌≤ℤ◌, true, false, option_copied}
 use mir.Syntax.{w32, w64}
 use mir.Val.{SFits, to_z}
-use Rattle.moo_eval_frame.specs.Leading.{after_turn, numbered}
-use Rattle.moo_eval_frame.specs.SeenHandling.{guarded_of}
+use Rattle.moo_eval_control.specs.Leading.{after_turn, numbered}
+use Rattle.moo_eval_control.specs.SeenHandling.{guarded_of}
 use Rattle.moo_eval.proofs.Counting.{narrow, next_number, not_below, reached}
-use Rattle.moo_eval_frame.specs.Handling.{guarded}
+use Rattle.moo_eval_control.specs.Handling.{guarded}
 use Rattle.moo_eval_semantics.specs.Operands.{before}
 use Rattle.moo_eval.proofs.interpreter.Task.+evaluation.Goals as goal
 use Rattle.moo_eval.proofs.interpreter.Task.+evaluation.Goals.{evaluate_all-in-Element+in_ok-value-in-Element+in_ok-push-in-Element, evaluate_all-in-Splice+in_ok-value-in-Splice+in_ok-splice-in-Splice}

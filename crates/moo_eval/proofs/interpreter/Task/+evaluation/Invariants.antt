@@ -8,7 +8,7 @@ use Rattle.moo_eval_access.specs.State.{State}
 use Rattle.moo_eval_access.specs.Target.{Path}
 use Rattle.moo_eval_semantics.specs.Meaning.{EvaluatesAll, Locates, Enters, SetsDefaults, RunsAll, Selects, Loops, Visits, Counts, Prepares}
 use Rattle.moo_eval_access.specs.SeenTarget.{root_seen, steps_of, spot_of}
-use Rattle.moo_eval_frame.specs.SeenScatter.{left_out_of}
+use Rattle.moo_eval_control.specs.SeenScatter.{left_out_of}
 use Rattle.moo_eval_frame.specs.Seen.{context_of}
 use Rattle.moo_builtin.specs.Telling.{Faults}
 use Rattle.moo_eval.specs.Seen.{state_of}
@@ -17,8 +17,8 @@ use Rattle.moo_eval.specs.Hooks.{HasStatements, LeadsTo, pending_progress}
 use Rattle.moo_eval_hook.specs.SeenByHooks.{progress_of}
 use Rattle.std.specs.Prelude.{◌≤ℤ◌, ◌≡◌, false}
 use Rattle.std.specs.List.{list_any}
-use Rattle.moo_eval_frame.specs.Handling.{Guarded, guarded_before}
-use Rattle.moo_eval_frame.specs.SeenHandling.{guarded_of}
+use Rattle.moo_eval_control.specs.Handling.{Guarded, guarded_before}
+use Rattle.moo_eval_control.specs.SeenHandling.{guarded_of}
 use Rattle.moo_eval_semantics.specs.Operands.{before}
 use Rattle.moo_eval.proofs.interpreter.Task.+evaluation.Given as goal
 

@@ -1,7 +1,7 @@
 use Rattle.std.proofs.Common.{sym, ap, ◌∙◌}
 use Rattle.std.specs.Option.{option_map}
 use Rattle.std.proofs.lemmas.Result.{err_from_is_err_and}
-use Rattle.moo_eval_frame.specs.SeenHandling.{guarded_of}
+use Rattle.moo_eval_control.specs.SeenHandling.{guarded_of}
 use Rattle.moo_eval_semantics.specs.Meaning.{untaken, untold, takes}
 use Rattle.moo_eval.proofs.Exits.{none_left, same_state}
 use Rattle.moo_eval.proofs.interpreter.Task.begin_handler.Goals as goal

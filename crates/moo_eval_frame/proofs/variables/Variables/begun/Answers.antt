@@ -1,7 +1,8 @@
 use Rattle.std.proofs.Common.{ap}
 use Rattle.moo_syntax_ast.specs.Given.{given_names}
 use Rattle.moo_eval_frame.specs.GivenValues.{given_values}
-use Rattle.moo_eval_frame.specs.Seen.{slot_value, variables_of}
+use Rattle.moo_eval_frame.specs.Seen.{variables_of}
+use Rattle.moo_eval_slot.specs.Held.{slot_value}
 use Rattle.moo_eval_frame.proofs.variables.Variables.begun.Goals as goal
 
 pub returns : goal.returns

@@ -1,6 +1,6 @@
 use Rattle.std.proofs.Common.{None, sym, ◌∙◌}
 use Rattle.moo_eval_frame.specs.Seen.{value_among, own_variables, variables_of}
-use Rattle.moo_eval_frame.proofs.Names.{slot_at}
+use Rattle.moo_eval_slot.proofs.Names.{slot_at}
 use Rattle.moo_eval_frame.proofs.GivenNames.{other_at}
 use Rattle.moo_eval_frame.proofs.variables.Variables.get.Goals as goal
 

@@ -1,7 +1,7 @@
 use Rattle.std.proofs.Common.{None, sym, ◌∙◌}
 use Rattle.moo_value.specs.View.{tree}
 use Rattle.moo_eval_frame.specs.Seen.{value_among, own_variables, variables_of}
-use Rattle.moo_eval_frame.proofs.Names.{slot_at}
+use Rattle.moo_eval_slot.proofs.Names.{slot_at}
 use Rattle.moo_eval_frame.proofs.GivenNames.{other_at}
 use Rattle.moo_eval_frame.proofs.Options.{told_some}
 use Rattle.moo_eval_frame.proofs.variables.Variables.get_known.Goals as goal

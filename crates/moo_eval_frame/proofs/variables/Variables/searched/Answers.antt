@@ -1,7 +1,7 @@
 use Rattle.std.proofs.Common.{None, sym, ap, ◌∙◌}
 use Rattle.moo_value.specs.Compare.{folded}
 use Rattle.moo_eval_frame.specs.Seen.{value_among}
-use Rattle.moo_eval_frame.proofs.Names.{slot_at, without_slot}
+use Rattle.moo_eval_slot.proofs.Names.{slot_at, without_slot}
 use Rattle.moo_eval_frame.proofs.variables.Variables.searched.Goals as goal
 
 pub returns-in-Some : goal.returns-in-Some

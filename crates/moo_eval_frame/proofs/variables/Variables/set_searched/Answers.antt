@@ -1,6 +1,7 @@
 use Rattle.std.proofs.Common.{refl, sym, ap, ◌∙◌}
-use Rattle.moo_eval_frame.specs.Seen.{value_among, slot_value}
-use Rattle.moo_eval_frame.proofs.Names.{is_nowhere}
+use Rattle.moo_eval_frame.specs.Seen.{value_among}
+use Rattle.moo_eval_slot.specs.Held.{slot_value}
+use Rattle.moo_eval_slot.proofs.Names.{is_nowhere}
 use Rattle.moo_eval_frame.proofs.Stored.{set_slot, set_elsewhere}
 use Rattle.moo_eval_frame.proofs.variables.Variables.set_searched.Goals as goal
 

@@ -3,7 +3,8 @@ use Rattle.std.proofs.lemmas.Result.{on_ok_weaker}
 use Rattle.moo_value.specs.View.{tree}
 use Rattle.moo_syntax_ast.specs.Given.{given_names}
 use Rattle.moo_eval_frame.specs.GivenValues.{given_values}
-use Rattle.moo_eval_frame.specs.Seen.{slot_value, own_variables, variables_of}
+use Rattle.moo_eval_frame.specs.Seen.{own_variables, variables_of}
+use Rattle.moo_eval_slot.specs.Held.{slot_value}
 use Rattle.moo_eval_frame.proofs.GivenNames.{given_set, other_set}
 use Rattle.moo_eval_frame.proofs.variables.Variables.set_unknown.Goals as goal
 

@@ -7,9 +7,10 @@ use Rattle.moo_value.specs.Tree.{integer}
 use Rattle.moo_value.specs.declared.value.Value.TheVariants.{Int}
 use Rattle.moo_syntax_ast.specs.Given.{given_names}
 use Rattle.moo_eval_frame.specs.GivenValues.{given_values}
-use Rattle.moo_eval_frame.specs.Seen.{value_among, slot_value, own_variables, variables_of}
+use Rattle.moo_eval_frame.specs.Seen.{value_among, own_variables, variables_of}
+use Rattle.moo_eval_slot.specs.Held.{slot_value}
 use Rattle.moo_eval_frame.proofs.GivenNames.{other_at, other_set}
-use Rattle.moo_eval_frame.proofs.Names.{slot_at}
+use Rattle.moo_eval_slot.proofs.Names.{slot_at}
 use Rattle.moo_eval_frame.proofs.Stored.{set_slot}
 use Rattle.moo_eval_frame.proofs.variables.Variables.try_add_integer.Goals as goal
 

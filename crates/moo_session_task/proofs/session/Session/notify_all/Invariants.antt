@@ -1,5 +1,5 @@
 use Rattle.std.proofs.Common.{◌≡◌, drop}
-use Rattle.moo_eval_frame.specs.Traceback.{texts}
+use Rattle.moo_eval_control.specs.Traceback.{texts}
 use Rattle.moo_session_task.specs.Sending.{all_notified}
 use Rattle.moo_session_task.proofs.session.Session.notify_all.Given as goal
 

@@ -1,0 +1,9 @@
+pub mod Catching
+pub mod Leading
+pub mod Handling
+pub mod Scatter
+pub mod Dealing
+pub mod Traceback
+pub mod SeenCatching
+pub mod SeenScatter
+pub mod SeenHandling

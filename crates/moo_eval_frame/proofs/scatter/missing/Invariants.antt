@@ -1,8 +1,0 @@
-use Rattle.std.proofs.Common.{◌≡◌, ◌++◌, drop, map}
-use Rattle.moo_syntax_lower.specs.Source.{source_items}
-use Rattle.moo_eval_frame.specs.Scatter.{lacking, missing}
-use Rattle.moo_eval_frame.specs.SeenScatter.{left_out_of}
-use Rattle.moo_eval_frame.proofs.scatter.missing.Given as goal
-
-abbrev pub invariant-loop-item : goal.invariant-loop-item
-invariant-loop-item l = map left_out_of l.names.items ++ lacking (source_items (drop l.item-index l.items)) l.spare ≡ missing (source_items l.items) l.list

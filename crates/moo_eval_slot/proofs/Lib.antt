@@ -1,0 +1,4 @@
+pub mod Names
+pub mod Hinted
+pub mod InnerPuts
+pub mod Room

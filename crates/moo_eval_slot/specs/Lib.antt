@@ -1,0 +1,3 @@
+pub mod Bindings
+pub mod Held
+pub mod InnerPut

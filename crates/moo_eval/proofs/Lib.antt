@@ -13,6 +13,7 @@ mod Direct
 mod Extended
 mod Known
 mod Lengthened
+mod ElementLengthened
 mod Longer
 mod Placed
 mod Prepended

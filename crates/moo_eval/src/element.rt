@@ -37,6 +37,10 @@ impl Task {
         ensures meaning { IsKnown result → Does Faults (context_of stack.now None) (performs (sets_place name.now (source place.now) (source value.now))) (state_of self.old world.old active.old) (seen_flow result) (state_of self.new world.new active.new) }
         ensures ticks { self.new.ticks_left ≤ self.old.ticks_left }
     {
+        let is_longer = self.try_lengthen_element(active, name, place, value)?;
+        if is_longer {
+            return Ok(Flow::Next);
+        }
         self.take_tick(active, stack)?;
         match self.put_at(world, active, stack, name, place, value) {
             Ok(()) => Ok(Flow::Next),

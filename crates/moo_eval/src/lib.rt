@@ -17,6 +17,7 @@ pub mod laws;
 mod leaves;
 mod lengthening;
 mod line;
+mod longer_element;
 mod longer_list;
 mod loops;
 mod nodes;

@@ -211,9 +211,9 @@ fn is_property(node: &Node) -> bool {
     matches!(node, Node::Property(_, _))
 }
 
-// Returns the parts of `{@list, last}`.
+/// Returns the parts of `{@list, last}`.
 #[inline(always)]
-fn as_longer(node: &Node) -> Option<(&Node, &Node)>
+pub(crate) fn as_longer(node: &Node) -> Option<(&Node, &Node)>
     ensures { IfSome result (λ p. source node.now ≡ list (splice (source p.0.now) (element (source p.1.now) no_items))) }
 {
     let Node::List(items) = node else {

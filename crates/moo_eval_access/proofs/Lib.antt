@@ -5,3 +5,5 @@ pub mod Written
 pub mod Longer
 pub mod Refused
 pub mod Counted
+pub mod Bounded
+pub mod Held

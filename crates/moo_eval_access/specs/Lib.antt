@@ -7,3 +7,4 @@ pub mod Target
 pub mod SeenTarget
 pub mod LetGo
 pub mod Fault
+pub mod Bounds

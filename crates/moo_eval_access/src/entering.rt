@@ -42,8 +42,8 @@ pub struct Found<'a> {
     pub verb: &'a Verb,
 }
 
-/// Holds what a frame receives besides its verb: the object it is called on, the caller, the name, and the command. Objects
-/// are given by their numbers, #-1 for none; each field is that of `Frame`.
+/// Holds what a frame receives besides its verb: the object it is called on, the caller, the name, and the command.
+/// Objects are given by their numbers, #-1 for none; each field is that of `Frame`.
 #[derive(Drop)]
 pub struct Call {
     pub this: i32,
@@ -145,7 +145,8 @@ pub fn enter_verb_from<'a>(
     enter_found(alloc, world, stack, active, this, found, name, args)
 }
 
-/// Enters a verb that was found, to run on an object by this name, with its owner's rights: E_MAXREC if no frame is left.
+/// Enters a verb that was found, to run on an object by this name, with its owner's rights. E_MAXREC if no frame is
+/// left.
 #[inline(always)]
 pub fn enter_found<'a>(
     alloc: Global,

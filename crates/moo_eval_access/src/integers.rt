@@ -30,8 +30,8 @@ pub fn binary(
     }
 }
 
-/// Returns what an operator gives, or its error, as `binary` does. A string that nothing else shares takes the bytes of a
-/// second one in place.
+/// Returns what an operator gives, or its error, as `binary` does. A string that nothing else shares takes the bytes of
+/// a second one in place.
 #[inline(always)]
 pub fn binary_in_place(
     alloc: Global,
@@ -47,8 +47,8 @@ pub fn binary_in_place(
     }
 }
 
-// Returns what an operator gives for values that may be no integers. Not inlined, so that integers need no stack space for
-// it.
+// Returns what an operator gives for values that may be no integers. Not inlined, so that integers need no stack space
+// for it.
 #[inline(never)]
 fn other_in_place(
     alloc: Global,

@@ -3,9 +3,11 @@
 #![tactic(auto)]
 
 mod arguments;
+mod bounds;
 mod entering;
 mod fault;
 mod growth;
+mod holding;
 mod integers;
 mod object;
 mod place;

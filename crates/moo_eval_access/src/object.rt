@@ -36,8 +36,8 @@ pub fn read_property(
     }
 }
 
-/// Returns the value of a property whose name is a literal, as `read_property` does. If the name's hint is 0, no cell was
-/// found for it yet, so the built-in properties are tried first.
+/// Returns the value of a property whose name is a literal, as `read_property` does. The hint at a literal is 0 until
+/// its name is found among the cells of an object. A built-in property has no cell, so it is tried first at a hint of 0.
 #[inline(always)]
 pub fn read_written(
     alloc: Global,
@@ -83,8 +83,8 @@ fn read_in_order(
     }
 }
 
-/// Returns the value of a property whose name is a literal, as `read_property` does, if it is built in or if the hint at its
-/// name leads to its cell. `None` if not, if the programmer may not read it, or if memory is missing.
+/// Returns the value of a property whose name is a literal, as `read_property` does, if it is built in or if the hint at
+/// its name leads to its cell. `None` if not, if the programmer may not read it, or if memory is missing.
 #[inline(always)]
 pub fn read_known(
     alloc: Global,

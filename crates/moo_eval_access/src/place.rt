@@ -54,9 +54,9 @@ fn replace_at(
     Ok(())
 }
 
-/// Sets a property whose name is a literal to the container with the value at the place, with the rights of a programmer.
-/// Raises the errors of `with_index`, then those of `write_property`; the property then keeps its value. The property
-/// gives up what it holds first, so a list that nothing else shares is changed in place.
+/// Sets a property whose name is a literal to the container with the value at the place, with the rights of a
+/// programmer. Raises the errors of `with_index`, then those of `write_property`; the property then keeps its value. The
+/// property gives up what it holds first, so a list that nothing else shares is changed in place.
 pub fn set_property_at(
     alloc: Global,
     world: &mut World,

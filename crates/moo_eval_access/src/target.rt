@@ -13,6 +13,8 @@ ghost use Rattle.moo_eval_access.specs.SeenTarget.{root_seen, places_of, step_of
 ghost use Rattle.moo_eval_slot.specs.Bindings.{bind, with_variable};
 ghost use Rattle.moo_eval_access.specs.LetGo.{IsLetGo};
 
+use crate::bounds::are_taken;
+use crate::holding::let_go_inside;
 use crate::object::read_property;
 use moo_builtin_operator as operation;
 use moo_builtin_operator::OperationFault;
@@ -168,8 +170,16 @@ impl<'a> Path<'a> {
 
 /// Returns the outermost container with the value at the end of the steps, or the value itself if there is no step.
 /// Raises the error of the first container, from the innermost on, that doesn't take its new part: E_TYPE, E_RANGE,
-/// E_INVARG or E_QUOTA.
+/// E_INVARG or E_QUOTA. If each container takes its part, a list that nothing but the steps holds is changed in place.
 pub fn rebuilt(alloc: Global, steps: Vec<Step>, value: Value) -> Result<Value, Failure>
+    ensures { IsKnownFailure result → answers (rebuilt (steps_of steps.items) (Ok (tree value))) ≡ seen_answer result }
+{
+    let steps = let_go_inside(alloc, steps, &value)?;
+    put_back(alloc, steps, value)
+}
+
+// Returns what `rebuilt` does. A list that is in the place of another step's container is copied.
+fn put_back(alloc: Global, steps: Vec<Step>, value: Value) -> Result<Value, Failure>
     ensures { IsKnownFailure result → answers (rebuilt (steps_of steps.items) (Ok (tree value))) ≡ seen_answer result }
 {
     let mut steps = steps;
@@ -180,17 +190,23 @@ pub fn rebuilt(alloc: Global, steps: Vec<Step>, value: Value) -> Result<Value, F
     Ok(whole)
 }
 
-/// Is true if `rebuilt` raises nothing for the value at the end of one step to an element. False for other steps.
+/// Is true if `rebuilt` raises nothing for the value at the end of these steps. False if there is no step, if one is to
+/// a part, if one before the last is into no list, or if a container may get past the limits.
 pub fn is_taken(steps: &[Step], value: &Value) -> bool
     ensures { IsTrue result → IsTrue (is_ok (rebuilt (steps_of steps.now) (Ok (tree value.now)))) }
 {
-    let [step] = steps else {
+    let Some((inner, outer)) = steps.split_last() else {
         return false;
     };
-    let Places::Element(place) = &step.places else {
+    let Places::Element(place) = &inner.places else {
         return false;
     };
-    operation::index_refusal(&step.container, place, value).is_none()
+    if operation::index_refusal(&inner.container, place, value).is_some() {
+        return false;
+    }
+    let heaviest = inner.container.weight() + value.weight();
+    let deepest = inner.container.depth().max(value.depth() + 1);
+    are_taken(outer, heaviest, deepest)
 }
 
 /// Appends a step into a container.
@@ -220,9 +236,30 @@ pub fn set_variable(
         variables.set(name, value)?;
         return Ok(());
     }
+    if is_taken(&inner, &value) {
+        return set_taken(alloc, variables, name, inner, value);
+    }
     let outer = inner.remove(0);
-    let value = rebuilt(alloc, inner, value)?;
+    let value = put_back(alloc, inner, value)?;
     set_part(alloc, variables, name, outer, value)
+}
+
+// Sets a variable to what `rebuilt` returns for steps that take the value. The variable gives up what it holds first, so
+// that the steps alone hold the lists, if nothing else does.
+fn set_taken(
+    alloc: Global,
+    variables: &mut Variables,
+    name: &Name,
+    steps: Vec<Step>,
+    value: Value,
+) -> Result<(), Failure>
+    ensures ok { OnOk result ((w : Tree) × (answers (rebuilt (steps_of steps.items) (Ok (tree value))) ≡ Ok w) × (variables_of variables.new ≡ with_variable (variables_of variables.old) (bind name.now w))) }
+    ensures err { IfErr result (λ failure. HadMemoryIn failure → answers (rebuilt (steps_of steps.items) (Ok (tree value))) ≡ Err (failure_of failure)) }
+{
+    variables.set(name, Value::Int(0))?;
+    let whole = rebuilt(alloc, steps, value)?;
+    variables.set(name, whole)?;
+    Ok(())
 }
 
 fn set_part(

@@ -2,3 +2,4 @@ pub mod Names
 pub mod Hinted
 pub mod InnerPuts
 pub mod Room
+pub mod InnerPushes

@@ -1,3 +1,4 @@
 pub mod Bindings
 pub mod Held
 pub mod InnerPut
+pub mod InnerPush

@@ -12,9 +12,10 @@ ghost use Rattle.moo_syntax_ast.specs.Slots.{slots};
 ghost use Rattle.moo_eval_slot.specs.Bindings.{value_of_name};
 ghost use Rattle.moo_eval_slot.specs.Held.{with_held, IsSlot, slot_value};
 ghost use Rattle.moo_eval_slot.specs.InnerPut.{IsInnerPut};
+ghost use Rattle.moo_eval_slot.specs.InnerPush.{IsInnerPush};
 
 use crate::growing::{try_extend, try_push};
-use crate::inner_list::try_put_inner;
+use crate::inner_list::{push_inner_at, put_inner_at};
 use moo_syntax_ast::Name;
 use moo_syntax_grammar::Program;
 use moo_value::{MooStr, Value};
@@ -178,6 +179,22 @@ impl Slots {
     {
         push_value(alloc, &mut self.values, slot, value)
     }
+
+    /// Appends a value to a list in the list in a slot, and returns whether it did. Err is out of memory.
+    #[inline(always)]
+    pub fn try_push_inner(
+        &mut self,
+        alloc: Global,
+        slot: usize,
+        outer: usize,
+        value: Value,
+    ) -> Result<bool, AllocError>
+        requires { IsSlot self.old slot }
+        ensures pushed { IfOk result (λ done. IsTrue done → (ts : List Tree) × (new : List Tree) × (get_or self.old.values slot None ≡ Some (ListOf ts)) × IsInnerPush ts outer (tree value) new × (self.new ≡ with_held self.old slot (ListOf new))) }
+        ensures kept { IfOk result (λ done. IsFalse done → self.new ≡ self.old) }
+    {
+        push_inner_at(alloc, &mut self.values, slot, outer, value)
+    }
 }
 
 // Appends a string to the one in a slot, and returns whether it did. Err is out of memory.
@@ -273,24 +290,6 @@ fn put_in_place(place: &mut Option<Value>, index: usize, number: i32) -> bool
         Some(Value::List(list)) => list.put_integer(index, number),
         _ => false,
     }
-}
-
-// Replaces an integer in a list in the list in a slot by another, and returns whether it did.
-#[inline(always)]
-fn put_inner_at(
-    alloc: Global,
-    values: &mut Vec<Option<Value>>,
-    slot: usize,
-    outer: usize,
-    inner: usize,
-    number: i32,
-) -> Result<bool, AllocError>
-    requires { slot < length values.old.items }
-    ensures put { IfOk result (λ done. IsTrue done → (ts : List Tree) × (new : List Tree) × (get_or values.old.items slot None ≡ Some (ListOf ts)) × IsInnerPut ts outer inner number new × (values.new.items ≡ set values.old.items slot (Some (ListOf new)))) }
-    ensures kept { IfOk result (λ done. IsFalse done → values.new.items ≡ values.old.items) }
-    ensures as_many { length values.new.items ≡ length values.old.items }
-{
-    try_put_inner(alloc, &mut values[slot], outer, inner, number)
 }
 
 // Sets a place to an integer.

@@ -987,21 +987,27 @@ put_longer-returns-in_err-set_longer-clause-err t c =
     let p = err_from_is_err_and c.from_residual-in_err-set_longer.result c.from_residual-in_err-set_longer.ensures.1 in
     rw (p.1, p.2) (λ k. subst (λ s. Computes Faults (context_of c.args.stack.now None) (program.list (splice (variable c.args.name.now) (element (source c.args.last.now) no_items))) (state_of c.args.self.now c.args.world.now c.args.active.now) (Err (failure_of c.in_err-set_longer.field-0.0)) s) (same_state (sym (c.in_err-set_longer.ensures.kept k)) refl) (too_long c.in-List.list (rw c.in-List.is at (c.in_ok-found.ensures.meaning None c.args.world.now tt)) (c.in_ok-last.ensures.meaning tt) (c.in_err-set_longer.ensures.err k)))
 
+pub set_element-returns-then-is_longer-clause-meaning : goal.set_element-returns-then-is_longer-clause-meaning
+set_element-returns-then-is_longer-clause-meaning t c =
+    λ k. c.in_ok-is_longer.ensures.lengthened c.if-is_longer.true c.args.world.now (context_of c.args.stack.now None)
+
 pub set_element-returns-in-Ok-clause-meaning : goal.set_element-returns-in-Ok-clause-meaning
 set_element-returns-in-Ok-clause-meaning t c =
-    λ k. put_alone c.in_ok-take_tick.ensures.taken (rw c.in_ok-take_tick.ensures.left at c.in-Ok.ensures.ok)
+    λ k. does_from (c.in_ok-is_longer.ensures.kept c.if-is_longer.false c.args.world.now) (put_alone c.in_ok-take_tick.ensures.taken (rw c.in_ok-take_tick.ensures.left at c.in-Ok.ensures.ok))
 
 pub set_element-returns-in_ok-_error-in-Err-clause-meaning : goal.set_element-returns-in_ok-_error-in-Err-clause-meaning
 set_element-returns-in_ok-_error-in-Err-clause-meaning t c =
-    λ k. passed_over c.in_ok-take_tick.ensures.taken (rw c.in_ok-take_tick.ensures.left at (c.in-Err.ensures.err (c.in_ok-_error-in-Err.ensures.known tt))) (c.in_ok-_error-in-Err.ensures.outcome tt)
+    λ k. does_from (c.in_ok-is_longer.ensures.kept c.if-is_longer.false c.args.world.now) (passed_over c.in_ok-take_tick.ensures.taken (rw c.in_ok-take_tick.ensures.left at (c.in-Err.ensures.err (c.in_ok-_error-in-Err.ensures.known tt))) (c.in_ok-_error-in-Err.ensures.outcome tt))
 
 pub set_element-returns-in_err-_error-in-Err-clause-meaning : goal.set_element-returns-in_err-_error-in-Err-clause-meaning
 set_element-returns-in_err-_error-in-Err-clause-meaning t c =
-    let p = err_from_is_err_and c.from_residual-in_err-_error-in-Err.result c.from_residual-in_err-_error-in-Err.ensures.1 in rw (p.1, p.2) (λ k. stopped c.in_ok-take_tick.ensures.taken (rw c.in_ok-take_tick.ensures.left at (c.in-Err.ensures.err (c.in_err-_error-in-Err.ensures.known k))) (c.in_err-_error-in-Err.ensures.outcome k))
+    let p = err_from_is_err_and c.from_residual-in_err-_error-in-Err.result c.from_residual-in_err-_error-in-Err.ensures.1 in
+    rw (p.1, p.2) (λ k. does_from (c.in_ok-is_longer.ensures.kept c.if-is_longer.false c.args.world.now) (stopped c.in_ok-take_tick.ensures.taken (rw c.in_ok-take_tick.ensures.left at (c.in-Err.ensures.err (c.in_err-_error-in-Err.ensures.known k))) (c.in_err-_error-in-Err.ensures.outcome k)))
 
 pub set_element-returns-in_err-take_tick-clause-meaning : goal.set_element-returns-in_err-take_tick-clause-meaning
 set_element-returns-in_err-take_tick-clause-meaning t c =
-    let p = err_from_is_err_and c.from_residual.result c.from_residual.ensures.1 in rw (p.1, p.2) (λ k. let h = c.in_err-take_tick.ensures.spent k in rw (c.in_err-take_tick.ensures.kept, h.1) (evaluates (spent h.0) refl))
+    let p = err_from_is_err_and c.from_residual-in_err-take_tick.result c.from_residual-in_err-take_tick.ensures.1 in
+    rw (p.1, p.2) (λ k. let h = c.in_err-take_tick.ensures.spent k in does_from (c.in_ok-is_longer.ensures.kept c.if-is_longer.false c.args.world.now) (rw (c.in_err-take_tick.ensures.kept, h.1) (evaluates (spent h.0) refl)))
 
 pub put_at-returns-clause-ok : goal.put_at-returns-clause-ok
 put_at-returns-clause-ok t c =

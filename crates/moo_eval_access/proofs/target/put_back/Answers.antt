@@ -3,7 +3,7 @@ use Rattle.std.proofs.lemmas.Result.{err_from_is_err_and}
 use Rattle.moo_value.specs.View.{tree}
 use Rattle.moo_eval_frame.specs.Outcome.{answers}
 use Rattle.moo_eval_access.proofs.Containers.{refused_inside}
-use Rattle.moo_eval_access.proofs.target.rebuilt.Goals as goal
+use Rattle.moo_eval_access.proofs.target.put_back.Goals as goal
 
 pub returns-in_err-whole : goal.returns-in_err-whole
 returns-in_err-whole c =

@@ -1,11 +1,1 @@
-pub mod Seen
-pub mod Hooks
 pub mod Ends
-pub mod SetTo
-pub mod Reached
-pub mod Element
-pub mod Leaves
-pub mod Attempts
-pub mod Arguments
-pub mod Chosen
-pub mod Codes

@@ -12,11 +12,11 @@ ghost use Rattle.moo_eval.specs.Ends.{IfEnded, LeavesNotices, IsBegunBy};
 ghost use Rattle.moo_syntax_ast.specs.Given.{given_names};
 ghost use Rattle.moo_eval_frame.specs.GivenValues.{given_values};
 
-use crate::interpreter::Task;
 use moo_eval_control::traceback_lines;
 use moo_eval_frame::{
     Activation, CallStack, Callers, Flow, Frame, FrameMemory, GivenValues, Stop, TaskEnv, Variables,
 };
+use moo_eval_interpreter::{Task, run_all};
 use moo_value::Value;
 use moo_world::World;
 use std::alloc::{AllocError, Global};
@@ -77,7 +77,7 @@ fn run_frame(
     };
     let mut task = Task::new(alloc);
     let statements = stack.running.program.code();
-    let outcome = task.run_all(world, &mut active, &stack, statements);
+    let outcome = run_all(&mut task, world, &mut active, &stack, statements);
     let Ok(()) = task.leave_notices(&mut env.notices) else {
         return Ended::Memory;
     };

@@ -7,3 +7,4 @@ pub mod Refused
 pub mod Counted
 pub mod Bounded
 pub mod Held
+pub mod LongerLists

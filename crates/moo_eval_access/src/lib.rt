@@ -6,9 +6,11 @@ mod arguments;
 mod bounds;
 mod entering;
 mod fault;
+mod form;
 mod growth;
 mod holding;
 mod integers;
+mod longer_list;
 mod object;
 mod place;
 mod target;
@@ -20,8 +22,13 @@ pub use entering::{
     enter_written, has_frame_left, verb_frame, verb_there,
 };
 pub use fault::failed;
+pub use form::{
+    as_appended, as_call, as_list_set, as_longer, as_prepended, as_set_property, as_text,
+    is_of_property,
+};
 pub use growth::{set_longer, set_prepended, set_sum};
 pub use integers::{binary, binary_in_place, number_of};
+pub use longer_list::set_all_longer;
 pub use object::{
     drop_property, drop_written, read_known, read_property, read_written, write_property,
     write_written,

@@ -1,0 +1,9 @@
+pub mod Caught
+pub mod Counting
+mod ObjectCalls
+mod Passing
+mod Known
+mod Prepended
+mod Updated
+mod Spliced
+mod Choosing

@@ -1,0 +1,84 @@
+//! Runs `x = f(x, a);` for a function that makes a list of its first argument, and `x = listset(x, a, i);`.
+ghost use Rattle.std.specs.Prelude.{◌≤◌, None, Err, IfErr, OnOk};
+ghost use Rattle.moo_syntax_ast.specs.Tree.{variable, assign, performs, call};
+ghost use Rattle.moo_syntax_lower.specs.Source.{source_items};
+ghost use Rattle.moo_eval_semantics.specs.Meaning.{Computes, Does};
+ghost use Rattle.moo_eval_frame.specs.Seen.{context_of, failure_of, seen_flow, HadMemoryIn, IsKnown};
+ghost use Rattle.moo_eval_task.specs.SetTo.{IsSetTo};
+ghost use Rattle.moo_builtin.specs.Telling.{Faults};
+ghost use Rattle.moo_eval_task.specs.Seen.{state_of};
+
+use crate::functions::call_with;
+use crate::interpreter::evaluate_all;
+use moo_eval_call::{has_list, set_list};
+use moo_eval_frame::{Activation, CallStack, Failure, Flow, Gathered, Stop};
+use moo_eval_task::Task;
+use moo_syntax_ast::Name;
+use moo_syntax_lower::{FunctionName, NodeItem};
+use moo_world::World;
+
+/// Runs `name = called(items)`, if the assignment's own value is not used. A list that nothing but the variable
+/// holds is changed in place. Not inlined, so that nested statements need no stack space for it.
+#[cycle(evaluation)]
+#[inline(never)]
+pub(crate) fn update(
+    task: &mut Task,
+    world: &mut World,
+    active: &mut Activation,
+    stack: &CallStack<'_>,
+    name: &Name,
+    called: &FunctionName,
+    items: &[NodeItem],
+) -> Result<Flow, Stop>
+    ensures meaning { IsKnown result → Does Faults (context_of stack.now None) (performs (assign (variable name.now) (call called.now (source_items items.now)))) (state_of task.old world.old active.old) (seen_flow result) (state_of task.new world.new active.new) }
+    ensures ticks { task.new.ticks_left ≤ task.old.ticks_left }
+{
+    task.take_tick(active, stack)?;
+    task.take_tick(active, stack)?;
+    match put_updated(task, world, active, stack, name, called, items) {
+        Ok(()) => Ok(Flow::Next),
+        Err(failure) => {
+            let value = task.settled(active, stack, failure)?;
+            active.variables.set(name, value)?;
+            Ok(Flow::Next)
+        }
+    }
+}
+
+// Sets the variable to the value of the call, if it has one.
+#[cycle(evaluation)]
+#[inline(always)]
+fn put_updated(
+    task: &mut Task,
+    world: &mut World,
+    active: &mut Activation,
+    stack: &CallStack<'_>,
+    name: &Name,
+    called: &FunctionName,
+    items: &[NodeItem],
+) -> Result<(), Failure>
+    ensures ok { OnOk result (IsSetTo Faults (context_of stack.now None) name.now (call called.now (source_items items.now)) (state_of task.old world.old active.old) (state_of task.new world.new active.new)) }
+    ensures err { IfErr result (λ failure. HadMemoryIn failure → Computes Faults (context_of stack.now None) (call called.now (source_items items.now)) (state_of task.old world.old active.old) (Err (failure_of failure)) (state_of task.new world.new active.new)) }
+    ensures ticks { task.new.ticks_left ≤ task.old.ticks_left }
+{
+    let room = task.spare.take_values();
+    let values = evaluate_all(task, world, active, stack, None, items, room)?;
+    let mut args = values.into_values(task.alloc())?;
+    if let Some(function) = called.function() {
+        if has_list(function, &args) {
+            set_list(
+                task.alloc(),
+                &mut active.variables,
+                name,
+                function,
+                &mut args,
+            )?;
+            task.spare.keep_values(args);
+            return Ok(());
+        }
+    }
+    let values = Gathered::of(task.alloc(), args);
+    let value = call_with(task, world, active, stack, called, values)?;
+    active.variables.set(name, value)?;
+    Ok(())
+}

@@ -1,0 +1,13 @@
+pub mod Compared
+pub mod Exits
+pub mod Hooking
+pub mod Dealt
+pub mod Direct
+pub mod Extended
+pub mod Lengthened
+pub mod ElementLengthened
+pub mod Placed
+pub mod Properties
+pub mod Reached
+pub mod Looking
+pub mod Ticks

@@ -1,0 +1,15 @@
+use Rattle.std.proofs.Common.{refl, rules}
+use mir.Syntax.{w32}
+use mir.Val.{SFits}
+use Rattle.moo_builtin_operator.specs.Truth.{truth_value}
+use Rattle.moo_eval_task.specs.Seen.{state_of}
+use Rattle.moo_eval_task.proofs.Ticks.{ticks_seen}
+use Rattle.moo_eval_task.proofs.Compared.{truth_told}
+use Rattle.moo_eval_task.proofs.task.Task.try_equality.Goals as goal
+
+pub returns-clause-some : goal.returns-clause-some
+returns-clause-some c =
+    let fits : SFits w32 c.left.result = search rules in
+    let ticks = ticks_seen c.left.result c.args.self.now.ticks_left fits c.left.ensures in
+    let gives = rw ticks at c.in_ok-passes.ensures.value in
+    λ w k. (truth_value c.in_ok-passes.passes, rw c.leave.ensures (gives k (state_of c.args.self.now w c.args.active.now) refl), truth_told c.in_ok-passes.passes)

@@ -1,0 +1,92 @@
+//! The memory of calls that have ended, which the next ones use.
+
+use moo_eval_access::MOST_FRAMES;
+use moo_eval_frame::FrameMemory;
+use moo_eval_integer::Letters;
+use moo_value::Value;
+use std::alloc::Global;
+
+/// Holds the memory of frames that have ended, and that of the values of arguments and of the codes of catches. No more
+/// of each is kept than a task has frames. It also holds strings of one letter.
+#[derive(Drop)]
+pub struct SpareMemory {
+    alloc: Global,
+    frames: Vec<FrameMemory>,
+    values: Vec<Vec<Value>>,
+    pub letters: Letters,
+}
+
+impl SpareMemory {
+    /// Returns no memory.
+    pub(crate) fn new(alloc: Global) -> SpareMemory {
+        SpareMemory {
+            alloc,
+            frames: Vec::new(alloc),
+            values: Vec::new(alloc),
+            letters: Letters::new(alloc),
+        }
+    }
+
+    /// Takes out the memory of the frame that ended last.
+    #[inline(always)]
+    pub fn take(&mut self) -> FrameMemory {
+        match self.frames.pop() {
+            Some(memory) => memory,
+            None => FrameMemory::new(self.alloc),
+        }
+    }
+
+    /// Keeps the memory of a frame. That of the values of its arguments is kept apart, since the next call takes it
+    /// before its frame.
+    #[inline(always)]
+    pub fn keep(&mut self, memory: FrameMemory) {
+        let mut memory = memory;
+        self.keep_values(memory.take_values(self.alloc));
+        if self.frames.len() >= MOST_FRAMES {
+            return;
+        }
+        if self.frames.len() < self.frames.capacity() {
+            self.frames.push_reserved(memory);
+        } else {
+            self.push_frame(memory);
+        }
+    }
+
+    // Keeps the memory of a frame if the list of such memory has to grow.
+    #[cold]
+    #[inline(never)]
+    fn push_frame(&mut self, memory: FrameMemory) {
+        let _kept = self.frames.push(memory);
+    }
+
+    /// Takes out memory for values: that of the arguments of a call, or of the codes of a catch, that has ended.
+    #[inline(always)]
+    pub fn take_values(&mut self) -> Vec<Value> {
+        match self.values.pop() {
+            Some(memory) => memory,
+            None => Vec::new(self.alloc),
+        }
+    }
+
+    /// Keeps the memory of these values, which are dropped.
+    #[inline(always)]
+    pub fn keep_values(&mut self, values: Vec<Value>) {
+        let mut memory = values;
+        memory.clear();
+        if memory.capacity() == 0 || self.values.len() >= MOST_FRAMES {
+            return;
+        }
+        if self.values.len() < self.values.capacity() {
+            self.values.push_reserved(memory);
+        } else {
+            self.push_values(memory);
+        }
+    }
+
+    // Keeps memory for values if the list of such memory has to grow.
+    #[cold]
+    #[inline(never)]
+    fn push_values(&mut self, memory: Vec<Value>) {
+        let _kept = self.values.push(memory);
+    }
+}

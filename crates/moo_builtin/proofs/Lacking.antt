@@ -1,5 +1,5 @@
 -- Memory runs out for a plain call only where it may.
-use Rattle.std.proofs.Common.{inl, inr, ◌≡◌, List, true, false, Some, Result, Ok, Err, refl, sym, subst}
+use Rattle.std.proofs.Common.{inl, inr, ◌≡◌, List, false, Some, Result, Ok, Err, refl, sym, subst}
 use Rattle.moo_value.specs.declared.error_code.ErrorCode.{ErrorCode}
 use Rattle.moo_value.specs.declared.value.Value.{Value}
 use Rattle.moo_value.specs.Tree.{Tree}

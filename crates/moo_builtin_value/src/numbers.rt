@@ -1,5 +1,4 @@
 //! Functions on integers.
-ghost use Rattle.std.specs.Prelude.{◌≡◌};
 ghost use Rattle.moo_value.specs.View.{trees};
 ghost use Rattle.moo_builtin_value.specs.TextAnswers.{Gives};
 ghost use Rattle.moo_builtin_value.specs.Numbers.{absolute, least, greatest};

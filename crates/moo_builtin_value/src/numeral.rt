@@ -2,7 +2,7 @@
 ghost use Rattle.std.specs.Prelude.{◌≡◌, ◌≤◌, length, IsTrue};
 ghost use Rattle.std.specs.List.{prefix_len};
 ghost use Rattle.moo_value.specs.Digits.{is_digit};
-ghost use Rattle.moo_builtin_value.specs.Numerals.{is_blank, past, begins, past_byte, is_blank_text, may_end, past_sign, with_sign, number_at, signed_number, integer_number, object_number};
+ghost use Rattle.moo_builtin_value.specs.Numerals.{is_blank, past, begins, is_blank_text, may_end, past_sign, with_sign, number_at, signed_number, integer_number, object_number};
 
 use moo_value::wrapping_number;
 

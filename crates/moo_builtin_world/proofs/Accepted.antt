@@ -5,7 +5,7 @@ use Rattle.moo_value.specs.declared.error_code.ErrorCode.{ErrorCode}
 use Rattle.moo_value.specs.declared.error_code.ErrorCode.TheVariants.{Arguments, TypeMismatch, InvalidArgument}
 use Rattle.moo_value.specs.Tree.{Tree}
 use Rattle.moo_syntax_function.specs.Table.{Row}
-use Rattle.moo_syntax_function.specs.Check.{is_count, kind_at, fits, names_valid, holds_from, all_fit, all_valid, refusal}
+use Rattle.moo_syntax_function.specs.Check.{is_count, all_fit, all_valid, refusal}
 
 -- whether arguments are refused: that their number is right, that they fit, and that the objects among them are valid
 abbrev judged : (count fit valid : Bool) → Option ErrorCode

@@ -1,9 +1,7 @@
 //! Functions that define properties, and that change their info: 'Operations on Properties' of the LambdaMOO
 //! Programmer's Manual, 'Functions over the world' of docs/reference/language.md. Arguments that don't fit the function's row
 //! raise E_TYPE; no call has such arguments.
-ghost use Rattle.std.specs.Prelude.{◌≡◌, ◌∷◌, []};
 ghost use Rattle.moo_value.specs.Compare.{folded};
-ghost use Rattle.moo_value.specs.Tree.{object, string};
 ghost use Rattle.moo_value.specs.View.{tree, trees};
 ghost use Rattle.moo_world.specs.Calls.{number_of, Tests};
 ghost use Rattle.moo_world.specs.InfoCalls.{set_info_raises};

@@ -6,7 +6,7 @@ ghost use Rattle.moo_builtin_world.specs.Order.{asked};
 ghost use Rattle.moo_value.specs.Tree.{object, string, list_of};
 ghost use Rattle.moo_builtin_operator.specs.Answer.{limited};
 ghost use Rattle.moo_world_text.specs.Permissions.{prop_perms_text};
-ghost use Rattle.moo_value.specs.View.{tree, trees};
+ghost use Rattle.moo_value.specs.View.{trees};
 ghost use Rattle.moo_builtin_value.specs.TextAnswers.{Gives};
 ghost use Rattle.moo_builtin_world.specs.Answers.{Does, IsNeverLacking, LacksOnly};
 ghost use Rattle.moo_builtin_world.specs.Properties.{properties, info_told, property_info, clearness, is_clear_property, cleared_named, clear_property, without_named, delete_property};

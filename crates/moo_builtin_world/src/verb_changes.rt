@@ -1,8 +1,6 @@
 //! Functions that add, change and delete verbs: 'Operations on Verbs' of the LambdaMOO Programmer's Manual,
 //! 'Functions over the world' of docs/reference/language.md. Arguments that don't fit the function's row raise E_TYPE; no call
 //! has such arguments.
-ghost use Rattle.std.specs.Prelude.{◌≡◌, ◌∷◌, []};
-ghost use Rattle.moo_value.specs.Tree.{object};
 ghost use Rattle.moo_value.specs.View.{tree, trees};
 ghost use Rattle.moo_builtin_world.specs.Answers.{Does, IsNeverLacking};
 ghost use Rattle.moo_builtin_world.specs.Order.{given};

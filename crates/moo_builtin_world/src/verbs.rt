@@ -1,6 +1,6 @@
 //! Functions that inspect verbs: 'Operations on Verbs' of the LambdaMOO Programmer's Manual, 'Functions over the
 //! world' of docs/reference/language.md. Arguments that don't fit the function's row raise E_TYPE; no call has such arguments.
-ghost use Rattle.std.specs.Prelude.{◌≡◌, ◌∷◌, [], IfOk, length, map};
+ghost use Rattle.std.specs.Prelude.{◌≡◌, ◌∷◌, [], IfOk, map};
 ghost use Rattle.moo_value.specs.Tree.{object, string, list_of};
 ghost use Rattle.moo_value.specs.View.{tree, trees};
 ghost use Rattle.moo_builtin_operator.specs.Answer.{limited};

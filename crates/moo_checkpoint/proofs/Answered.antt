@@ -5,7 +5,7 @@ use Rattle.std.proofs.Math.Seq.{take-add}
 use Rattle.std.proofs.lemmas.List.{length-drop, length-take, take-append-drop, take_all}
 use Rattle.moo_dbtext_record.specs.declared.fault.DbFault.{DbFault}
 use Rattle.moo_dbtext_record.specs.declared.fault.DbFaultKind.TheVariants as fault_kind
-use Rattle.moo_disk.specs.Disk.{DiskKind, DiskView, HasRisen, NoText, KeepsMain, KeepsSpare, ReadMain, Reads}
+use Rattle.moo_disk.specs.Disk.{DiskKind, DiskView, HasRisen, NoText, KeepsMain, ReadMain, Reads}
 use Rattle.moo_disk.proofs.GainsLemmas.{gains_join, gains_less, gains_none}
 use Rattle.moo_dbtext_read.specs.Saved.{Saved, saved_of, SpellsSaved, SpellsSavedWithin}
 use Rattle.moo_dbtext_read.specs.declared.saved.Saved as stored

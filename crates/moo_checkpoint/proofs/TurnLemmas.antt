@@ -1,5 +1,5 @@
 -- What turns one after another come to.
-use Rattle.std.proofs.Common.{◌≡◌, ◌⊎◌, ◌↔◌, ⊎_elim, ℕ, ◌+◌, ◌<◌, List, [], ◌∷◌, length, refl, sym, ◌∙◌, ap, subst, arith}
+use Rattle.std.proofs.Common.{◌≡◌, ◌⊎◌, ⊎_elim, ℕ, ◌+◌, ◌<◌, List, [], ◌∷◌, length, refl, sym, ◌∙◌, ap, subst, arith}
 use Rattle.moo_disk.specs.Disk.{DiskKind, DiskView, Gains}
 use Rattle.moo_disk.proofs.GainsLemmas.{gains_join, gains_less, gains_none}
 use Rattle.moo_checkpoint.specs.declared.checkpoint.Checkpoint.{Checkpoint}

@@ -2,7 +2,7 @@
 ghost use Rattle.std.specs.Prelude.{◌≡◌, ◌<◌, ◌≤◌, ◌+◌, [], length, take, true, false, IfErr, IfNone, IfOk, IfSome, OnErr, OnOk};
 ghost use Rattle.std.specs.Io.KnownBytes.{Appends, Consumes, IsAtEnd};
 ghost use Rattle.moo_cli_io.specs.Refused.{without_memory, IsEarned};
-ghost use Rattle.moo_cli_io.specs.Watching.{most_reads, HasFailed, HasLacked, Remembers};
+ghost use Rattle.moo_cli_io.specs.Watching.{most_reads, HasFailed, Remembers};
 
 use crate::exit_reason::ExitReason;
 use std::io;

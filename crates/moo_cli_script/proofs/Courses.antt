@@ -1,5 +1,5 @@
 -- Lines of a script as calls of its server.
-use Rattle.std.proofs.Common.{◌≡◌, ◌⊎◌, inl, inr, ℕ, List, [], ◌∷◌, ◌++◌, length, map, take, Option, Some, None, Ok, refl, sym, ◌∙◌, ap, subst, append_assoc}
+use Rattle.std.proofs.Common.{◌≡◌, ◌⊎◌, inl, inr, ℕ, List, [], ◌∷◌, ◌++◌, map, take, Option, Some, None, Ok, refl, sym, ◌∙◌, ap, subst, append_assoc}
 use Rattle.std.proofs.lemmas.List.{append-nil}
 use Rattle.moo_disk.specs.Disk.{DiskKind, DiskView, KeepsMain, NoText}
 use Rattle.moo_disk.specs.FailAt.{inner_of}
@@ -16,7 +16,7 @@ use Rattle.moo_server_core.specs.declared.event.Event as given
 use Rattle.moo_server_core.specs.declared.server_core.ServerCore.{ServerCore}
 use Rattle.moo_cli_script.specs.ScriptLines.{Step, opening, typing, sending, hanging_up, moment, flushing, failing, reopening, crashing, showing}
 use Rattle.moo_cli_script.specs.declared.script.Script.{Script}
-use Rattle.moo_cli_script.specs.Script.{Does, HandsOut, ScriptDisk, Takes as TakesEvent, disk_view, event_of, script_kind}
+use Rattle.moo_cli_script.specs.Script.{Does, ScriptDisk, Takes as TakesEvent, disk_view, event_of, script_kind}
 use Rattle.moo_cli_script.specs.Playing.{IsTaken, Takes}
 use Rattle.moo_cli_script.specs.Course.{AreAsked, AreRuns, Course, IsOpening, IsSetToFail, NoneOpens, taken_in, with_event}
 use Rattle.moo_cli_script.proofs.Handed.{hands_join, hands_none}

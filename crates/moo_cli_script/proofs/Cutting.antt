@@ -1,5 +1,5 @@
 -- The lines of a text, from its front.
-use Rattle.std.proofs.Common.{take_all, ◌≡◌, ◌≢◌, ℕ, zero, suc, ◌+◌, ◌-◌, ◌<◌, ◌≤◌, true, false, Bool, List, [], ◌∷◌, ◌++◌, ◌==◌, All, length, take, drop, refl, sym, ap, ◌∙◌, ne_eqb, arith, length-drop, append_assoc}
+use Rattle.std.proofs.Common.{take_all, ◌≡◌, ◌≢◌, ℕ, zero, suc, ◌+◌, ◌-◌, ◌<◌, true, false, Bool, List, [], ◌∷◌, ◌++◌, ◌==◌, All, length, take, drop, refl, sym, ap, ◌∙◌, ne_eqb, arith, length-drop, append_assoc}
 use Rattle.std.proofs.lemmas.List.Elements.{All-head, All-tail}
 use Rattle.std.specs.List.{flat_map}
 use Rattle.std.specs.Prelude.{slice_index, if◌then◌else◌}

@@ -1,5 +1,5 @@
 -- The moment at which a server stands behind an event.
-use Rattle.std.proofs.Common.{◌≡◌, ℕ, List, [], ◌∷◌, map, Option, Some, None, true, false, refl, ◌∙◌, ap, subst}
+use Rattle.std.proofs.Common.{◌≡◌, List, [], ◌∷◌, map, Option, Some, None, true, false, refl, ◌∙◌, ap, subst}
 use Rattle.std.specs.Prelude.{◌&&◌, not, MatchBool, Ok}
 use Rattle.moo_disk.specs.Disk.{DiskKind}
 use Rattle.moo_dbtext_read.specs.Saved.{Saved}

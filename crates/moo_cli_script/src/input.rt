@@ -2,7 +2,7 @@
 ghost use Rattle.std.specs.Prelude.{◌≡◌, ◌<◌, ◌≤◌, ◌++◌, length, IfErr, IfOk, IfSome, MatchOption, OnOk};
 ghost use Rattle.std.specs.Io.KnownBytes.{IsAtEnd};
 ghost use Rattle.moo_cli_io.specs.Refused.{IsEarned};
-ghost use Rattle.moo_cli_io.specs.Watching.{most_reads, Remembers};
+ghost use Rattle.moo_cli_io.specs.Watching.{most_reads};
 ghost use Rattle.moo_cli_script.specs.Lines.{TakesLine};
 
 use moo_cli_io::{ExitReason, PartEnd, Watch, next_part};

@@ -1,6 +1,5 @@
 //! The command `moo script`.
 ghost use Rattle.std.specs.Prelude.{◌⊎◌, IfErr, IfOk};
-ghost use Rattle.moo_cli_io.specs.Refused.{IsEarned};
 ghost use Rattle.moo_cli_script.specs.Playing.{GivesUp, IsAnswered, ShowsScript};
 ghost use Rattle.moo_cli_script.specs.Works.{HasGrown, IsEarnedIn};
 

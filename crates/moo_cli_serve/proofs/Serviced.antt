@@ -1,6 +1,6 @@
 -- A server over a disk, begun and brought to its end.
 use Rattle.std.proofs.Common.{◌≡◌, ◌⊎◌, inl, inr, ℕ, ◌+◌, ◌<◌, List, ◌++◌, Bool, true, false, refl, sym, ◌∙◌, ap, subst, add-one, arith}
-use Rattle.std.specs.Prelude.{◌↔◌, IfErr, IfOk, OnOk, Result, Ok, Err}
+use Rattle.std.specs.Prelude.{◌↔◌, IfErr, IfOk, Result, Ok, Err}
 use Rattle.slab.specs.Slab.{Slab, get}
 use Rattle.moo_disk.specs.Disk.{DiskKind}
 use Rattle.moo_cli_file_disk.specs.Files.{IsUntouched, file_kind}

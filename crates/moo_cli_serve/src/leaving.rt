@@ -1,5 +1,5 @@
 //! The output of a round, and the connections that it closes.
-ghost use Rattle.std.specs.Prelude.{◌≡◌, ◌≢◌, ◌<◌, ◌++◌, ℕ, List, None, Contains, false, true, IfOk, OnOk};
+ghost use Rattle.std.specs.Prelude.{◌≡◌, ◌≢◌, ◌<◌, ◌++◌, ℕ, None, Contains, false, true, IfOk, OnOk};
 ghost use Rattle.std.specs.List.{AllPairs};
 ghost use Rattle.moo_cli_sockets.specs.Coming.{held};
 ghost use Rattle.moo_cli_sockets.specs.Reading.{IsAlike};

@@ -1,5 +1,5 @@
 -- Sorted numbers without repetitions.
-use Rattle.std.proofs.Common.{◌≡◌, ℕ, ◌<◌, List, [], Contains, subst, sym}
+use Rattle.std.proofs.Common.{◌≡◌, ℕ, ◌<◌, List, Contains, subst, sym}
 use Rattle.std.specs.Prelude.{eqb}
 use Rattle.std.specs.List.{AllPairs, dedup}
 use Rattle.std.specs.List.Sorted.{IsPermutation, IsSorted}

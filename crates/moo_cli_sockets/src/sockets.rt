@@ -1,5 +1,5 @@
 //! The listener, and the sockets of connections.
-ghost use Rattle.std.specs.Prelude.{◌≡◌, ◌≢◌, ◌≤◌, ◌↔◌, ℕ, All, Contains, IfOk, OnOk, IsSome, IsTrue, None};
+ghost use Rattle.std.specs.Prelude.{◌≡◌, ◌≢◌, ◌≤◌, ◌↔◌, ℕ, All, IfOk, OnOk, IsSome, IsTrue, None};
 ghost use Rattle.mio.specs.Event.{event_token};
 ghost use Rattle.slab.specs.Slab.{get};
 ghost use Rattle.moo_cli_sockets.specs.Coming.{Closes, IsNamed, held};

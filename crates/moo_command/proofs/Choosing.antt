@@ -1,6 +1,6 @@
 -- Steps of a choice along the ancestors of an object.
-use Rattle.std.proofs.Common.{◌≡◌, ℕ, ℤ, suc, ◌<◌, Bool, true, false, cond, ltb, arith, [], ◌∷◌, List, Option, Some, None, refl, sym, ◌∙◌, ap, get_or, length, slice_get}
-use Rattle.std.specs.List.{filter_map, position, position_or_len, cons_option}
+use Rattle.std.proofs.Common.{◌≡◌, ℕ, ℤ, suc, ◌<◌, Bool, true, false, cond, ltb, arith, [], ◌∷◌, List, Option, Some, None, refl, ◌∙◌, ap, get_or, length}
+use Rattle.std.specs.List.{filter_map, position, position_or_len}
 use Rattle.std.specs.Option.{option_map, unwrap_or}
 use Rattle.std.proofs.lemmas.List.{get_or_read}
 use Rattle.std.proofs.lemmas.List.Sums.{fails_before_first, position_or_len_is}

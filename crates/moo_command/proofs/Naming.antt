@@ -1,20 +1,20 @@
 -- Which names a text covers, and what is found by them.
-use Rattle.std.proofs.Common.{◌≡◌, ◌≢◌, ℕ, zero, suc, ℤ, pos, negsuc, ◌≤◌, ◌<◌, Bool, true, false, cond, eqb, ◌||◌, ◌&&◌, List, [], ◌∷◌, ◌++◌, length, map, take, filter, Option, Some, None, is_some, slice_get, refl, sym, ap, ◌∙◌, inl, inr, arith, subst}
+use Rattle.std.proofs.Common.{◌≡◌, ◌≢◌, ℕ, zero, suc, ℤ, pos, negsuc, Bool, true, false, cond, eqb, ◌||◌, List, [], ◌∷◌, ◌++◌, length, map, take, Option, Some, None, is_some, slice_get, refl, sym, ap, ◌∙◌, inl, inr}
 use Rattle.std.specs.List.{list_any, list_all, filter_map, find}
 use Rattle.std.specs.Option.{option_and_then, unwrap_or}
 use Rattle.std.specs.Ordering.{int_eq}
 use Rattle.std.specs.Char.{to_ascii_lowercase}
-use Rattle.std.proofs.lemmas.Bool.{cases_Bool, cond-true, cond-false, true≢false, false≢true, eqb-true, eqb-false}
+use Rattle.std.proofs.lemmas.Bool.{cases_Bool, true≢false, eqb-true, eqb-false}
 use Rattle.std.proofs.lemmas.Bool.Decides.{Decides-int_eq}
 use Rattle.std.proofs.lemmas.List.{length-map}
 use Rattle.std.proofs.lemmas.List.Elements.{filter-append}
-use Rattle.moo_value.specs.Tree.{Tree, Elements, integer, object, error, string, list, elements_of, trees_of}
+use Rattle.moo_value.specs.Tree.{Tree, integer, object, error, string, list, elements_of}
 use Rattle.moo_value.specs.TreeCode.{trees_of-elements_of}
 use Rattle.moo_value.specs.Compare.{folded}
 use Rattle.moo_world_object.specs.Names.{same_name}
 use Rattle.moo_world_object.specs.Patterns.{begins}
 use Rattle.moo_world_object.specs.Objects.{Object}
-use Rattle.moo_world_tree.specs.Forest.{Links, climb, ancestors, alone}
+use Rattle.moo_world_tree.specs.Forest.{Links, climb, ancestors}
 use Rattle.moo_world_table.specs.World.{World, IsWellFormed, object_of, nothing, definitions, keys_along}
 use Rattle.moo_world_table.specs.Properties.{read, values_above}
 use Rattle.moo_world.specs.Calls.{number_of}
@@ -22,7 +22,7 @@ use Rattle.moo_command.specs.declared.named.Found.{Found}
 use Rattle.moo_command.specs.declared.named.Found.TheVariants.{Nothing, One, Several}
 use Rattle.moo_command.specs.declared.named.Extent.{Extent}
 use Rattle.moo_command.specs.declared.named.Extent.TheVariants.{Whole, Beginning}
-use Rattle.moo_command.specs.Objects.{string_in, strings_in, sole, best, several_named, none_named, room_of, contents_of, near, names_of, named_by, named_near}
+use Rattle.moo_command.specs.Objects.{string_in, strings_in, sole, best, several_named, room_of, contents_of, near, names_of, named_by, named_near}
 use Rattle.moo_command.specs.Inner.{covers, is_covered, with_found, with_all_found, found_among, number_found}
 
 -- strings among values

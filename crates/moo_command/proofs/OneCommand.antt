@@ -1,14 +1,13 @@
 -- A line has one command.
-use Rattle.std.proofs.Common.{◌≡◌, ℕ, ℤ, List, [], take, drop, slice_range, refl, sym, ap, ◌∙◌}
+use Rattle.std.proofs.Common.{◌≡◌, ℕ, ℤ, List, [], take, drop, slice_range, sym, ap, ◌∙◌}
 use Rattle.moo_world_table.specs.World.{World}
 use Rattle.moo_command.specs.FirstWord.{IsTyped}
-use Rattle.moo_command.specs.Words.{Words}
 use Rattle.moo_command.specs.Typed.{expanded}
-use Rattle.moo_command.specs.Prepositions.{Parts, Splits, joined, number_or_none}
+use Rattle.moo_command.specs.Prepositions.{Splits, joined, number_or_none}
 use Rattle.moo_command.specs.Objects.{matched}
 use Rattle.moo_command.specs.Inner.{parts_of}
 use Rattle.moo_command.specs.declared.splitting.Division.{Division}
-use Rattle.moo_command.specs.Commands.{Command, IsCommandOf, Commands, says, says_nothing, command_of_parts, OneCommand}
+use Rattle.moo_command.specs.Commands.{Command, IsCommandOf, says, says_nothing, command_of_parts, OneCommand}
 use Rattle.moo_command.proofs.Splits.{one_split}
 use Rattle.moo_command.proofs.Signs.{typed_is_some}
 

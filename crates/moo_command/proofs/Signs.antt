@@ -1,9 +1,9 @@
 -- The split of a line with a leading sign that is short for a verb, and of a line without one.
-use Rattle.std.proofs.Common.{◌≡◌, ◌≢◌, ℕ, ◌≤◌, ◌<◌, ◌+◌, Bool, true, false, cond, eqb, List, [], ◌∷◌, ◌++◌, length, map, drop, get_or, codes, Option, Some, None, is_some, refl, sym, ap, ◌∙◌, arith, inl, inr, subst}
+use Rattle.std.proofs.Common.{◌≡◌, ◌≢◌, ℕ, ◌≤◌, ◌<◌, ◌+◌, true, false, eqb, List, [], ◌∷◌, ◌++◌, length, drop, get_or, codes, Option, Some, None, is_some, refl, sym, ap, ◌∙◌, arith, inl, inr, subst}
 use Rattle.std.specs.Prelude.{IfSome, IfOk, Result, Ok, Err}
 use Rattle.std.specs.Option.{option_map_or}
 use Rattle.std.proofs.lemmas.List.{drop_more}
-use Rattle.std.proofs.lemmas.Bool.{cases_Bool, cond-true, cond-false, eqb-true, eqb-false, ne_eqb, false≢true}
+use Rattle.std.proofs.lemmas.Bool.{cases_Bool, cond-true, cond-false, ne_eqb, false≢true}
 use Rattle.moo_command.specs.Words.{blank, IsPlain, Word, blank_ends, plain, BeginsWord, begins, Words, no_more, after_blank, one_more}
 use Rattle.moo_command.specs.FirstWord.{IsTyped, unindented}
 use Rattle.moo_command.specs.Typed.{verb_of_sign, with_verb, expanded}

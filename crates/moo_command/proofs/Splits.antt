@@ -1,11 +1,10 @@
 -- The preposition that splits words, and that there is one split.
-use Rattle.std.proofs.Common.{◌≡◌, ◌⊎◌, ℕ, ◌≤◌, ◌<◌, ◌+◌, ◌-◌, Bool, true, false, List, [], ◌∷◌, ◌++◌, length, map, take, drop, slice_range, Bor, Option, Some, None, refl, sym, ap, ◌∙◌, inl, inr, arith, subst}
-use Rattle.std.specs.Prelude.{Contains}
-use Rattle.std.proofs.lemmas.List.{length-map, length-append, length-drop, drop_all, take_all, length-take, append-nil}
+use Rattle.std.proofs.Common.{◌≡◌, ◌⊎◌, ℕ, ◌≤◌, ◌<◌, ◌+◌, ◌-◌, Bool, true, false, List, [], ◌∷◌, ◌++◌, length, map, take, drop, slice_range, Bor, Some, None, refl, sym, ap, ◌∙◌, inl, inr, arith, subst}
+use Rattle.std.proofs.lemmas.List.{length-map, length-append, drop_all, take_all, append-nil}
 use Rattle.std.proofs.lemmas.List.Folds.{drop_split}
 use Rattle.moo_value.specs.Compare.{folded}
 use Rattle.moo_world_object.specs.declared.verb_args.Preposition.{Preposition}
-use Rattle.moo_command.specs.Prepositions.{forms, BeginsWith, StandsAt, IsPreposition, Parts, parts_at, parts_without, Splits, at, nowhere}
+use Rattle.moo_command.specs.Prepositions.{BeginsWith, StandsAt, IsPreposition, parts_at, parts_without, Splits, at, nowhere}
 use Rattle.moo_command.specs.Commands.{OneSplit}
 use Rattle.moo_command.specs.Inner.{form_table, form_among, begins_with, parts_of}
 use Rattle.moo_command.specs.declared.splitting.Division.{Division}

@@ -1,5 +1,5 @@
 -- The choice of the verb that a command runs.
-use Rattle.std.specs.Prelude.{ℕ, ℤ, negsuc, pos, Bool, true, ◌&&◌, ◌||◌, List, [], ◌∷◌, Option, slice_get}
+use Rattle.std.specs.Prelude.{ℕ, ℤ, negsuc, Bool, true, ◌&&◌, ◌||◌, List, [], ◌∷◌, Option, slice_get}
 use Rattle.std.specs.Option.{option_map, option_and_then}
 use Rattle.std.specs.List.{filter_map, position}
 use Rattle.std.specs.Ordering.{int_eq}

@@ -1,5 +1,5 @@
 -- Definitions that only private clauses use.
-use Rattle.std.specs.Prelude.{ℕ, ◌+◌, ◌*◌, ◌-◌, ℤ, pos, Bool, true, false, ◌==◌, ◌&&◌, List, [], ◌∷◌, Option, Some, None, codes, length, map, take, drop, slice_range, if◌then◌else◌}
+use Rattle.std.specs.Prelude.{ℕ, ℤ, pos, Bool, true, false, ◌&&◌, List, [], ◌∷◌, Option, Some, None, codes, length, map, take, drop, slice_range, if◌then◌else◌}
 use Rattle.std.specs.Ordering.{int_eq}
 use Rattle.moo_value.specs.Tree.{Tree, integer, object, error, string, list}
 use Rattle.moo_value.specs.Compare.{folded}

@@ -1,5 +1,5 @@
 //! A reader of the words of a line.
-ghost use Rattle.std.specs.Prelude.{◌≡◌, ◌≢◌, ◌≤◌, ◌<◌, ℕ, length, drop, slice_index, IfOk, OnOk, false};
+ghost use Rattle.std.specs.Prelude.{◌≡◌, ◌≢◌, ◌≤◌, ◌<◌, length, drop, slice_index, IfOk, false};
 ghost use Rattle.moo_value.specs.Size.{IsString};
 ghost use Rattle.moo_command.specs.Words.{Word, Words};
 ghost use Rattle.moo_command.specs.FirstWord.{unindented};

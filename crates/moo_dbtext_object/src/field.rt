@@ -1,8 +1,7 @@
 //! Lines of objects that are no plain number or string.
-ghost use Rattle.std.specs.Prelude.{◌≡◌};
 ghost use Rattle.moo_world_object.specs.Flags.{flags_number};
 ghost use Rattle.moo_world_object.specs.Numbers.{prop_perms_number, preposition_specifier_number};
-ghost use Rattle.moo_dbtext_object.specs.Lines.{Gives, limited, number_of, small_of, text_of};
+ghost use Rattle.moo_dbtext_object.specs.Lines.{Gives, limited, small_of, text_of};
 ghost use Rattle.moo_dbtext_object.specs.ObjectReading.{bits_of, verb_bits_of, preposition_of};
 
 use crate::{LineFault, Refusal, number, small};

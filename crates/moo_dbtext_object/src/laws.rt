@@ -1,5 +1,5 @@
 //! Laws on the lines of objects.
-ghost use Rattle.std.specs.Prelude.{◌≡◌, ◌≢◌, ◌++◌, List, Ok, Some};
+ghost use Rattle.std.specs.Prelude.{◌≡◌, ◌++◌, List, Ok, Some};
 ghost use Rattle.moo_dbtext_object.specs.Lines.{Line, Sizes, limited, unlimited, IsStringOf, Cut};
 ghost use Rattle.moo_dbtext_object.specs.Until.{until};
 ghost use Rattle.moo_dbtext_object.specs.Objects.{Object, object_lines, IsObject};

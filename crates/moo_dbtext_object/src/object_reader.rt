@@ -1,6 +1,5 @@
 //! A reader of objects, one line at a time.
 ghost use Rattle.std.specs.Prelude.{◌≡◌, ◌++◌, true, map, option_map, None, OnOk};
-ghost use Rattle.moo_value.specs.View.{tree};
 ghost use Rattle.moo_dbtext_object.specs.Lines.{Gives, limited};
 ghost use Rattle.moo_dbtext_object.specs.Objects.{object_of, verb_of};
 ghost use Rattle.moo_world_object.specs.Numbers.{preposition_specifier_number};

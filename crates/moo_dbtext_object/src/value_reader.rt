@@ -1,5 +1,5 @@
 //! A reader of values, one line at a time.
-ghost use Rattle.std.specs.Prelude.{◌≡◌, ◌≢◌, ◌≤◌, length, option_map, IfOk, IfErr};
+ghost use Rattle.std.specs.Prelude.{◌≡◌, ◌≢◌, length, option_map, IfOk, IfErr};
 ghost use Rattle.moo_value.specs.View.{tree, trees};
 ghost use Rattle.moo_dbtext_object.specs.Lines.{Gives, limited};
 ghost use Rattle.moo_dbtext_object.specs.declared.fault.Refusal.TheVariants.{Memory};

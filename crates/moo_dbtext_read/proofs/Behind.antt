@@ -19,7 +19,7 @@ use Rattle.moo_dbtext_record.specs.Texts.{Text, Slack, Spells, header_line, obje
 use Rattle.moo_dbtext_record.specs.declared.fault.DbFault.{DbFault}
 use Rattle.moo_dbtext_record.specs.declared.fault.ProgramFaultKind.{ProgramFaultKind}
 use Rattle.moo_dbtext_record.specs.DumpReading.{Progress, verb_read}
-use Rattle.moo_dbtext_record.specs.Answer.{IsWholeLine, Told, Taken, taken_of, taken_on, begin, and_then, HasTaken, IsGoing, HasFailed, HasNoEnd, Stops}
+use Rattle.moo_dbtext_record.specs.Answer.{IsWholeLine, Told, Taken, taken_of, taken_on, begin, and_then, HasTaken, IsGoing, HasNoEnd, Stops}
 use Rattle.moo_dbtext_record.specs.declared.record_reader.RecordReader.{RecordReader}
 use Rattle.moo_dbtext_record.specs.declared.record_reader.RecordFault.{RecordFault}
 use Rattle.moo_dbtext_record.specs.declared.dump_reader.Section.{Section}

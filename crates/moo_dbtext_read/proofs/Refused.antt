@@ -1,6 +1,6 @@
 -- A refusal of bytes holds for all bytes that begin so, and has consequences for the whole.
 use Rattle.std.specs.Prelude.{⊤}
-use Rattle.std.proofs.Common.{◌≡◌, ℕ, ◌+◌, ◌-◌, List, [], ◌∷◌, ◌++◌, length, Option, Some, None, Result, Ok, Err, inl, inr, refl, sym, ap, subst, ◌∙◌, append_assoc, arith}
+use Rattle.std.proofs.Common.{◌≡◌, ℕ, ◌+◌, ◌-◌, List, [], ◌∷◌, ◌++◌, length, Result, Ok, Err, inl, inr, refl, sym, ap, subst, ◌∙◌, append_assoc, arith}
 use Rattle.moo_dbtext_object.specs.Lines.{limited}
 use Rattle.moo_dbtext_object.specs.declared.fault.Refusal.{Refusal}
 use Rattle.moo_dbtext_object.specs.declared.fault.Refusal.TheVariants as refusal

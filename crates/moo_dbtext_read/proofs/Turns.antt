@@ -16,7 +16,7 @@ use Rattle.moo_dbtext_record.proofs.TakenLaws.{taken_on-append}
 use Rattle.moo_dbtext_record.proofs.Standing.{stand_so, stands_on, stand_in, stand_ends, stopped_behind, ends, ends_append, clean_ends, taken_ends, fault_ends}
 use Rattle.moo_dbtext_record.proofs.Placed.{bytes_past, objects_stand, one_set_of_objects, whole_begins}
 use Rattle.moo_dbtext_read.specs.Reading as programs
-use Rattle.moo_dbtext_read.specs.Reading.{IsBehind, IsRead, IsRecordFault, IsToldProgram, IsRefused, HasRead, IsWell, place_of}
+use Rattle.moo_dbtext_read.specs.Reading.{IsBehind, IsRead, IsToldProgram, IsRefused, HasRead, IsWell, place_of}
 use Rattle.moo_dbtext_read.specs.declared.database.Database.{Database}
 use Rattle.moo_dbtext_read.specs.declared.program_reader.ProgramReader.{ProgramReader}
 use Rattle.moo_dbtext_read.proofs.Behind.{taken_between, part_sources}

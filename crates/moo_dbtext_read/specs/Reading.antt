@@ -1,5 +1,5 @@
 -- The state of a reader between two pieces, and its answers.
-use Rattle.std.specs.Prelude.{◌≡◌, ℕ, ◌-◌, List, [], ◌∷◌, ◌++◌, length, Option, Some, None, Result, Ok, Err, ◌⊎◌, MatchResult, ⊤}
+use Rattle.std.specs.Prelude.{◌≡◌, ℕ, ◌-◌, List, ◌++◌, length, Option, Some, None, Result, Ok, Err, ◌⊎◌, MatchResult, ⊤}
 use Rattle.moo_syntax_grammar.specs.declared.names.Names.TheVariants.{Any}
 use Rattle.moo_syntax.specs.declared.syntax_fault.SyntaxFaultKind.{SyntaxFaultKind}
 use Rattle.moo_syntax.specs.Programs.{Blames}

@@ -1,5 +1,5 @@
 //! The world that the contents of a text describe.
-ghost use Rattle.std.specs.Prelude.{◌≡◌, ◌⊎◌, map, take, option_map, IfOk, IfErr};
+ghost use Rattle.std.specs.Prelude.{◌≡◌, ◌⊎◌, map, option_map, IfOk, IfErr};
 ghost use Rattle.moo_dbtext_object.specs.Objects.{object_of};
 ghost use Rattle.moo_dbtext_record.specs.Texts.{link_of};
 ghost use Rattle.moo_world_table.specs.World.{IsWellFormed};

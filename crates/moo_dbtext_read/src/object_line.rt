@@ -1,5 +1,5 @@
 //! The lines that name objects.
-ghost use Rattle.std.specs.Prelude.{◌≡◌, ◌≤◌, ◌+◌, map, length, take, option_map, IfSome};
+ghost use Rattle.std.specs.Prelude.{◌≡◌, ◌+◌, map, length, take, option_map, IfSome};
 ghost use Rattle.std.specs.List.{flat_map};
 ghost use Rattle.moo_value.specs.Tree.{elements_of};
 ghost use Rattle.moo_value.specs.View.{tree, trees};

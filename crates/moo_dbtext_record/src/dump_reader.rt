@@ -1,10 +1,10 @@
 //! A reader of whole texts, one line at a time.
-ghost use Rattle.std.specs.Prelude.{◌≡◌, ◌∷◌, ◌++◌, [], true, List, map, length, codes, option_map, Ok, OnOk, Some, None, MatchOption};
+ghost use Rattle.std.specs.Prelude.{◌≡◌, true, Ok, OnOk, Some, None, MatchOption};
 ghost use Rattle.moo_dbtext_object.specs.Lines.{Gives, limited};
 ghost use Rattle.moo_dbtext_object.specs.Objects.{object_of};
 ghost use Rattle.moo_dbtext_object.specs.ObjectReading.{draft_of, given_by};
-ghost use Rattle.moo_dbtext_record.specs.Programs.{table_of, entry_at, with_source};
-ghost use Rattle.moo_dbtext_record.specs.Texts.{text_of, link_of};
+ghost use Rattle.moo_dbtext_record.specs.Programs.{entry_at};
+ghost use Rattle.moo_dbtext_record.specs.Texts.{text_of};
 ghost use Rattle.moo_dbtext_record.specs.DumpReading.{progress_of, verb_read, with_object, after_programs, after_objects, after_players, after_connections, after_object_line, after_source, dump_step, ended, start};
 ghost use Rattle.moo_dbtext_record.specs.declared.dump_reader.Section.TheVariants as section;
 ghost use Rattle.moo_dbtext_record.specs.Answer.{unended};

@@ -1,5 +1,5 @@
 //! The programs of verbs, by object and verb.
-ghost use Rattle.std.specs.Prelude.{◌≡◌, map, slice_index_or, Some, None, OnOk, IfOk, MatchOption};
+ghost use Rattle.std.specs.Prelude.{◌≡◌, map, slice_index_or, Some, None, IfOk, MatchOption};
 ghost use Rattle.moo_dbtext_object.specs.Objects.{object_of};
 ghost use Rattle.moo_dbtext_record.specs.Sparing.{marks_of};
 ghost use Rattle.moo_dbtext_record.specs.Programs.{entry_at, source_of, row_of, table_of, blank_row, is_open_in, is_open, with_source_in, with_source};

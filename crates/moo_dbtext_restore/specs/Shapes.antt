@@ -1,5 +1,5 @@
 -- The shape of a world, whatever its sizes are.
-use Rattle.std.specs.Prelude.{◌≡◌, ℕ, List, false, map}
+use Rattle.std.specs.Prelude.{◌≡◌, ℕ, false, map}
 use Rattle.std.specs.List.{All}
 use Rattle.moo_world_object.specs.Cells.{key_of}
 use Rattle.moo_world_table.specs.World.{World, IsJoined, IsFilled, thing_of, definitions, has_clash}

@@ -3,7 +3,7 @@
 ghost use Rattle.std.specs.Prelude.{◌≡◌, ◌<◌, ◌^◌, ℕ, length, false, IfOk, slice_index_or};
 ghost use Rattle.moo_dbtext_restore.specs.First.{IsFirst};
 ghost use Rattle.moo_dbtext_restore.specs.Links.{IsPlace, IsSound, IsTreeOf, link_of};
-ghost use Rattle.moo_dbtext_restore.specs.Lists.{AreNodesOf, AreTakenBefore};
+ghost use Rattle.moo_dbtext_restore.specs.Lists.{AreNodesOf};
 
 use crate::first::least_of;
 use crate::link::{Link, above_in, is_place, link_of};

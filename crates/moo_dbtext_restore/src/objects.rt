@@ -1,6 +1,6 @@
 //! Objects made of their records, each with the cells for the definitions on it and its ancestors.
 
-ghost use Rattle.std.specs.Prelude.{◌≡◌, ◌++◌, ℕ, List, [], None, length, map, IfOk, OnOk, slice_index_or, slice_set};
+ghost use Rattle.std.specs.Prelude.{◌≡◌, ◌++◌, List, [], None, length, map, IfOk, OnOk, slice_index_or, slice_set};
 ghost use Rattle.std.specs.Option.{option_map, unwrap_or};
 ghost use Rattle.moo_value.specs.Compare.{folded};
 ghost use Rattle.moo_world_object.specs.Cells.{Key};

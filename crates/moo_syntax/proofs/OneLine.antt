@@ -2,7 +2,6 @@
 use Rattle.std.proofs.Common.{ℕ, zero, suc, ◌<◌, ◌≤◌, List, ◌≡◌, ◌⊎◌, inl, inr, refl, sym, ◌∙◌, ap, subst, take, drop, arith}
 use Rattle.std.proofs.lemmas.List.{take-take}
 use Rattle.moo_syntax_token.specs.declared.token.Token.{Token}
-use Rattle.moo_syntax_token.specs.declared.token.Spot.{Spot}
 use Rattle.moo_syntax_token.proofs.Readings.{one_reading}
 use Rattle.moo_syntax_grammar.specs.Tokens.{words}
 use Rattle.moo_syntax_grammar.specs.Rules.{loose}

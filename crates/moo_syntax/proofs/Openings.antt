@@ -1,5 +1,5 @@
 -- After each token that a reading takes, the loose grammar can bring it to an end.
-use Rattle.std.proofs.Common.{ℕ, List, [], ◌∷◌, ◌≡◌, refl, Bool, true, false, Option}
+use Rattle.std.proofs.Common.{ℕ, List, [], ◌≡◌, refl, Bool, true, false, Option}
 use Rattle.moo_syntax_token.specs.declared.sign.Sign.TheVariants as sign
 use Rattle.moo_syntax_token.specs.declared.keyword.Keyword.TheVariants as keyword
 use Rattle.moo_syntax_token.specs.declared.token.Token.{Token}

@@ -1,12 +1,12 @@
 -- If a reading gives up, a program by the loose grammar begins with the tokens before the place.
-use Rattle.std.proofs.Common.{ℕ, zero, suc, ◌+◌, ◌≤◌, ◌<◌, List, [], ◌∷◌, ◌≡◌, ◌⊎◌, inl, inr, refl, sym, ◌∙◌, ap, subst, Bool, true, false, Option, length, take as first, drop, length-drop, arith}
+use Rattle.std.proofs.Common.{ℕ, zero, suc, ◌+◌, ◌≤◌, ◌<◌, List, [], ◌∷◌, ◌≡◌, ◌⊎◌, inl, inr, refl, sym, ◌∙◌, ap, subst, Bool, true, false, length, take as first, drop, length-drop, arith}
 use Rattle.moo_syntax_token.specs.declared.token.Token.{Token}
 use Rattle.moo_syntax_ast.specs.Tree.{Block, no_statement}
 use Rattle.moo_syntax_grammar.specs.Tokens.{next_passes}
 use Rattle.moo_syntax_grammar.specs.Rules.{loose}
 use Rattle.moo_syntax_grammar.specs.Grammar
-use Rattle.moo_syntax_grammar.specs.Grammar.{Sort, Of, Kind, Derives, IsProgramBy, sort, statements, block, no_statements}
-use Rattle.moo_syntax_grammar.specs.Machine.{Reading, phrase, Reads, gives, takes, sees, misses, reads, Why, Fails, refuses, forbids, takes_fails, sees_fails, misses_fails, phrase_fails, then_fails}
+use Rattle.moo_syntax_grammar.specs.Grammar.{Sort, Of, Kind, Derives, sort, statements, block, no_statements}
+use Rattle.moo_syntax_grammar.specs.Machine.{Reading, Reads, Why, Fails, refuses, forbids, takes_fails, sees_fails, misses_fails, phrase_fails, then_fails}
 use Rattle.moo_syntax_grammar.specs.Predictive.{grammar}
 use Rattle.moo_syntax_grammar.proofs.Leads.{Fact, Leads}
 use Rattle.moo_syntax_grammar.proofs.Derived.{all_lead, led, derived}

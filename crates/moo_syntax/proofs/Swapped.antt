@@ -1,6 +1,6 @@
 -- The tokens of a phrase are one with the same tree before another rest. Braces with `?` pieces need an `=` after them. Nothing else depends on
 -- what comes after it.
-use Rattle.std.proofs.Common.{List, [], ◌∷◌, ◌++◌, ◌≡◌, refl, sym, subst, Bool, true, Option, Some, None}
+use Rattle.std.proofs.Common.{List, [], ◌∷◌, ◌++◌, ◌≡◌, refl, sym, subst, Bool, true}
 use Rattle.moo_syntax_token.specs.declared.sign.Sign.TheVariants as sign
 use Rattle.moo_syntax_token.specs.declared.keyword.Keyword.TheVariants as keyword
 use Rattle.moo_syntax_token.specs.declared.token.Token.{Token}

@@ -1,6 +1,6 @@
 //! A cursor over the tokens of a text.
 ghost use Rattle.moo_syntax_grammar.specs.Predictive.{begins_statement};
-ghost use Rattle.std.specs.Prelude.{◌≡◌, ℕ, ◌+◌, ◌≤◌, ◌<◌, ◌∷◌, Bool, true, false, drop, length};
+ghost use Rattle.std.specs.Prelude.{◌≡◌, ◌+◌, ◌≤◌, ◌<◌, ◌∷◌, true, false, drop, length};
 
 use crate::fault::Fault;
 use moo_syntax_ast::{Literal, Text};

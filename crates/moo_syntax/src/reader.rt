@@ -1,5 +1,5 @@
 //! The parser's entry points.
-ghost use Rattle.std.specs.Prelude.{◌≡◌, ◌≤◌, ◌+◌, length, drop, ℕ, List, IfOk, IfErr, MatchOption};
+ghost use Rattle.std.specs.Prelude.{◌≡◌, ◌≤◌, length, drop, ℕ, List, IfOk, IfErr, MatchOption};
 ghost use Rattle.moo_syntax_token.specs.Lexing.{IsReading};
 ghost use Rattle.moo_syntax_grammar.specs.Tokens.{words};
 ghost use Rattle.moo_syntax_ast.specs.View.{block};

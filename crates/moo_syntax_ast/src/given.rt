@@ -1,5 +1,5 @@
 //! The names of the variables that every frame has.
-ghost use Rattle.std.specs.Prelude.{◌≡◌, find};
+ghost use Rattle.std.specs.Prelude.{◌≡◌};
 ghost use Rattle.moo_syntax_ast.specs.Given.{given_name, given_slot, given_of, is_given, likely};
 
 /// A variable that every frame has ('Naming Values Within a Verb' of the LambdaMOO Programmer's Manual).

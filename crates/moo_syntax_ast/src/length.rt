@@ -1,7 +1,7 @@
 //! The length of an expression in the full listing, computed without writing it.
 //!
 //! Each function returns how many bytes of the line are left after a part, or `None` if the part does not fit.
-ghost use Rattle.std.specs.Prelude.{◌≡◌, ◌+◌, ◌<◌, Bool, count_by, length};
+ghost use Rattle.std.specs.Prelude.{◌≡◌, ◌+◌, ◌<◌, count_by, length};
 ghost use Rattle.std.specs.Fmt.{signed_decimal};
 ghost use Rattle.moo_syntax_ast.specs.View.{tree, items_of, codes_of};
 ghost use Rattle.moo_syntax_ast.specs.Listing.{binary_sign, is_compound, is_compound_base, constant_name, is_system_object};

@@ -15,7 +15,7 @@ use Rattle.moo_syntax_grammar.specs.Tokens.{is_sign, sign_operator, is_keyword, 
 use Rattle.moo_syntax_grammar.specs.Predictive.{is_closer, begins_expression, begins_statement}
 use Rattle.moo_syntax_grammar.specs.Rules.{Rules, has_loop, may_jump}
 use Rattle.moo_syntax_grammar.specs.Grammar
-use Rattle.moo_syntax_grammar.specs.Grammar.{Sort, Of, Kind, Derives, sort}
+use Rattle.moo_syntax_grammar.specs.Grammar.{Of, Kind, Derives, sort}
 use Rattle.moo_syntax_ast.specs.Tree.{Expr, Arms}
 
 -- How loose a phrase is that the token can continue if it follows.

@@ -15,7 +15,7 @@ use Rattle.moo_syntax_ast.specs.Tree.{Expr, Stmt}
 use Rattle.moo_syntax_grammar.specs.declared.level.Level.TheVariants.{Logic, Relation, Sum, Product}
 use Rattle.moo_syntax_grammar.specs.Rules.{Rules, loose, may_assign, may_jump}
 use Rattle.moo_syntax_grammar.specs.Grammar
-use Rattle.moo_syntax_grammar.specs.Grammar.{Sort, Of, Kind, Derives, sort, joined, negated, text, system_object, has_optional}
+use Rattle.moo_syntax_grammar.specs.Grammar.{Sort, Kind, Derives, sort, joined, negated, text, system_object, has_optional}
 use Rattle.moo_syntax_grammar.specs.Machine.{Reading, give}
 use Rattle.moo_syntax_grammar.specs.Predictive.{grammar, mark, behind_brace, expect, loop_at, jump}
 use Rattle.moo_syntax_grammar.proofs.Leads.{Fact}

@@ -8,7 +8,7 @@ use Rattle.moo_syntax_grammar.specs.declared.level.Operator.{Operator}
 use Rattle.moo_syntax_grammar.specs.Tokens.{is_bad, literal_at, operator_at}
 use Rattle.moo_syntax_grammar.specs.Rules.{Rules}
 use Rattle.moo_syntax_grammar.specs.Grammar
-use Rattle.moo_syntax_grammar.specs.Grammar.{Of, Kind, Derives, sort, IsProgram}
+use Rattle.moo_syntax_grammar.specs.Grammar.{Of, Kind, Derives, sort}
 
 abbrev pub AllSound : List Token → Type 0
 AllSound [] = Unit {0}

@@ -30,7 +30,7 @@ use Rattle.moo_syntax_grammar.specs.declared.level.Operator.TheVariants as opera
 use Rattle.moo_syntax_grammar.specs.Tokens.{literal_at, operator_at, sign_operator}
 use Rattle.moo_syntax_grammar.specs.Rules.{Rules, may_assign}
 use Rattle.moo_syntax_grammar.specs.Grammar
-use Rattle.moo_syntax_grammar.specs.Grammar.{Kind, Of, sort, Derives, has_optional, text, system_object}
+use Rattle.moo_syntax_grammar.specs.Grammar.{Kind, Of, sort, Derives, text, system_object}
 use Rattle.moo_unparse.proofs.Names.{constant_is, system_is}
 use Rattle.moo_unparse.proofs.Phrases.{IsPart, chain_then, looser, bare_rank, rank_most, level_part, left_chain, right_operand, at_level}
 use Rattle.moo_unparse.proofs.Scatters.{ends_in_scatter, some_scatter, scatter_in_codes, If}

@@ -7,7 +7,7 @@ use Rattle.moo_syntax_token.specs.declared.token.Token.{Token}
 use Rattle.moo_syntax_ast.specs.Tree.{Block}
 use Rattle.moo_syntax_grammar.specs.Rules.{Rules}
 use Rattle.moo_syntax_grammar.specs.Grammar
-use Rattle.moo_syntax_grammar.specs.Grammar.{Kind, Of, sort, Derives, has_optional, text, system_object}
+use Rattle.moo_syntax_grammar.specs.Grammar.{Kind, Of, sort, Derives}
 use Rattle.moo_unparse.proofs.Scatters.{none, none_at_all, neither, operator_is_no_assign, joined_stands, stands}
 use Rattle.moo_unparse.proofs.Listed.{spell_items, IsSoundToken}
 use Rattle.moo_unparse.specs.declared.form.Parentheses.{Parentheses}

@@ -17,7 +17,7 @@ use Rattle.moo_syntax_token.specs.declared.token.Token.TheVariants as token
 use Rattle.moo_syntax_token.specs.declared.token.Spot.{Spot}
 use Rattle.moo_value.specs.Digits.{is_digit, number, wrapped}
 use Rattle.moo_syntax_token.specs.Tokens.{begins_name, continues_name, begins_fraction, integer_at, token_at}
-use Rattle.moo_syntax_token.specs.Lexing.{begins_comment, Lexes, outside, complete, text_end, line_end}
+use Rattle.moo_syntax_token.specs.Lexing.{begins_comment, Lexes, outside, complete}
 use Rattle.moo_syntax_token.specs.Lexing
 use Rattle.moo_syntax_token.specs.Spelling.{spell as spelling, HasSpelling, joins, joins_sign, begins_with, sign_text, is_word, is_name}
 use Rattle.moo_syntax_token.proofs.SpelledWords.{error_is_word, name_is_word, both, front_length}
@@ -32,7 +32,7 @@ use Rattle.moo_syntax_ast.specs.declared.operator.LogicOperator.TheVariants as l
 use Rattle.moo_syntax_ast.specs.declared.tree.Literal.{Literal}
 use Rattle.moo_syntax_ast.specs.declared.tree.Literal.TheVariants as literal
 use Rattle.moo_syntax_ast.specs.Tree
-use Rattle.moo_syntax_ast.specs.Tree.{Expr, Items, Codes, Stmt, Block, literal_value}
+use Rattle.moo_syntax_ast.specs.Tree.{Expr, Items, Codes, literal_value}
 use Rattle.moo_syntax_ast.specs.Listing
 use Rattle.moo_syntax_ast.specs.Listing.{is_compound, is_compound_base, in_parentheses, constant_name, is_system_object, binary_sign, logic_sign}
 use Rattle.moo_unparse.specs.declared.form.Parentheses.{Parentheses}

@@ -4,7 +4,7 @@ ghost use Rattle.moo_syntax_token.specs.Spelling.{sign_text};
 ghost use Rattle.moo_syntax_ast.specs.Tree.{binary, logic, conditional, index, range, list, verb_call, call, assign, catch, catch_or};
 ghost use Rattle.moo_syntax_ast.specs.View.{tree, items_of, codes_of};
 ghost use Rattle.moo_syntax_ast.specs.Listing.{is_compound, is_compound_base, in_parentheses, constant_name, is_system_object, selected};
-ghost use Rattle.moo_unparse.specs.Parts.{needs, operator_part, left_of, right_of};
+ghost use Rattle.moo_unparse.specs.Parts.{needs, operator_part};
 ghost use Rattle.moo_unparse.specs.Listings.{listed, listed_items, listed_codes};
 ghost use Rattle.moo_unparse.specs.Items.{listed_item};
 

@@ -1,6 +1,5 @@
 //! The text of operators.
 ghost use Rattle.std.specs.Prelude.{◌≡◌, ◌++◌, OnOk};
-ghost use Rattle.moo_syntax_token.specs.Spelling.{sign_text};
 ghost use Rattle.moo_syntax_ast.specs.Listing.{unary_sign, binary_sign, logic_sign};
 
 use crate::line::Line;

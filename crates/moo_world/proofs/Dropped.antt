@@ -1,22 +1,20 @@
 -- A property that is set twice has the later value.
-use Rattle.std.proofs.Common.{◌≡◌, ℕ, ℤ, pos, negsuc, List, [], ◌∷◌, Option, Some, None, Bool, true, false, refl, sym, ◌∙◌, ap, ⊎_elim, is_some, get_or, set, length, ltb, cond, IsSome, set-set, not, suc, ◌+◌}
-use Rattle.std.specs.List.{find, position, position_or_len}
+use Rattle.std.proofs.Common.{◌≡◌, ℕ, ℤ, pos, negsuc, List, [], ◌∷◌, Option, Some, None, refl, sym, ◌∙◌, ap, ⊎_elim, is_some, set, length, cond, IsSome, set-set, not, suc, ◌+◌}
+use Rattle.std.specs.List.{position, position_or_len}
 use Rattle.std.specs.Option.{option_map, unwrap_or, option_and_then}
-use Rattle.std.proofs.lemmas.Bool.{cases_Bool, cases_eq, false≢true}
+use Rattle.std.proofs.lemmas.Bool.{cases_Bool, cases_eq}
 use Rattle.std.proofs.lemmas.List.{get_or-set_same, get_or-set_other}
 use Rattle.moo_value.specs.Compare.{folded}
 use Rattle.moo_value.specs.Tree.{Tree}
-use Rattle.moo_world_object.specs.BuiltIn.{built_in_of}
 use Rattle.moo_world_object.specs.Names.{same_name}
 use Rattle.moo_world_object.specs.Cells.{Cell, is_named, cell_named, with_value}
 use Rattle.moo_world_object.specs.Objects.{Object}
 use Rattle.moo_world_table.specs.World.{World, nothing, object_of, thing_of, IsWellFormed}
-use Rattle.moo_world_table.specs.Changes.{changed_on, with_object, with_value_of}
+use Rattle.moo_world_table.specs.Changes.{with_object, with_value_of}
 use Rattle.moo_world_table.proofs.Changing.{valid_within}
 use Rattle.moo_world.specs.Calls.{number_of}
-use Rattle.moo_world.specs.EditCalls.{world_set}
 use Rattle.moo_world.specs.Rights.{is_wizard, may_write_cell}
-use Rattle.moo_world.specs.ByRight.{IsWritable, IsDropped, set_by_raises}
+use Rattle.moo_world.specs.ByRight.{IsWritable, IsDropped}
 use Rattle.moo_world.proofs.ByRight.{writable_free, writable_sets}
 
 -- a value changes no name

@@ -1,12 +1,11 @@
 //! Properties read and set with the rights of a programmer. The cell that decides the right is the cell that is read
 //! or set, so it is looked up once.
 
-ghost use Rattle.std.specs.Prelude.{◌≡◌, IsSome, IfSome, IsTrue, IsFalse, Some, is_some, true};
+ghost use Rattle.std.specs.Prelude.{◌≡◌, IsSome, IfSome, IsTrue, IsFalse, Some, true};
 ghost use Rattle.std.specs.Option.{option_map, option_copied};
 ghost use Rattle.std.specs.List.{position};
 ghost use Rattle.moo_value.specs.Compare.{folded};
 ghost use Rattle.moo_value.specs.View.{tree};
-ghost use Rattle.moo_world_object.specs.BuiltIn.{built_in_of};
 ghost use Rattle.moo_world_object.specs.Cells.{cell_named, is_named};
 ghost use Rattle.moo_world_table.specs.World.{object_of, thing_of};
 ghost use Rattle.moo_world_table.specs.Properties.{read};

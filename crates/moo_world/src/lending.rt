@@ -1,9 +1,8 @@
 //! Borrowed views of a world: its objects, and the trees that join them. Nothing here allocates.
 
-ghost use Rattle.std.specs.Prelude.{◌≡◌, ◌<◌, List, ℕ, IsSome, IfSome};
+ghost use Rattle.std.specs.Prelude.{◌≡◌, ◌<◌, IsSome, IfSome};
 ghost use Rattle.std.specs.Option.{option_copied, option_map};
 ghost use Rattle.std.specs.List.{All};
-ghost use Rattle.std.specs.Borrow.{Bor};
 ghost use Rattle.moo_world_tree.specs.Forest.{above_of, below_of};
 ghost use Rattle.moo_world_table.specs.World.{object_of, most};
 ghost use Rattle.moo_world.specs.NamedProperties.{number_of_place};

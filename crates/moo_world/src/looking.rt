@@ -2,7 +2,6 @@
 
 ghost use Rattle.std.specs.Prelude.{◌≡◌, ◌<◌, Some, IsSome, IfSome};
 ghost use Rattle.std.specs.Option.{option_map, option_and_then};
-ghost use Rattle.moo_world_tree.specs.Forest.{ancestors};
 ghost use Rattle.moo_world_table.specs.Verbs.{verb_found, verb_at_place};
 ghost use Rattle.moo_world.specs.VerbCalls.{verb_place, verb_there};
 ghost use Rattle.moo_world_object.specs.declared.verb.Need.TheVariants as need;

@@ -1,6 +1,6 @@
 //! The players.
 
-ghost use Rattle.std.specs.Prelude.{◌≡◌, not, IsSome, Some, false};
+ghost use Rattle.std.specs.Prelude.{◌≡◌, IsSome, Some, false};
 ghost use Rattle.moo_world_table.specs.World.{object_of};
 ghost use Rattle.moo_world.specs.Calls.{Changes, Tests, number_of, TakesNoMemory, RaisesFirst};
 ghost use Rattle.moo_world_table.specs.Players.{after_set_player};

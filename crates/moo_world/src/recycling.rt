@@ -1,6 +1,6 @@
 //! Recycles objects.
 
-ghost use Rattle.std.specs.Prelude.{◌≡◌, IsSome, None};
+ghost use Rattle.std.specs.Prelude.{IsSome, None};
 ghost use Rattle.moo_world_table.specs.World.{object_of};
 ghost use Rattle.moo_world_table.specs.Recycling.{after_recycle};
 ghost use Rattle.moo_world.specs.Calls.{Changes, Tests, number_of, TakesNoMemory, RaisesFirst};

@@ -1,9 +1,9 @@
 //! The rights of programmers: wizards may do everything, others may act on what they own or what is open to all.
 
-ghost use Rattle.std.specs.Prelude.{◌≡◌, is_some, not, Some};
-ghost use Rattle.std.specs.Option.{option_copied, option_map};
-ghost use Rattle.moo_world_object.specs.Cells.{Cell, cell_named};
-ghost use Rattle.moo_world.specs.Numbered.{verb_numbered, cell_numbered};
+ghost use Rattle.std.specs.Prelude.{◌≡◌, is_some, Some};
+ghost use Rattle.std.specs.Option.{option_copied};
+ghost use Rattle.moo_world_object.specs.Cells.{cell_named};
+ghost use Rattle.moo_world.specs.Numbered.{verb_numbered};
 ghost use Rattle.moo_world.specs.Rights.{is_wizard, controls, may_own, may_read_object, may_write_object, may_inherit_from, may_read_this_verb, may_write_this_verb, may_read_cell, may_write_cell, may_set_built_in, may_read_property, may_write_property, may};
 
 use crate::World;

@@ -1,6 +1,6 @@
 //! Sets properties by their names, the built-in ones too.
 
-ghost use Rattle.std.specs.Prelude.{◌≡◌, IsSome};
+ghost use Rattle.std.specs.Prelude.{IsSome};
 ghost use Rattle.moo_value.specs.Compare.{folded};
 ghost use Rattle.moo_value.specs.View.{tree};
 ghost use Rattle.moo_world_object.specs.BuiltIn.{built_in_of};

@@ -1,6 +1,5 @@
 //! The match of a name against the names of a verb.
 ghost use Rattle.std.specs.Prelude.{◌≡◌, ◌↔◌, IsTrue, true, position, ◌&&◌};
-ghost use Rattle.std.specs.List.{list_any};
 ghost use Rattle.moo_world_object.specs.Patterns.{EndsInStar, is_star, least, fits, is_blank, is_word, is_mark, has_mark, has_word, fits_names};
 
 const STAR: u8 = b'*';

@@ -1,5 +1,5 @@
 //! The argument specifiers of a verb, which select the commands that it answers.
-ghost use Rattle.std.specs.Prelude.{◌≡◌, ◌≤◌, IfSome, IfNone, ◌≢◌, ◌<ℤ◌, negsuc, pos, ◌⊎◌};
+ghost use Rattle.std.specs.Prelude.{◌≡◌, ◌≤◌, IfSome, IfNone, ◌<ℤ◌, negsuc, pos, ◌⊎◌};
 
 /// The direct or indirect object that a command needs for a verb.
 #[derive(Clone, Copy, Debug, PartialEq, Eq)]

@@ -1,7 +1,7 @@
 //! Cells by names that are literals in a program. The search first tries the distance from the end of the row at which
 //! the name was last found. That distance is the same on all objects that have the property from one definition.
 
-ghost use Rattle.std.specs.Prelude.{◌≡◌, ◌<◌, ◌∷◌, ℕ, Some, IfSome, false, length, map, slice_get};
+ghost use Rattle.std.specs.Prelude.{◌≡◌, ◌<◌, ◌∷◌, Some, IfSome, false, length, map, slice_get};
 ghost use Rattle.std.specs.Option.{option_map, option_copied};
 ghost use Rattle.std.specs.List.{filter_map, position};
 ghost use Rattle.moo_value.specs.Compare.{folded};

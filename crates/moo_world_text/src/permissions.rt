@@ -1,6 +1,5 @@
 //! Permissions as letters: one for each that is granted, in a fixed order.
 ghost use Rattle.std.specs.Prelude.{◌≡◌, IfOk};
-ghost use Rattle.std.specs.List.{list_any};
 ghost use Rattle.std.specs.Char.{to_ascii_lowercase};
 ghost use Rattle.moo_world_text.specs.Permissions.{marked, prop_perms_text, verb_perms_text, is_letter, has_letter, is_one_of, has_only, prop_perms_of, verb_perms_of};
 

@@ -1,6 +1,6 @@
 //! The texts of object and preposition specifiers.
 ghost use Rattle.std.specs.Prelude.{◌≡◌, ◌||◌};
-ghost use Rattle.std.specs.List.{list_any, find, slice_split};
+ghost use Rattle.std.specs.List.{find};
 ghost use Rattle.moo_world_text.specs.Specifiers.{same_text, object_specifier_text, object_specifier_of, is_slash, preposition_text, has_form, is_text_of, preposition_of, preposition_specifier_text, preposition_specifier_of};
 
 use moo_world_object::{ObjectSpecifier, Preposition, PrepositionSpecifier, same_name};

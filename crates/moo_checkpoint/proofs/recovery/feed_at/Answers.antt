@@ -1,4 +1,4 @@
-use Rattle.std.proofs.Common.{◌+◌, ◌≤◌, ◌++◌, List, ℕ, length, take, sym, subst}
+use Rattle.std.proofs.Common.{◌+◌, ◌≤◌, List, ℕ, length, take, sym, subst}
 use Rattle.std.proofs.lemmas.Result.{err_from_is_err_and}
 use Rattle.moo_dbtext_read.specs.Feeding.{HasFed}
 use Rattle.moo_dbtext_read.specs.Loading.{IsRefusedFrom}

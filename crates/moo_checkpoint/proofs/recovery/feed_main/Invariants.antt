@@ -1,4 +1,4 @@
-use Rattle.std.proofs.Common.{◌≡◌, ℕ, ◌-◌, ◌<◌, ◌≤◌, ◌^◌, [], length, take}
+use Rattle.std.proofs.Common.{◌≡◌, ◌-◌, ◌<◌, ◌≤◌, ◌^◌, [], length, take}
 use Rattle.moo_dbtext_read.specs.Feeding.{HasFed}
 use Rattle.moo_disk.specs.Disk.{ReadsBelow}
 use Rattle.moo_checkpoint.specs.Recovering.{Keeps}

@@ -1,4 +1,4 @@
-use Rattle.std.proofs.Common.{rules, ◌≡◌, ◌≢◌, ◌++◌, [], ◌∷◌, sym, ◌∙◌, ap, arith}
+use Rattle.std.proofs.Common.{rules, ◌≡◌, ◌≢◌, ◌++◌, [], ◌∷◌, sym, ◌∙◌, ap}
 use Rattle.moo_cli_script.specs.Lines.{without_return}
 use Rattle.moo_cli_script.proofs.Cutting.{not_returned, nothing_returned, returned}
 use Rattle.moo_cli_script.proofs.line.without_return.Goals as goal

@@ -1,4 +1,3 @@
-use Rattle.std.proofs.Common.{◌≡◌}
 use Rattle.std.proofs.lemmas.List.Filters.{dedup_is}
 use Rattle.moo_cli_sockets.proofs.Rising.{sorted_keeps, sorted_rises}
 use Rattle.moo_cli_sockets.proofs.numbers.sort_numbers.Goals as goal

@@ -1,4 +1,4 @@
-use Rattle.std.proofs.Common.{ℕ, ◌<◌, ◌≤◌, take, count_by}
+use Rattle.std.proofs.Common.{◌<◌, ◌≤◌, take, count_by}
 use Rattle.moo_cli_sockets.specs.Waiting.{is_end}
 use Rattle.moo_cli_sockets.proofs.piece.piece_length.Given as goal
 

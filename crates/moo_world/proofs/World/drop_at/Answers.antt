@@ -1,7 +1,7 @@
-use Rattle.std.proofs.Common.{rules, sym, ◌≡◌, ◌∙◌, ap, subst, Some, IsSome, refl, pos}
+use Rattle.std.proofs.Common.{sym, ◌≡◌, subst, Some, IsSome, refl, pos}
 use Rattle.moo_value.specs.Compare.{folded}
 use Rattle.moo_value.specs.Tree.{integer}
-use Rattle.moo_world_table.specs.World.{World, object_of, thing_of, IsCounted, IsWellFormed}
+use Rattle.moo_world_table.specs.World.{World, object_of, thing_of}
 use Rattle.moo_world_table.specs.Changes.{with_object, with_value_of}
 use Rattle.moo_world_table.proofs.Single.{object_kept}
 use Rattle.moo_world_table.proofs.ValueChanges.{value_kept}

@@ -1,4 +1,4 @@
-use Rattle.std.proofs.Common.{◌≡◌, ℕ, List, inr, refl, subst}
+use Rattle.std.proofs.Common.{ℕ, List, inr, refl, subst}
 use Rattle.moo_cli_web_frames.specs.Channels.{Loads}
 use Rattle.moo_cli_sockets.proofs.socket.Socket.load.Goals as goal
 

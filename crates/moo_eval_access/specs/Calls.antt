@@ -37,8 +37,8 @@ abbrev pub allowed_world : World → ℤ → ℤ → List ℕ → Tree → Resul
 allowed_world w programmer o name v =
     if may_write_property w programmer o name then Ok (world_set w (number_of w.objects o) (folded name) v) else Err Permission
 
--- The world with a property set: the object has to be valid and to have it, a built-in one has to take the value, and
--- the programmer needs the right to set it.
+-- The world with a property set. The object has to be valid and to have it, and a built-in one has to take the value.
+-- Then the programmer needs the right to set it.
 abbrev pub write_property : World → ℤ → Tree → Tree → Tree → Result World ErrorCode
 write_property w programmer (object o) (string name) v =
     unless_raised (set_raises w (number_of w.objects o) (folded name) v) (allowed_world w programmer o name v)
@@ -49,7 +49,7 @@ abbrev pub write_result : World → ℤ → Tree → Tree → Result Tree ErrorC
 write_result w programmer base name (Ok v) = write_property w programmer base name v
 write_result w programmer base name (Err code) = Err code
 
--- Setting the property gives one world before and after, to each value. If that is refused, nothing has changed.
+-- Setting the property to any value gives one result in both worlds. If the old world refuses it, the worlds are equal.
 pub record IsSetAlike (old new : World) (programmer : ℤ) (base name : Tree) : Type 0 where
   pub sets : (v : Tree) → write_property new programmer base name v ≡ write_property old programmer base name v
   pub refused : (v : Tree) (code : ErrorCode) → write_property old programmer base name v ≡ Err code → new ≡ old

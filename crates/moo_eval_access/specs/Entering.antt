@@ -50,7 +50,7 @@ most_frames = 50
 abbrev pub has_frame_left : List TraceEntry → Bool
 has_frame_left callers = nat_lt (frames callers) most_frames
 
--- the object that a variable holds, if it holds one
+-- the object that a variable holds, or the other one if it holds none
 abbrev pub object_or : ℤ → Option Tree → ℤ
 object_or other None = other
 object_or other (Some (integer i)) = other
@@ -63,8 +63,8 @@ object_or other (Some (list es)) = other
 abbrev pub player_of_call : World → Running → (List ℕ → Option Tree) → ℤ → ℤ
 player_of_call w f variables programmer = if is_wizard w programmer then object_or f.player (variables (codes "player")) else f.player
 
--- The frame of a verb, with the object that has it: its owner is the programmer, and it has the d bit of its verb. A verb
--- without a program runs as one with an empty program.
+-- The frame of a verb, with the object that has it: its owner is the programmer, and it has the d bit of its verb. A
+-- verb without a program runs as one with an empty program.
 abbrev pub verb_frame : ℤ × Verb → Call → Frame
 verb_frame found call = record {
   program = unwrap_or found.1.program no_statement;
@@ -123,8 +123,8 @@ abbrev pub after_list : {A : Type 0} → Result Tree ErrorCode → Result A Erro
 after_list (Ok args) r = r
 after_list (Err code) r = Err code
 
--- What a call of a verb begins with: its arguments have to be a list within the limits, the object valid, with a verb of
--- that name that can be executed, and a frame has to be left.
+-- What a call of a verb begins with. Its arguments have to be a list within the limits. The object has to be valid and
+-- to have an executable verb of that name, and a frame has to be left.
 abbrev pub entered_verb : World → Context → (List ℕ → Option Tree) → ℤ → Tree → Tree → List Tree → Result Entered ErrorCode
 entered_verb w c variables programmer base name vs = after_list (made_list vs) (entered_by w c variables programmer base name vs)
 

@@ -70,7 +70,7 @@ root_value w programmer (named x) variables = or_error (variables (folded x)) Va
 root_value w programmer (owned base name) variables = read_property w programmer base name
 root_value w programmer (scattered items) variables = Err TypeMismatch
 
--- the value to which a way leads, which is the next container
+-- the value at the end of a path, which is the next container
 abbrev pub held : World → ℤ → Root → List Step → (List ℕ → Option Tree) → Result Tree ErrorCode
 held w programmer root [] variables = root_value w programmer root variables
 held w programmer root (step ∷ steps) variables = part_at step.container step.places

@@ -12,7 +12,8 @@ use crate::target::{Places, Step};
 use moo_builtin_operator::before_place;
 use moo_value::{DEPTH_LIMIT, MooList, Value, WEIGHT_LIMIT};
 
-// Is true if `rebuilt` raises nothing at the end of these steps for any value of at most this weight and this depth.
+// Is true only if `rebuilt` raises nothing for any value of at most this weight and this depth at the end of these
+// steps.
 pub(crate) fn are_taken(steps: &[Step], heaviest: u32, deepest: u32) -> bool
     ensures { IsTrue result → (v : Tree) → IsWithin heaviest deepest v → IsTrue (is_ok (rebuilt (steps_of steps.now) (Ok v))) }
 {
@@ -29,8 +30,8 @@ pub(crate) fn are_taken(steps: &[Step], heaviest: u32, deepest: u32) -> bool
 }
 
 impl Step {
-    // Returns the greatest weight and depth of the container with a value of at most this weight and this depth at its
-    // place. `None` if they may be past the limits, or if the place is none of an element of a list.
+    // Returns bounds of the weight and depth of the container with a value of at most this weight and this depth at its
+    // place. `None` if they are past the limits, or if the step isn't to an element of a list.
     fn bounds(&self, heaviest: u32, deepest: u32) -> Option<(u32, u32)>
         ensures { IfSome result (λ b. (v : Tree) → IsWithin heaviest deepest v → (w : Tree) × (with_part (tree self.now.container) (places_of self.now.places) v ≡ Ok w) × IsWithin b.0 b.1 w) }
     {
@@ -54,8 +55,8 @@ fn element_bounds(list: &MooList, place: &Value, heaviest: u32, deepest: u32) ->
     list_bounds(list, index, heaviest, deepest)
 }
 
-// Returns the greatest weight and depth of a list with a value of at most this weight and this depth at `index`. `None` if
-// they may be past the limits.
+// Returns bounds of the weight and depth of a list with a value of at most this weight and this depth at `index`.
+// `None` if they are past the limits.
 fn list_bounds(list: &MooList, index: usize, heaviest: u32, deepest: u32) -> Option<(u32, u32)>
     requires { index < length list.now }
     ensures { IfSome result (λ b. (v : Tree) → IsWithin heaviest deepest v → IsWithin b.0 b.1 (list_of (slice_set list.now index v)) × IsWithinLimits (list_of (slice_set list.now index v))) }

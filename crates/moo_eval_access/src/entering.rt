@@ -28,7 +28,7 @@ use std::alloc::{AllocError, Global};
 /// The largest number of frames of a task.
 pub const MOST_FRAMES: usize = 50;
 
-/// Holds a verb that was entered: its frame and its callers, and the values that the names have which every frame has.
+/// Holds a verb that was entered: its frame and its callers, and the values of the names that every frame has.
 #[derive(Drop)]
 pub struct Called<'a> {
     pub stack: CallStack<'a>,
@@ -42,8 +42,8 @@ pub struct Found<'a> {
     pub verb: &'a Verb,
 }
 
-/// Holds what a frame receives besides its verb: the object it is called on, the caller, the name, and the command.
-/// Objects are given by their numbers, #-1 for none; each field is that of `Frame`.
+/// Holds what a frame receives besides its verb: its `this`, the caller, the player, the name, the command and the
+/// arguments. Objects are given by their numbers, #-1 for none; each field is that of `Frame`.
 #[derive(Drop)]
 pub struct Call {
     pub this: i32,
@@ -126,7 +126,7 @@ fn enter_named<'a>(
 }
 
 /// Enters the verb of a name that is found from one object on, to run on another object, with its owner's rights.
-/// E_QUOTA for a list of arguments past the limits, E_INVIND if the object where the search starts isn't valid,
+/// E_QUOTA for a list of arguments past the limits, E_INVIND if the object where the search starts isn't valid.
 /// E_VERBNF if there is no such executable verb, E_MAXREC if no frame is left.
 pub fn enter_verb_from<'a>(
     alloc: Global,
@@ -217,8 +217,8 @@ fn nothing_found(world: &World, this: i32) -> ErrorCode
     }
 }
 
-/// Returns the executable verb that a call of this name on an object runs: the first match among its own verbs, and
-/// then among its ancestors'. An object that isn't valid has none.
+/// Returns the executable verb that a call of this name on an object runs. It is the first match among its own verbs,
+/// and then among those of its ancestors. An object that isn't valid has none.
 pub fn called_verb<'a>(world: &'a World, object: i32, name: &[u8]) -> Option<Found<'a>>
     ensures { option_map found_of result ≡ called_verb world.now object name.now }
 {
@@ -303,8 +303,8 @@ fn called_frame(
     })
 }
 
-/// Returns the frame of a verb that was found: its owner is the programmer, and it has the d bit and the program of
-/// its verb. Err is lack of memory.
+/// Returns the frame of a verb that was found. The verb's owner is the programmer, and the frame has the d bit and the
+/// program of the verb. Err is out of memory.
 #[inline(always)]
 pub fn verb_frame(alloc: Global, found: Found<'_>, call: Call) -> Result<Frame, AllocError>
     ensures { IfOk result (λ frame. frame ≡ verb_frame (found_of found.entry) call) }

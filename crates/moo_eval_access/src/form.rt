@@ -9,8 +9,8 @@ use moo_syntax_ast::{Name, Text};
 use moo_syntax_function::Function;
 use moo_syntax_lower::{FunctionName, Node, NodeItem};
 
-/// Returns the variable and the other items, if a node is a list that begins with the elements of a variable. It
-/// declines `{@x, @x, ..}`, which is made in one step.
+/// Returns the variable and the other items, if a node is a list that begins with the elements of a variable. Returns
+/// `None` for `{@x, @x, ..}`, which the evaluator makes in one step.
 #[inline(always)]
 pub fn as_longer(node: &Node) -> Option<(&Name, &[NodeItem])>
     ensures { IfSome result (λ p. source node.now ≡ list (splice (variable p.0.now) (source_items p.1.now))) }
@@ -29,7 +29,7 @@ pub fn as_longer(node: &Node) -> Option<(&Name, &[NodeItem])>
     Some((name, more))
 }
 
-// Is true if the first item is a splice of this variable.
+// Returns whether the first item is a splice of this variable.
 fn is_repeated(name: &Name, items: &[NodeItem]) -> bool {
     match items {
         [NodeItem::Splice(node), ..] => is_variable(name, node),
@@ -54,7 +54,7 @@ fn as_variable(node: &Node) -> Option<&Name>
     }
 }
 
-/// Returns the literal string that a node is.
+/// Returns the literal string that a node is, if it is one.
 #[inline(always)]
 pub fn as_text(node: &Node) -> Option<&Text>
     ensures { IfSome result (λ text. source node.now ≡ literal (Str text.now)) }
@@ -65,8 +65,8 @@ pub fn as_text(node: &Node) -> Option<&Text>
     }
 }
 
-/// Is true for a list of two items, one of them a property's value that is spliced in. Is true too for a call of two
-/// arguments, if the first is a property's value.
+/// Is true for a list of two items, one of them a property's value that is spliced in. Is true too for a call of a
+/// built-in function with two arguments, if the first is a property's value.
 #[inline(always)]
 pub fn is_of_property(node: &Node) -> bool {
     match node {
@@ -87,7 +87,7 @@ fn is_property(node: &Node) -> bool {
     matches!(node, Node::Property(_, _))
 }
 
-/// Returns the parts of `{@list, last}`.
+/// Returns the parts of `{@list, last}`, or `None` for a node of another form.
 #[inline(always)]
 pub fn as_appended(node: &Node) -> Option<(&Node, &Node)>
     ensures { IfSome result (λ p. source node.now ≡ list (splice (source p.0.now) (element (source p.1.now) no_items))) }
@@ -101,7 +101,7 @@ pub fn as_appended(node: &Node) -> Option<(&Node, &Node)>
     Some((list, last))
 }
 
-/// Returns the parts of `{first, @list}`.
+/// Returns the parts of `{first, @list}`, or `None` for a node of another form.
 #[inline(always)]
 pub fn as_prepended(node: &Node) -> Option<(&Node, &Node)>
     ensures { IfSome result (λ p. source node.now ≡ list (element (source p.0.now) (splice (source p.1.now) no_items))) }
@@ -115,7 +115,7 @@ pub fn as_prepended(node: &Node) -> Option<(&Node, &Node)>
     Some((first, list))
 }
 
-/// Returns the name and the arguments of a call of a built-in function.
+/// Returns the name and the arguments, if a node is a call of a built-in function.
 #[inline(always)]
 pub fn as_call(node: &Node) -> Option<(&FunctionName, &[NodeItem])>
     ensures { IfSome result (λ p. source node.now ≡ call p.0.now (source_items p.1.now)) }

@@ -1,4 +1,4 @@
-//! Lists and strings that grow in the variable that holds them, as by `l = {@l, x};`, `l = {x, @l};` and `s = s + x;`.
+//! Lists and strings that grow in the variable that holds them, as by `l = {@l, x};` and `s = s + x;`.
 ghost use Rattle.std.specs.Prelude.{◌≡◌, ◌++◌, ◌∷◌, [], Ok, Err, IfErr, OnOk};
 ghost use Rattle.moo_value.specs.Tree.{Tree, list_of, string};
 ghost use Rattle.moo_value.specs.View.{tree};
@@ -17,7 +17,8 @@ use moo_value::{ErrorCode, MooList, MooStr, Value};
 use std::alloc::Global;
 
 /// Sets a variable to the list with the value after its elements. Past the limits that is E_QUOTA; the variable then
-/// keeps its value. The variable gives up what it holds first, so a list that nothing else shares grows in place.
+/// keeps its value. The variable is set to 0 first, so a list that nothing else shares grows in place. If memory runs
+/// out, it may stay 0.
 pub fn set_longer(
     alloc: Global,
     variables: &mut Variables,
@@ -39,8 +40,8 @@ pub fn set_longer(
 }
 
 /// Sets a variable to the list with the value before its elements. Past the limits that is E_QUOTA; the variable then
-/// keeps its value. The variable gives up what it holds first, so a list that nothing else shares takes the value in
-/// place.
+/// keeps its value. The variable is set to 0 first, so a list that nothing else shares takes the value in place. If
+/// memory runs out, it may stay 0.
 pub fn set_prepended(
     alloc: Global,
     variables: &mut Variables,
@@ -61,8 +62,8 @@ pub fn set_prepended(
     Ok(())
 }
 
-/// Sets a variable to the sum of two values, or gives the error of the sum; the variable then keeps its value. A string
-/// that nothing but the variable and `first` share grows in place.
+/// Sets a variable to the sum of two values, or returns the error of the sum; the variable then keeps its value. A
+/// string that nothing but the variable and `first` shares grows in place. If memory runs out, the variable may be 0.
 pub fn set_sum(
     alloc: Global,
     variables: &mut Variables,
@@ -85,7 +86,7 @@ pub fn set_sum(
 }
 
 // Sets a variable to the string with another after its bytes. Past the limit that is E_QUOTA; the variable then keeps
-// its value. The variable gives up what it holds first, so a string that nothing else shares grows in place.
+// its value. The variable is set to 0 first, so a string that nothing else shares grows in place.
 fn set_extended(
     alloc: Global,
     variables: &mut Variables,

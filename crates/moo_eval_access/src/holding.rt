@@ -15,8 +15,8 @@ use std::mem;
 // The greatest depth of a container for which another value takes its place.
 const MOST_DEPTH: u32 = 3;
 
-// Has each container let go of the next one, if all take their new parts with this value at the end of the steps. So a
-// list that nothing but the steps holds is changed in place.
+// Takes the next container out of each one, as `let_go_each` does, if `is_taken` holds for the steps and this value. So
+// a list that nothing but the steps holds is changed in place. Err is out of memory.
 pub(crate) fn let_go_inside(
     alloc: Global,
     steps: Vec<Step>,
@@ -31,7 +31,8 @@ pub(crate) fn let_go_inside(
     }
 }
 
-// Puts another value into each container but the innermost, in the place of the next one.
+// Puts another value into each container but the innermost, in the place of the next one. A next one of depth 0, or
+// deeper than `MOST_DEPTH`, stays in its place.
 fn let_go_each(alloc: Global, steps: Vec<Step>) -> Result<Vec<Step>, AllocError>
     ensures { IfOk result (λ new. (r : Result Tree Error) → rebuilt (steps_of new.items) r ≡ rebuilt (steps_of steps.items) r) }
 {
@@ -49,8 +50,8 @@ fn let_go_each(alloc: Global, steps: Vec<Step>) -> Result<Vec<Step>, AllocError>
 }
 
 impl Step {
-    // Puts a value into the place, if it is that of an element of a list, and the list takes the value. The place takes other
-    // values as before.
+    // Puts a value into the place, if it is that of an element of a list, and the list takes the value. The place takes
+    // other values as before.
     fn hold(&mut self, alloc: Global, held: Value) -> Result<(), AllocError>
         ensures { OnOk result ((v : Tree) → with_part (tree self.new.container) (places_of self.new.places) v ≡ with_part (tree self.old.container) (places_of self.old.places) v) }
     {
@@ -71,8 +72,8 @@ impl Step {
     }
 }
 
-// Returns a list of this depth, at least 1, which holds nothing else than such lists. A list that gets it in the place of
-// one as deep doesn't have to look for its deepest element.
+// Returns a list of this depth, at least 1, with at most one element, again such a list. A list that gets it in the
+// place of one as deep doesn't have to look for its deepest element.
 fn nested_list(alloc: Global, depth: u32) -> Result<Value, AllocError> {
     let mut value = listed(alloc, Vec::new(alloc))?;
     for _ in 1..depth {

@@ -88,7 +88,7 @@ fn integers(operator: BinaryOperator, a: &Value, b: &Value) -> Option<i32>
     }
 }
 
-/// Returns the number that an operator gives for two integers, or `None` if it may fail.
+/// Returns the number that an operator gives for two integers. `None` for a division by 0, and for `^` and `in`.
 #[inline(always)]
 pub fn number_of(operator: BinaryOperator, a: i32, b: i32) -> Option<i32>
     ensures { IfSome result (λ n. binary_of operator (integer a) (integer b) ≡ Ok (integer n)) }

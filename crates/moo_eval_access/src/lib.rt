@@ -1,5 +1,6 @@
-//! Accesses of evaluation to a world and to variables: properties, verbs to run, targets of assignments, and operators
-//! between values. Also the number of arguments of a call. An internal crate of `moo_eval`.
+//! What evaluation reads and changes in a world and in variables: properties, verbs to run, and targets of assignments.
+//! Also operators between values, lists and strings that become longer, the forms of nodes, and the number of arguments
+//! of a call. An internal crate of `moo_eval`.
 #![tactic(auto)]
 
 mod arguments;

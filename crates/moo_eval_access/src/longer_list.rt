@@ -15,8 +15,8 @@ use moo_value::{DEPTH_LIMIT, ErrorCode, MooList, Value, WEIGHT_LIMIT};
 use std::alloc::{AllocError, Global};
 
 /// Sets a variable to the list with these values after its elements. Past the limits that is E_QUOTA; the variable then
-/// keeps its value. The variable gives up what it holds first, so a list that nothing else shares grows in place. One
-/// that is not longer than what comes after it is made anew.
+/// keeps its value. The variable is set to 0 first, so a list that nothing else shares grows in place. A list with no
+/// more elements than there are values is made anew. If memory runs out, the variable may be 0.
 pub fn set_all_longer(
     alloc: Global,
     variables: &mut Variables,

@@ -15,8 +15,8 @@ use moo_world::{Rights, World};
 use std::alloc::Global;
 
 /// Returns the value of a property, read with the rights of a programmer. E_TYPE if the base is no object or the name
-/// no string, E_INVIND if the object isn't valid, E_PROPNF if it has no such property, E_PERM if the programmer may
-/// not read it.
+/// no string, E_INVIND if the object isn't valid. E_PROPNF if it has no such property, E_PERM if the programmer may not
+/// read it.
 pub fn read_property(
     alloc: Global,
     world: &World,
@@ -37,7 +37,8 @@ pub fn read_property(
 }
 
 /// Returns the value of a property whose name is a literal, as `read_property` does. The hint at a literal is 0 until
-/// its name is found among the cells of an object. A built-in property has no cell, so it is tried first at a hint of 0.
+/// its name is found among the cells of an object. A built-in property has no cell, so it is tried first if the hint
+/// is still 0.
 #[inline(always)]
 pub fn read_written(
     alloc: Global,
@@ -83,8 +84,9 @@ fn read_in_order(
     }
 }
 
-/// Returns the value of a property whose name is a literal, as `read_property` does, if it is built in or if the hint at
-/// its name leads to its cell. `None` if not, if the programmer may not read it, or if memory is missing.
+/// Returns the value of a property whose name is a literal, as `read_property` does. `None` if the property is neither
+/// built in nor in the cell that the hint at its name gives. `None` too if the programmer may not read it, or if memory
+/// is missing.
 #[inline(always)]
 pub fn read_known(
     alloc: Global,
@@ -105,9 +107,9 @@ pub fn read_known(
     }
 }
 
-/// Sets a property, with the rights of a programmer. E_TYPE, E_INVIND and E_PROPNF as `read_property`. For a built-in
-/// property then E_TYPE for a name that is no string or an owner that is no object, and E_PERM for the location and
-/// the contents. Last E_PERM if the programmer may not set it. If it is refused, nothing changes.
+/// Sets a property, with the rights of a programmer. E_TYPE, E_INVIND and E_PROPNF as `read_property`. Then E_TYPE for
+/// a built-in `name` that is no string or a built-in `owner` that is no object. E_PERM for the location and the
+/// contents. Last E_PERM if the programmer may not set it. If it is refused, nothing changes.
 pub fn write_property(
     world: &mut World,
     programmer: i32,
@@ -148,7 +150,7 @@ pub fn write_written(
     }
 }
 
-/// Drops the value of a property that is set next, so that a list that nothing else holds is changed in place. Changes
+/// Sets a property to 0 before it is set again, so that a list that nothing else holds is changed in place. Changes
 /// nothing if the programmer may not set the property, if it is built in, or if the object has no cell for it.
 pub fn drop_property(world: &mut World, programmer: i32, base: &Value, name: &Value)
     ensures { IsSetAlike world.old world.new programmer (tree base.now) (tree name.now) }
@@ -158,7 +160,7 @@ pub fn drop_property(world: &mut World, programmer: i32, base: &Value, name: &Va
     }
 }
 
-/// Drops the value of a property whose name is a literal, as `drop_property` does.
+/// Sets a property whose name is a literal to 0, as `drop_property` does.
 pub fn drop_written(world: &mut World, programmer: i32, base: &Value, name: &Text)
     ensures { IsSetAlike world.old world.new programmer (tree base.now) (string name.now) }
 {

@@ -17,7 +17,8 @@ use moo_world::World;
 use std::alloc::Global;
 
 /// Sets a variable to the container with the value at the place. Raises the errors of `with_index`; the variable then
-/// keeps its value. The variable gives up what it holds first, so a list that nothing else shares is changed in place.
+/// keeps its value. The variable is set to 0 first, so a list that nothing else shares is changed in place. If memory
+/// runs out, it may stay 0.
 pub fn set_at(
     alloc: Global,
     variables: &mut Variables,
@@ -55,8 +56,9 @@ fn replace_at(
 }
 
 /// Sets a property whose name is a literal to the container with the value at the place, with the rights of a
-/// programmer. Raises the errors of `with_index`, then those of `write_property`; the property then keeps its value. The
-/// property gives up what it holds first, so a list that nothing else shares is changed in place.
+/// programmer. Raises the errors of `with_index`, then those of `write_property`; the property then keeps its value.
+/// The property is set to 0 first, so a list that nothing else shares is changed in place. If memory runs out, it may
+/// stay 0.
 pub fn set_property_at(
     alloc: Global,
     world: &mut World,

@@ -1,5 +1,5 @@
-//! Targets of assignments: 'Replacing an Element of a List or String' and 'Replacing a Subsequence of a List or String'
-//! of the LambdaMOO Programmer's Manual, 'Assignment' of docs/reference/language.md.
+//! Targets of assignments: 'Assignment' of docs/reference/language.md. In the LambdaMOO Programmer's Manual: 'Replacing
+//! an Element of a List or String' and 'Replacing a Subsequence of a List or String'.
 ghost use Rattle.std.specs.Prelude.{◌≡◌, ◌∷◌, [], Ok, Err, map, is_ok, IsTrue, IfOk, IfErr, IfSome, IfNone, OnOk};
 ghost use Rattle.moo_value.specs.Tree.{Tree};
 ghost use Rattle.moo_value.specs.View.{tree};
@@ -48,11 +48,11 @@ pub enum Root<'a> {
     Scatter(&'a [NodeItem]),
 }
 
-/// Holds the places in a container.
+/// Holds the place of an element in a container, or the first and the last place of a part.
 #[derive(Drop)]
 pub enum Places {
     Element(Value),
-    /// From the first to the last.
+    /// The part from the first place to the second.
     Part(Value, Value),
 }
 
@@ -63,7 +63,7 @@ pub struct Step {
     pub places: Places,
 }
 
-/// Holds what an assignment sets, and the containers from its own to the innermost.
+/// Holds what an assignment sets, and the steps into the containers, from the outermost to the innermost.
 #[derive(Drop)]
 pub struct Path<'a> {
     pub root: Root<'a>,
@@ -93,7 +93,7 @@ pub fn taken_apart<'a>(alloc: Global, target: &'a Node) -> Result<Target<'a>, Al
     }
 }
 
-/// Returns the base and the name of a property expression.
+/// Returns the base and the name, if an expression is a property.
 pub fn as_property(root: &Node) -> Option<(&Node, &Node)>
     ensures some { IfSome result (λ p. source root.now ≡ property (source p.0.now) (source p.1.now)) }
     ensures none { IfNone result (root_parts (source root.now) ≡ no_items) }
@@ -156,8 +156,8 @@ impl Step {
 }
 
 impl<'a> Path<'a> {
-    /// Returns the value at the end of the path: E_VARNF for a variable that isn't set, the errors of
-    /// `read_property`, E_TYPE and E_RANGE for a place that the innermost container doesn't have.
+    /// Returns the value at the end of the path. For the root it raises E_VARNF if the variable isn't set, and the
+    /// errors of `read_property`. E_TYPE and E_RANGE for a place that the innermost container doesn't have.
     pub fn value(&self, alloc: Global, world: &World, active: &Activation) -> Result<Value, Failure>
         ensures { IsKnownFailure result → answers (held world.now active.now.programmer (root_seen self.now.root) (steps_of self.now.steps.items) (variables_of active.now.variables)) ≡ seen_answer result }
     {
@@ -190,8 +190,9 @@ fn put_back(alloc: Global, steps: Vec<Step>, value: Value) -> Result<Value, Fail
     Ok(whole)
 }
 
-/// Is true if `rebuilt` raises nothing for the value at the end of these steps. False if there is no step, if one is to
-/// a part, if one before the last is into no list, or if a container may get past the limits.
+/// Is true only if `rebuilt` raises nothing for the value at the end of these steps. False if there is no step, if one
+/// is to a part, or if one before the last isn't to an element of a list. False too if a container may get past the
+/// limits.
 pub fn is_taken(steps: &[Step], value: &Value) -> bool
     ensures { IsTrue result → IsTrue (is_ok (rebuilt (steps_of steps.now) (Ok (tree value.now)))) }
 {
@@ -219,7 +220,7 @@ pub fn push_step(path: &mut Path<'_>, step: Step) -> Result<(), AllocError>
 }
 
 /// Sets a variable, or the part of it at the end of the steps. Raises the errors of `rebuilt`; the variable then
-/// keeps its value. A list that nothing else shares is changed in place.
+/// keeps its value. A list that nothing else shares is changed in place. If memory runs out, the variable may be 0.
 pub fn set_variable(
     alloc: Global,
     variables: &mut Variables,
@@ -244,8 +245,8 @@ pub fn set_variable(
     set_part(alloc, variables, name, outer, value)
 }
 
-// Sets a variable to what `rebuilt` returns for steps that take the value. The variable gives up what it holds first, so
-// that the steps alone hold the lists, if nothing else does.
+// Sets a variable to what `rebuilt` returns for steps that take the value. The variable is set to 0 first, so that the
+// steps alone hold the lists, if nothing else does.
 fn set_taken(
     alloc: Global,
     variables: &mut Variables,
@@ -279,8 +280,8 @@ fn set_part(
     Ok(())
 }
 
-// Sets the variable to 0 if its container takes the value. Then the step alone holds the container, if nothing else
-// does.
+// Sets the variable to 0 if the step's container takes the value at the place of an element. Then the step alone holds
+// the container, if nothing else does.
 fn let_go(
     variables: &mut Variables,
     name: &Name,

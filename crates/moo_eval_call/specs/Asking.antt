@@ -46,7 +46,8 @@ abbrev pub server_log : List Tree → State → Reply
 server_log (string line ∷ []) s = leaves (is_run_by_wizard s) (pos 0) (notice.ServerLog line) s
 server_log _ s = (Err (fails TypeMismatch), s)
 
--- The object's flag is set or cleared, and the row of the players is changed with it. What the world raises comes before the right.
+-- The object's flag is set or cleared, and the row of the players is changed with it. What the world raises comes
+-- before the right.
 abbrev pub flagged : ℤ → Bool → Option ErrorCode → State → Reply
 flagged o on (Some code) s = (Err (fails code), s)
 flagged o on None s =

@@ -1,7 +1,7 @@
-//! Functions that leave a notice, which the server handles once the task has ended: 'Operations on Network
-//! Connections', 'Operations on Player Objects' and 'Administrative Operations' of the LambdaMOO Programmer's Manual,
-//! 'Functions over the running task' of docs/reference/language.md. Arguments that don't fit the function's row raise E_TYPE;
-//! no call has such arguments. A call that raises changes nothing.
+//! Functions that leave a notice, which the server handles once the task has ended: 'Functions over the running task'
+//! of docs/reference/language.md. In the LambdaMOO Programmer's Manual: 'Operations on Network Connections',
+//! 'Operations on Player Objects' and 'Administrative Operations'. Arguments that don't fit the function's row raise
+//! E_TYPE; no call has such arguments. A call that raises changes nothing.
 ghost use Rattle.std.specs.Prelude.{◌≡◌, ◌++◌, ◌∷◌, [], ℕ, OnOk};
 ghost use Rattle.moo_value.specs.View.{tree, trees};
 ghost use Rattle.moo_eval_frame.specs.Seen.{seen_answer, IsKnownFailure};
@@ -17,8 +17,8 @@ use moo_value::{ErrorCode, Value};
 use moo_world::{Rights, World};
 use std::alloc::AllocError;
 
-/// Runs `notify(o, line)`: asks for a line to be sent to o, and returns 1. E_PERM for others than o itself and
-/// wizards.
+/// Runs `notify(o, line)`: asks for a line to be sent to o, and returns 1. E_PERM if the programmer is neither o nor a
+/// wizard.
 pub(crate) fn notify(
     world: &World,
     active: &Activation,
@@ -35,8 +35,8 @@ pub(crate) fn notify(
     leave(may, 1, notice, notices)
 }
 
-/// Runs `boot_player(o)`: asks for the end of o's connection, and returns 0. E_PERM for others than o itself and
-/// wizards.
+/// Runs `boot_player(o)`: asks for the end of o's connection, and returns 0. E_PERM if the programmer is neither o nor
+/// a wizard.
 pub(crate) fn boot_player(
     world: &World,
     active: &Activation,
@@ -130,7 +130,7 @@ pub(crate) fn set_player_flag(
     Ok(Value::Int(0))
 }
 
-// Appends a notice and returns its result, if that is allowed; else raises E_PERM.
+// Appends a notice and returns `answer`, if `may` is true; else raises E_PERM.
 fn leave(
     may: bool,
     answer: i32,

@@ -28,12 +28,12 @@ use moo_value::{ErrorCode, Value};
 use moo_world::World;
 use std::alloc::{AllocError, Global};
 
-/// Calls a built-in function for the running frame and its programmer: one that reads the task, of which so many
-/// ticks are left, or its connections, one that leaves a notice, or a plain one. A wrong number of arguments raises
-/// E_ARGS, then one of a wrong type E_TYPE, then an object that isn't valid E_INVARG. The function's own tests
-/// follow, and the programmer's right comes last. An unknown function, and one that calls verbs, raises E_INVARG. If
-/// there are more arguments than the function takes, lists that were spliced in are not copied. For a function
-/// that depends on its arguments alone, their memory comes into `room`, for the next call.
+/// Calls a built-in function for the running frame and its programmer. The function inspects the task or its
+/// connections, leaves a notice, or is a plain one. A wrong number of arguments raises E_ARGS, then one of a wrong type
+/// E_TYPE, then an object that isn't valid E_INVARG. The function's own tests follow, and the programmer's right comes
+/// last. An unknown function, and one that calls verbs, raises E_INVARG. If there are more arguments than the function
+/// takes, lists that were spliced in are not copied. A plain function may move the memory of its arguments into `room`,
+/// for the next call.
 pub fn call_function(
     alloc: Global,
     world: &mut World,
@@ -57,7 +57,7 @@ pub fn call_function(
     }
 }
 
-/// Calls a built-in function as `call_function`, with values among which no list was spliced in. They may be moved out.
+/// Calls a built-in function as `call_function` does, with these values. The function may move values out of the slice.
 #[inline(always)]
 pub fn call_values(
     alloc: Global,
@@ -204,7 +204,7 @@ fn plain(
     }
 }
 
-// Converts the outcome of a plain call to a result.
+// Calls a plain function. `tostr`, `min` and `max` read spliced lists in place. E_INVARG if there is no function.
 #[inline(always)]
 fn outcome(
     alloc: Global,
@@ -227,7 +227,7 @@ fn outcome(
     }
 }
 
-// Calls a plain function with the values themselves.
+// Calls a plain function with the values in a vector: E_ARGS, without copying a list, if there are too many.
 fn called(
     alloc: Global,
     function: Function,

@@ -6,7 +6,8 @@ pub fn at_most_one_result()
     ensures { OneResultOfCalls }
 {}
 
-/// A call that raises an error leaves the state as it is: the world, the programmer, the ticks and the notices.
+/// A call that raises an error leaves the state as it is: the world, the variables, the programmer, the ticks and the
+/// notices.
 pub fn raises_change_nothing()
     ensures { RaisesChangeNothing }
 {}

@@ -1,4 +1,4 @@
-//! The functions that take any number of values. They read spliced lists in place, so no list is copied.
+//! `tostr`, `min` and `max`, which take any number of values. They read spliced lists in place, so no list is copied.
 ghost use Rattle.std.specs.Prelude.{◌≡◌, ◌++◌, None, IfOk, IfErr};
 ghost use Rattle.moo_value.specs.View.{trees};
 ghost use Rattle.moo_builtin_value.specs.TextAnswers.{Gives};
@@ -12,7 +12,7 @@ use moo_eval_frame::{Gathered, Stretch};
 use moo_value::{ErrorCode, MooStr, Value};
 use std::alloc::{AllocError, Global};
 
-/// The least number, or the greatest.
+/// Names the number that is looked for: the least or the greatest.
 #[derive(Clone, Copy)]
 pub enum Extreme {
     Least,
@@ -20,7 +20,7 @@ pub enum Extreme {
 }
 
 /// Computes `min` or `max` of values: E_ARGS if there are none, E_TYPE if one is no integer. The memory of the values
-/// comes into `room`.
+/// after the last spliced list comes into `room`, unless a value before them raises E_TYPE.
 #[inline(never)]
 pub fn extreme_number(
     extreme: Extreme,
@@ -62,7 +62,7 @@ fn extreme_so_far(
     Ok(found)
 }
 
-// Returns the number, or the one so far if that is further.
+// Returns the less or the greater of a number and the one so far, or the number if there is none so far.
 fn better(extreme: Extreme, so_far: Option<i32>, number: i32) -> i32
     ensures { result ≡ better extreme so_far number }
 {

@@ -1,4 +1,4 @@
-//! Changes of the list in a variable by a built-in function, as by `l = listappend(l, x);`.
+//! Changes of a list by a built-in function, as of the one in a variable by `l = listappend(l, x);`.
 ghost use Rattle.std.specs.Prelude.{◌≡◌, [], ◌∷◌, Some, IsTrue, IfOk, OnOk};
 ghost use Rattle.moo_value.specs.Tree.{Tree, integer, list_of};
 ghost use Rattle.moo_value.specs.View.{tree, trees};
@@ -16,8 +16,8 @@ use moo_syntax_function::Function;
 use moo_value::{MooList, Value, WEIGHT_LIMIT};
 use std::alloc::{AllocError, Global};
 
-/// Sets a variable to the list that a function makes of these arguments, of which `has_list` holds. The variable gives
-/// up what it holds first, so a list that nothing else shares is changed in place. Err is out of memory.
+/// Sets a variable to the list that a function makes of these arguments, of which `has_list` holds. The variable is set
+/// to 0 first, so a list that nothing else shares is changed in place. Err is out of memory; it may then stay 0.
 pub fn set_list(
     alloc: Global,
     variables: &mut Variables,
@@ -49,7 +49,7 @@ pub fn make_list(alloc: Global, function: Function, args: &mut [Value]) -> Resul
     }
 }
 
-// Returns the error of an operation that memory was missing for.
+// Converts the fault of an operation, which is lack of memory.
 fn out_of_memory(fault: OperationFault) -> AllocError
     requires { fault ≡ Memory }
 {
@@ -59,8 +59,8 @@ fn out_of_memory(fault: OperationFault) -> AllocError
     }
 }
 
-/// Is true if a function makes a list of its first argument, with an element more, less or replaced, and raises no
-/// error. False for functions that have other arguments.
+/// Is true only if a function makes a list of its first argument, with an element more, less or replaced, and raises no
+/// error. False for other functions, and for `listappend` and `listinsert` with a place.
 pub fn has_list(function: Function, args: &[Value]) -> bool
     ensures { IsTrue result → HasList function (trees args.now) }
 {

@@ -13,7 +13,7 @@ abbrev pub guards : Codes → Items
 guards any_error = no_items
 guards (listed_errors items) = items
 
--- The error is one of these values. A value that is no error is none that is raised.
+-- A catch of these codes takes the error: any error, or one that is among these values.
 abbrev pub is_caught : Codes → List Tree → ErrorCode → Bool
 is_caught any_error vs code = true
 is_caught (listed_errors items) vs code = list_any (same_tree (error code)) vs

@@ -1,4 +1,4 @@
--- What a scatter gives, said of its names from the left.
+-- The assignments of a scatter, name by name from the left.
 use Rattle.std.specs.Prelude.{◌≡◌, ℕ, List, [], ◌∷◌, ◌++◌, Bool, true, false, length}
 use Rattle.moo_value.specs.Tree.{Tree, list_of}
 use Rattle.moo_syntax_ast.specs.Tree.{Expr, variable, Items, no_items, element, splice, optional, defaulted}
@@ -7,8 +7,8 @@ use Rattle.moo_eval_slot.specs.Bindings.{Binding, bind}
 use Rattle.moo_eval_control.specs.Scatter.{LeftOut, fits, given, missing}
 
 -- All values go to the names in order: one to a plain name, any number to the one after `@`, as a list. A name with
--- `?` gets one too, or none: then the names with `?` after it get none either, and the one after `@` gets the empty
--- list. `lacks`: some name gets none. `filling`: none so far.
+-- `?` gets one or none. If it gets none, the names with `?` after it get none either, and the one after `@` gets the
+-- empty list. `lacks`: some name gets no value. `filling`: each name with `?` so far has got one.
 pub data Deals (lacks : Bool) : (filling : Bool) → Items → List Tree → List Binding → List LeftOut → Type 0 where
   all_dealt : {filling : Bool} →
       Deals lacks filling no_items [] [] []

@@ -27,7 +27,7 @@ abbrev pub guarded_before : List Guarded → Result (List Guarded) Stop → Resu
 guarded_before gs (Ok hs) = Ok (gs ++ hs)
 guarded_before gs (Err stop) = Err stop
 
--- the first handler that names the error
+-- the first handler that takes the error
 abbrev pub chosen : List Guarded → ErrorCode → Option Guarded
 chosen all code = find (λ g. is_caught g.codes g.values code) all
 

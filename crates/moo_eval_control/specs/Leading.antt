@@ -23,7 +23,7 @@ after_turn own (Ok (returned v)) = Some (Ok (returned v))
 after_turn own (Ok (broken name)) = Some (Ok (if is_meant own name then next else broken name))
 after_turn own (Ok (continued name)) = if is_meant own name then None else Some (Ok (continued name))
 
--- a `for` with nothing to visit: an error, or with the d bit off no turn
+-- a `for` that raises an error before its first turn: the error, or without the d bit no turn
 abbrev pub no_turn : Bool → List TraceEntry → ErrorCode → Result Flow Stop
 no_turn true trace code = Err (raised (plain_raise code trace))
 no_turn false trace code = Ok next

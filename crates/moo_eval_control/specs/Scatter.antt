@@ -44,8 +44,8 @@ abbrev pub binds : Expr → Tree → List Binding
 binds (variable x) v = bind x v ∷ []
 binds _ v = []
 
--- Each name that gets a value, from the left: `spare` values are left for names that may be left out, and `rest` for the
--- one that takes what the others leave.
+-- Each name that gets a value, from the left. `spare` values are left for names that may be left out, and `rest` for
+-- the one that takes what the others leave.
 abbrev pub shares : Items → ℕ → ℕ → List Tree → List Binding
 shares no_items spare rest vs = []
 shares (element e xs) spare rest [] = shares xs spare rest []

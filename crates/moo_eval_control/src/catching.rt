@@ -1,4 +1,4 @@
-//! Which errors a catch handles.
+//! Which errors a catch or a handler of a `try` handles.
 ghost use Rattle.std.specs.Prelude.{◌≡◌, IfErr, IsErrAnd};
 ghost use Rattle.std.specs.List.{list_any};
 ghost use Rattle.moo_value.specs.Tree.{error};
@@ -14,7 +14,8 @@ use moo_syntax_lower::NodeCodes;
 use moo_value::{ErrorCode, Value};
 use std::alloc::Global;
 
-/// Returns the values of the codes of a handler. Without the d bit, codes that fail name no error.
+/// Returns the values of the codes of a handler. An error of the codes is raised with the d bit; without it they name
+/// no error. A stop stays as it is.
 pub fn settle_codes(
     alloc: Global,
     stack: &CallStack<'_>,
@@ -32,8 +33,8 @@ pub fn settle_codes(
     }
 }
 
-/// Returns the error that a catch of these codes handles, if one was raised. `values` are the values of codes that are not
-/// all literal errors.
+/// Returns the error that was raised, if a catch of these codes handles it. `values` are the values of the codes; they
+/// are not read if all codes are literal errors.
 pub fn caught(
     codes: &NodeCodes,
     values: &[Value],
@@ -49,7 +50,8 @@ pub fn caught(
     }
 }
 
-/// Is true if a catch of these codes handles an error. `values` are the values of codes that are not all literal errors.
+/// Returns whether a catch of these codes handles an error. `values` are the values of the codes; they are not read if
+/// all codes are literal errors.
 pub fn is_caught(codes: &NodeCodes, values: &[Value], code: ErrorCode) -> bool
     ensures { result ≡ is_caught (source_codes codes.now) (code_values codes.now values.now) code }
 {

@@ -1,4 +1,4 @@
-//! Handlers of a `try`: which one takes an error, and what its variable is set to.
+//! Handlers of a `try`: which one takes an error, and what its variable is set to. Also the frames of a trace as lists.
 ghost use Rattle.std.specs.Prelude.{◌≡◌, ◌++◌, ◌∷◌, [], List, Ok, Err, map, option_copied, option_map, IfErr, OnOk, IsSome};
 ghost use Rattle.moo_value.specs.Tree.{Tree};
 ghost use Rattle.moo_value.specs.View.{trees};
@@ -25,7 +25,7 @@ use moo_syntax_lower::{NodeCodes, NodeHandler, NodeStmt};
 use moo_value::{ErrorCode, Value};
 use std::alloc::{AllocError, Global};
 
-/// The variable that a handler sets, if any, its codes and its statements.
+/// Holds the variable that a handler sets, if any, its codes and its statements.
 #[derive(Drop)]
 pub struct HandlerParts<'a> {
     pub name: Option<&'a Name>,
@@ -33,7 +33,7 @@ pub struct HandlerParts<'a> {
     pub body: &'a [NodeStmt],
 }
 
-/// A handler with the values of its codes.
+/// Holds a handler with the values of its codes.
 #[derive(Drop)]
 pub struct Guarded<'a> {
     pub name: Option<&'a Name>,
@@ -60,7 +60,7 @@ pub fn handler_parts(value: &NodeHandler) -> HandlerParts<'_>
     }
 }
 
-/// Appends a handler, with the values of its codes.
+/// Appends a handler, with the values of its codes. Err is out of memory.
 pub fn push_guarded<'a>(
     all: &mut Vec<Guarded<'a>>,
     parts: HandlerParts<'a>,
@@ -92,7 +92,7 @@ impl Guarded<'_> {
     }
 }
 
-/// Returns the first handler that names the error.
+/// Returns the first handler that handles the error, if there is one.
 pub fn chosen<'g, 'a>(all: &'g [Guarded<'a>], code: ErrorCode) -> Option<&'g Guarded<'a>>
     ensures { option_map (λ g. guarded_of g.now) result ≡ chosen (map guarded_of all.now) code }
 {
@@ -104,7 +104,7 @@ pub fn chosen<'g, 'a>(all: &'g [Guarded<'a>], code: ErrorCode) -> Option<&'g Gua
     None
 }
 
-// Returns `{this, verb, programmer, definer, player}`.
+// Returns `{this, verb, programmer, definer, player}` of a frame: E_QUOTA past the limits of a list.
 fn frame_list(alloc: Global, frame: &TraceFrame) -> Result<Value, Failure>
     ensures { IsKnownFailure result → answers (frame_list frame.now) ≡ seen_answer result }
 {
@@ -130,7 +130,8 @@ fn push_entry(alloc: Global, values: &mut Vec<Value>, entry: &TraceEntry) -> Res
     Ok(())
 }
 
-/// Returns the frames of a trace, the first one first.
+/// Returns `{this, verb, programmer, definer, player}` for each frame of a trace, in the order of the trace. E_QUOTA if
+/// a list is past the limits. A built-in function has no frame.
 pub fn frame_lists(alloc: Global, trace: &[TraceEntry]) -> Result<Vec<Value>, Failure>
     ensures { IsKnownFailure result → answers (frame_lists trace.now) ≡ seen_answers result }
 {
@@ -165,7 +166,7 @@ fn told(alloc: Global, callers: &Callers, raise: Raise) -> Result<Value, Failure
 }
 
 /// Sets the variable of a handler, if it has one, to `{code, message, value, frames}`. The frames go from the raising
-/// one to the handler's own. Past the limits E_QUOTA is raised, whatever the d bit.
+/// one to the handler's own. Past the limits E_QUOTA is raised, whatever the d bit is; then nothing has changed.
 pub fn set_caught(
     alloc: Global,
     stack: &CallStack<'_>,

@@ -1,4 +1,4 @@
-//! The control flow of loops and cleanups.
+//! The control flow of loops and cleanups, and what a `for` visits.
 ghost use Rattle.std.specs.Prelude.{◌≡◌, Ok, Err, option_copied, IfOk, IfErr, OnErr, IsSome, IsTrue};
 ghost use Rattle.moo_value.specs.View.{tree};
 ghost use Rattle.moo_eval_control.specs.Leading.{is_meant, after_turn, no_turn, runs_finally, after_finally, span_of, numbered};
@@ -8,7 +8,7 @@ use moo_eval_frame::{Activation, CallStack, Failure, Flow, Stop, is_same_name, r
 use moo_value::{ErrorCode, MooStr, Value};
 use std::alloc::{AllocError, Global};
 
-/// Holds the integers or objects that a `for` visits, from `low` up to `high`.
+/// Holds the integers or objects that a `for` visits, from `low` up to `high`. If `high` is less, there are none.
 #[derive(Drop)]
 pub struct Span {
     pub low: i32,
@@ -91,8 +91,8 @@ pub fn after_turn(own: Option<&MooStr>, flow: Flow) -> Option<Flow>
     }
 }
 
-/// Returns the outcome of a `for` that raises an error before its first turn: the error, or without the d bit no
-/// turn.
+/// Returns the outcome of a `for` that raises an error before its first turn. With the d bit the error is raised, and
+/// without it there is no turn.
 pub fn no_turn(
     alloc: Global,
     stack: &CallStack<'_>,

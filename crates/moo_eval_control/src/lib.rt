@@ -1,5 +1,5 @@
-//! What statements do with values and errors: how scatters assign values to names, which handler takes an error, how
-//! loops and cleanups end, and the lines of a traceback. An internal crate of `moo_eval`.
+//! What statements do with values and errors: how scatters assign values to names, and which handler takes an error.
+//! Also how loops and cleanups end, and the lines of a traceback. An internal crate of `moo_eval`.
 #![tactic(auto)]
 
 mod catching;

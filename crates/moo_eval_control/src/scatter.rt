@@ -19,14 +19,15 @@ use moo_syntax_lower::{Node, NodeItem};
 use moo_value::{ErrorCode, MooList, Value};
 use std::alloc::{AllocError, Global};
 
-/// A name that gets no value from a list, and the expression of its default.
+/// Holds a name that gets no value from a list, and the expression of its default.
 #[derive(Drop)]
 pub struct LeftOut<'a> {
     pub name: &'a Name,
     pub value: &'a Node,
 }
 
-/// Returns the list whose elements are assigned: E_TYPE for a value that is no list, E_ARGS for a wrong count.
+/// Returns the list whose elements are assigned: E_TYPE for a value that is no list, E_ARGS for a wrong number of
+/// elements.
 pub fn dealt<'a>(items: &[NodeItem], value: &'a Value) -> Result<&'a MooList, ErrorCode>
     ensures ok { IfOk result (λ list. dealt (source_items items.now) (tree value.now) ≡ Ok list.now) }
     ensures err { IfErr result (λ code. dealt (source_items items.now) (tree value.now) ≡ Err code) }
@@ -41,8 +42,8 @@ pub fn dealt<'a>(items: &[NodeItem], value: &'a Value) -> Result<&'a MooList, Er
     }
 }
 
-/// Sets these names to the elements of a list, in order, and returns whether it did. It doesn't for a wrong count; then no
-/// name is set. Err is out of memory.
+/// Sets these names to the elements of a list, in order, and returns whether it did. It doesn't for a wrong number of
+/// elements; then no name is set. Err is out of memory; some names may then be set.
 #[inline(always)]
 pub fn try_set_names(
     active: &mut Activation,
@@ -60,8 +61,8 @@ pub fn try_set_names(
     Ok(true)
 }
 
-/// Sets these names to the elements of a list, in order. E_TYPE for a value that is no list, E_ARGS for a wrong count;
-/// then no name is set.
+/// Sets these names to the elements of a list, in order. E_TYPE for a value that is no list, E_ARGS for a wrong number
+/// of elements; then no name is set. If memory runs out, some names may be set.
 #[inline(always)]
 pub fn set_names(active: &mut Activation, names: &[Name], value: &Value) -> Result<(), Failure>
     ensures ok { OnOk result ((list : List Tree) × (dealt (named_items names.now) (tree value.now) ≡ Ok list) × (variables_of active.new.variables ≡ with_all (variables_of active.old.variables) (given (named_items names.now) list))) }
@@ -167,8 +168,8 @@ fn takes_rest(items: &[NodeItem]) -> bool
     false
 }
 
-// What is left to be assigned: the values from `next` on, of which `spare` are for names that may be left out, and
-// `rest` for the name that takes what the others leave.
+// Holds what is left to be assigned: the values from `next` on. Of them `spare` are left for names that may be left
+// out, and the name that takes what the others leave gets `rest`.
 #[derive(Drop)]
 struct Dealing<'a> {
     list: &'a MooList,
@@ -177,7 +178,8 @@ struct Dealing<'a> {
     rest: usize,
 }
 
-/// Sets the names that get an element of the list, from the left.
+/// Sets the names of a scatter that get a value of the list, from the left. The name after `@` gets a list. Err is out
+/// of memory; some names may then be set.
 pub fn set_shares(
     alloc: Global,
     active: &mut Activation,
@@ -293,7 +295,7 @@ fn named(target: &Node, value: Value) -> Option<(&Name, Value)>
     }
 }
 
-/// Returns the names that the list leaves out, if they have a default.
+/// Returns the names that get no value of the list but have a default, from the left. Err is out of memory.
 pub fn missing<'a>(
     alloc: Global,
     items: &'a [NodeItem],

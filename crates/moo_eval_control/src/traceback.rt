@@ -8,7 +8,8 @@ use moo_eval_frame::{TraceEntry, TraceFrame};
 use moo_value::Value;
 use std::alloc::{AllocError, Global};
 
-/// Returns the lines of a traceback with this text, the first entry of `trace` first.
+/// Returns the lines of a traceback, the first entry of `trace` first, with this text in the first line. Err is out of
+/// memory.
 pub fn traceback_lines(
     alloc: Global,
     text: &[u8],

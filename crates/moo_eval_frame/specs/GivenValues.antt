@@ -83,8 +83,8 @@ command_of s = tree s.dobj ∷ tree s.iobj ∷ tree s.argstr ∷ tree s.dobjstr 
 abbrev pub command_in : Frame → List Tree
 command_in f = object f.dobj ∷ object f.iobj ∷ string f.argstr ∷ string f.dobjstr ∷ string f.prepstr ∷ string f.iobjstr ∷ []
 
--- the values of a frame that has these shared ones, in the order of the names: of its code, its caller's `this` and its
--- arguments
+-- the values that a frame begins with, in the order of the names: from its code, its caller's `this`, its arguments and
+-- these shared values
 abbrev pub values_with : Running → ℤ → List Tree → Shared → List (Option Tree)
 values_with f caller args s =
     Some (tree s.num)

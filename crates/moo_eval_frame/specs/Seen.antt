@@ -56,7 +56,7 @@ indexed_of indexed = option_map (λ v. tree v.now) indexed
 abbrev pub surroundings_of : code_surroundings.Surroundings → Surroundings
 surroundings_of s = record { moment = s.moment; connections = s.connections.now }
 
--- what the program is given
+-- the context of the running frame, inside an index of this value if there is one
 abbrev pub context_of : CallStack → Option (Bor Value) → Context
 context_of stack indexed = record {
   frame = stack.running;
@@ -148,7 +148,8 @@ abbrev pub LacksOnlyIn : Type 0 → code_failure.Failure → Type 0
 LacksOnlyIn P (failure_case.Fails code) = Unit {0}
 LacksOnlyIn P (failure_case.Stops stop) = LacksOnlyWhere P stop
 
--- settling a failure may allocate: an error is raised with its traceback if the d bit is on, and a stop is passed on
+-- Settling a failure may lack memory. With the d bit an error may, since it is raised with its traceback. A stop does
+-- if memory ran out before.
 abbrev pub MayLack : Bool → code_failure.Failure → Type 0
 MayLack d (failure_case.Fails code) = IsTrue d
 MayLack d (failure_case.Stops stop) = ¬ HadMemory stop

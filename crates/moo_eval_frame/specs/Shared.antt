@@ -34,11 +34,11 @@ shared_code =
     (λ p. record { num = p.0; int = p.1.0; obj = p.1.1.0; str = p.1.1.1.0; err = p.1.1.1.1.0; list = p.1.1.1.1.1.0; float = p.1.1.1.1.1.1.0; dobj = p.1.1.1.1.1.1.1.0; iobj = p.1.1.1.1.1.1.1.1.0; argstr = p.1.1.1.1.1.1.1.1.1.0; dobjstr = p.1.1.1.1.1.1.1.1.1.1.0; prepstr = p.1.1.1.1.1.1.1.1.1.1.1.0; iobjstr = p.1.1.1.1.1.1.1.1.1.1.1.1 })
     (λ _. refl)
 
--- what the names of types have
+-- the values of the names of types
 abbrev pub types_of : Shared → List Tree
 types_of s = tree s.num ∷ tree s.int ∷ tree s.obj ∷ tree s.str ∷ tree s.err ∷ tree s.list ∷ tree s.float ∷ []
 
--- and have at first
+-- the values that they have at first
 abbrev pub types : List Tree
 types =
     integer (pos 0)

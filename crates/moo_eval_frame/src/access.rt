@@ -15,7 +15,7 @@ use moo_syntax_ast::Name;
 use moo_value::{ErrorCode, Value};
 use std::alloc::AllocError;
 
-/// Returns the value of a variable.
+/// Returns a copy of the value of a variable: E_VARNF if it isn't set.
 pub fn read_variable(active: &Activation, name: &Name) -> Result<Value, Failure>
     ensures value { IsKnownFailure result → answers (or_error (variables_of active.now.variables (folded name.now)) VariableNotFound) ≡ seen_answer result }
     ensures memory { IfErr result (LacksOnlyIn (IsSomeAnd (variables_of active.now.variables (folded name.now)) TakesMemory)) }
@@ -26,7 +26,7 @@ pub fn read_variable(active: &Activation, name: &Name) -> Result<Value, Failure>
     }
 }
 
-/// Returns the length of the indexed value.
+/// Returns the length of the indexed value: E_TYPE if it is neither a string nor a list, or if nothing is indexed.
 pub fn measure(indexed: Option<&Value>) -> Result<Value, Failure>
     ensures { answers (measured (indexed_of indexed.entry)) ≡ seen_answer result }
 {
@@ -36,7 +36,7 @@ pub fn measure(indexed: Option<&Value>) -> Result<Value, Failure>
     }
 }
 
-/// Appends a value.
+/// Appends a value. Err is out of memory.
 pub fn push(values: &mut Vec<Value>, value: Value) -> Result<(), AllocError>
     ensures { OnOk result (values.new.items ≡ values.old.items ++ value ∷ []) }
 {

@@ -63,7 +63,8 @@ impl<'a> Callers<'a> {
         }
     }
 
-    /// Returns the callers of code that the running code calls, which runs for this programmer and has these callers.
+    /// Returns the callers of code that the running code calls. The running code has these callers, and runs with the
+    /// rights of this programmer. Err if there are 2^64 frames or more.
     #[inline(always)]
     pub fn called_by(
         running: &'a Running,
@@ -81,7 +82,8 @@ impl<'a> Callers<'a> {
         }
     }
 
-    /// Returns the same callers with a built-in function before them, by which the nearest made the call.
+    /// Returns these callers with a built-in function before them, through which the nearest one made the call. If the
+    /// nearest one isn't a frame of a verb, returns these callers alone.
     pub fn through(self, function: &'static str) -> Callers<'a>
         ensures { (f : TraceFrame) (rest : List TraceEntry) → self.entry ≡ Verb f ∷ rest → result ≡ BuiltIn function.now ∷ self.entry }
     {
@@ -117,7 +119,7 @@ impl<'a> Callers<'a> {
         }
     }
 
-    /// Returns the entries as a vector.
+    /// Returns the entries, the nearest first.
     pub fn to_vec(&self, alloc: Global) -> Result<Vec<TraceEntry>, AllocError>
         ensures { IfOk result (λ all. all.items ≡ self.now) }
     {
@@ -126,7 +128,7 @@ impl<'a> Callers<'a> {
         Ok(all)
     }
 
-    /// Appends the entries to a vector.
+    /// Appends the entries to a vector, the nearest first.
     pub(crate) fn append_to(
         &self,
         alloc: Global,
@@ -151,7 +153,7 @@ impl<'a> Callers<'a> {
         }
     }
 
-    /// Returns how many of so many entries are left without these.
+    /// Returns `many` less the number of these entries, or 0 if there are more of them.
     pub fn remaining(&self, many: usize) -> usize
         ensures { result ≡ many - length self.now }
     {

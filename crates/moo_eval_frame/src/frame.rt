@@ -1,5 +1,5 @@
-//! Frames, and their lines in a traceback: 'Naming Values Within a Verb' and 'MOO Tasks' of the LambdaMOO
-//! Programmer's Manual, 'Variables' and 'Tracebacks' of docs/reference/language.md. Objects are given by their numbers, #-1 for
+//! Frames and the entries of a trace: 'Naming Values Within a Verb' and 'MOO Tasks' of the LambdaMOO Programmer's
+//! Manual, 'Variables' and 'Tracebacks' of docs/reference/language.md. Objects are given by their numbers, #-1 for
 //! none.
 ghost use Rattle.std.specs.Prelude.{◌≡◌, IfOk};
 ghost use Rattle.moo_eval_frame.specs.State.{trace_frame, running_of};
@@ -26,7 +26,7 @@ pub struct Frame {
     pub definer: i32,
     /// The object whose verb made the call: its `this`.
     pub caller: i32,
-    /// The player who began the task, or another that a wizard called for.
+    /// The player who began the task, or another one whom a wizard put into `player` before a call.
     pub player: i32,
     /// The direct object of the command.
     pub dobj: i32,
@@ -48,8 +48,8 @@ pub struct Frame {
     pub args: MooList,
 }
 
-/// Holds the running code, and what is fixed while it runs: what a traceback shows of it, and what it hands on to the
-/// verbs that it calls.
+/// Holds the running code and what is fixed while it runs. A traceback shows some of it, and called verbs get some of
+/// it.
 #[derive(Drop)]
 pub struct Running {
     pub program: Program,
@@ -61,7 +61,7 @@ pub struct Running {
     pub this: i32,
     /// The object that has the verb.
     pub definer: i32,
-    /// The player who began the task, or another that a wizard called for.
+    /// The player who began the task, or another one whom a wizard put into `player` before a call.
     pub player: i32,
     /// All names of the verb.
     pub names: MooStr,
@@ -80,17 +80,18 @@ pub struct TraceFrame {
     pub programmer: i32,
     /// The object that has the verb.
     pub definer: i32,
+    /// The player for whom the frame runs, as in `Running`.
     pub player: i32,
     /// All names of the verb, which a traceback shows.
     pub names: MooStr,
 }
 
-/// Holds a step from the running code down to the one that began the task.
+/// Holds one entry of a trace. A trace goes from the running code to the code that began the task.
 #[derive(Drop)]
 pub enum TraceEntry {
     /// A frame of a verb, or of a program that is typed in.
     Verb(TraceFrame),
-    /// A built-in function that called the entry before it, by its name.
+    /// The name of a built-in function, which called the code of the entry before this one.
     BuiltIn(MooStr),
 }
 

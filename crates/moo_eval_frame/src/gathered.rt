@@ -24,7 +24,7 @@ pub struct Gathered {
     last: Vec<Value>,
 }
 
-/// Values, and a list that was spliced in after them.
+/// Holds values, and a list that was spliced in after them.
 #[derive(Drop)]
 pub struct Stretch {
     pub values: Vec<Value>,
@@ -47,7 +47,8 @@ impl Model for Gathered {
 }
 
 impl Gathered {
-    /// Returns no values, with capacity for so many. They take this memory, whose values are dropped.
+    /// Returns no values, with capacity for `count`. They take this memory, whose values are dropped. Err is out of
+    /// memory.
     #[inline(always)]
     pub fn with_memory(
         alloc: Global,
@@ -111,7 +112,8 @@ impl Gathered {
         count(&self.stretches).saturating_add(self.last.len())
     }
 
-    /// Returns the values.
+    /// Returns the values in one vector. The lists that were spliced in, and the values before them, are copied. Err is
+    /// out of memory.
     #[inline(always)]
     pub fn into_values(self, alloc: Global) -> Result<Vec<Value>, AllocError>
         ensures { IfOk result (λ values. trees values.items ≡ self) }
@@ -128,8 +130,8 @@ impl Gathered {
         (stretches, last)
     }
 
-    /// Returns the values for the arguments of a verb, which have to make a list: E_QUOTA, before an element is
-    /// copied, if the lists that were spliced in are too heavy together.
+    /// Returns the values for the arguments of a verb, which have to make a list. E_QUOTA if the lists that were
+    /// spliced in are too heavy together; then no element is copied.
     #[inline(always)]
     pub fn into_arguments(self, alloc: Global) -> Result<Vec<Value>, Failure>
         ensures ok { IfOk result (λ values. trees values.items ≡ self) }
@@ -142,8 +144,9 @@ impl Gathered {
         spliced_arguments(alloc, stretches, last)
     }
 
-    /// Returns the list of the values: E_QUOTA past the limits of weight and depth, before an element is copied if
-    /// the lists that were spliced in are too heavy together. A list that was spliced in alone is returned itself.
+    /// Returns the list of the values: E_QUOTA past the limits of weight and depth. If the lists that were spliced in
+    /// are too heavy together, no element is copied. If there is one such list, no value before it and at most one
+    /// after it, the list itself is returned, with that value appended.
     pub fn into_list(self, alloc: Global) -> Result<MooList, Failure>
         ensures ok { IfOk result (λ list. list ≡ self) }
         ensures limits { OnOk result (made_list self ≡ Ok (list_of self)) }

@@ -80,8 +80,8 @@ impl GivenValues {
         })
     }
 
-    // Returns the block that a called verb shares with its caller, if the names of types have the values that a frame
-    // begins with.
+    // Returns the block of shared values for a called verb. It is the caller's if the names of types have the values
+    // that a frame begins with, and a new one otherwise.
     #[inline(always)]
     fn handed_shared(&self) -> Result<Rc<SharedValues>, AllocError>
         ensures types { IfOk result (λ shared. types_of shared.value ≡ types) }
@@ -146,7 +146,7 @@ impl GivenValues {
         self.args
     }
 
-    /// Sets the value of a name.
+    /// Sets the value of a name. Err is out of memory; then no value has changed.
     pub(crate) fn set(&mut self, given: Given, value: Value) -> Result<(), AllocError>
         ensures { OnOk result (given_values self.new ≡ set (given_values self.old) (given_slot given) (Some value)) }
     {

@@ -8,7 +8,8 @@ ghost use Rattle.moo_value.specs.View.{trees};
 use moo_value::{ListLimit, MooList, Value};
 use std::alloc::Global;
 
-/// Holds the memory of a frame that has ended: of its slots, and of the list of its arguments if nothing else shared it.
+/// Holds the memory of a frame that has ended: of its slots, and of the list of its arguments if nothing else shared
+/// that list.
 #[derive(Drop)]
 pub struct FrameMemory {
     slots: Vec<Option<Value>>,
@@ -16,7 +17,7 @@ pub struct FrameMemory {
 }
 
 impl FrameMemory {
-    /// Returns no memory.
+    /// Returns a value that holds no memory.
     #[inline(always)]
     pub fn new(alloc: Global) -> FrameMemory {
         FrameMemory {
@@ -25,7 +26,8 @@ impl FrameMemory {
         }
     }
 
-    /// Returns the memory of these slots and of this list. The values that they hold are dropped.
+    /// Returns the memory of these slots, and of `args` if it is a list that nothing else shares. The values that they
+    /// hold are dropped.
     #[inline(always)]
     pub(crate) fn of(slots: Vec<Option<Value>>, args: Value) -> FrameMemory {
         let mut slots = slots;
@@ -36,7 +38,7 @@ impl FrameMemory {
         }
     }
 
-    /// Takes the memory for the values of arguments out.
+    /// Takes out the memory of the list of arguments, as a vector without values.
     #[inline(always)]
     pub fn take_values(&mut self, alloc: Global) -> Vec<Value> {
         match &mut self.args {
@@ -45,7 +47,8 @@ impl FrameMemory {
         }
     }
 
-    /// Makes the list of these values, as `MooList::try_from_vec` does.
+    /// Makes the list of these values, as `MooList::try_from_vec` does. It uses the memory of the list of arguments, if
+    /// there is one.
     #[inline(always)]
     pub fn list(&mut self, alloc: Global, values: Vec<Value>) -> Result<MooList, ListLimit>
         ensures ok { IfOk result (λ list. list ≡ trees values.items) }
@@ -65,7 +68,7 @@ impl FrameMemory {
     }
 }
 
-// Returns a list without its elements, if the value is one that nothing else shares.
+// Removes the elements of a list and returns it, if nothing else shares it. Returns `None` for other values.
 #[inline(always)]
 fn emptied(value: Value) -> Option<MooList> {
     match value {

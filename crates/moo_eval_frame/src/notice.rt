@@ -1,8 +1,8 @@
-//! Requests of a task, which are carried out when it has ended.
+//! Notices of a task, which the server handles when the task has ended.
 
 use moo_value::MooStr;
 
-/// A request of a task.
+/// Holds a request of a task, or a change that it made, for the server.
 #[derive(Drop)]
 pub enum Notice {
     /// A line for a player, or for the number of a connection on which nobody is connected.
@@ -13,6 +13,7 @@ pub enum Notice {
     SetPlayerFlag(i32, bool),
     /// This object was recycled.
     Recycle(i32),
+    /// A checkpoint of the database is to be made.
     DumpDatabase,
     /// The server is to end; with the text that gives the reason, if there is one.
     Shutdown(Option<MooStr>),

@@ -48,7 +48,7 @@ impl Raise {
     }
 }
 
-/// Says why an expression or a statement did not end normally.
+/// Holds the reason why an expression or a statement did not end normally.
 #[derive(Drop)]
 pub enum Stop {
     Raised(Raise),
@@ -59,7 +59,7 @@ pub enum Stop {
 }
 
 impl Stop {
-    /// Returns the end of a task that has no tick left, with these entries.
+    /// Returns the end of a task that has no tick left, with these entries. It is `Memory` if memory runs out.
     pub fn out_of_ticks(alloc: Global, trace: Vec<TraceEntry>) -> Stop
         ensures { HadMemory result → stop_of result ≡ out_of_ticks trace.items }
     {
@@ -83,7 +83,7 @@ pub enum Flow {
     Continue(Option<MooStr>),
 }
 
-/// Says why a node has no value: an error of its own, or a stop of a part of it.
+/// Holds the reason why a node has no value: an error of its own, or a stop of a part of it.
 #[derive(Drop)]
 pub enum Failure {
     Fails(ErrorCode),
@@ -160,7 +160,7 @@ impl From<ListLimit> for Failure {
     }
 }
 
-/// Returns an error that is raised with its own message, and 0 as its value.
+// Returns an error that is raised with its own message, and 0 as its value.
 fn plain_raise(alloc: Global, code: ErrorCode, trace: Vec<TraceEntry>) -> Result<Raise, AllocError>
     ensures { IfOk result (λ raise. raise_of raise ≡ plain_raise code trace.items) }
 {
@@ -170,7 +170,8 @@ fn plain_raise(alloc: Global, code: ErrorCode, trace: Vec<TraceEntry>) -> Result
     Raise::new(alloc, code, message, Value::Int(0), trace)
 }
 
-/// Returns the outcome of a node. With the d bit an error is raised, and without it the error is the value.
+/// Returns the outcome of a node. With the d bit an error of the node is raised, and without it the error is the value.
+/// A stop of a part stays as it is.
 pub fn settle(
     alloc: Global,
     stack: &CallStack<'_>,
@@ -194,7 +195,7 @@ pub fn settle(
     }
 }
 
-/// Returns the stop of a failure: its own error is raised, whatever the d bit.
+/// Returns the stop of a failure. An error of the node itself is raised, whatever the d bit is.
 pub fn raised(alloc: Global, stack: &CallStack<'_>, active: &Activation, failure: Failure) -> Stop
     ensures stop { HadMemory result → stop_of result ≡ raised_by (trace_of stack.now active.now) (failure_of failure) }
     ensures known { HadMemory result → HadMemoryIn failure }

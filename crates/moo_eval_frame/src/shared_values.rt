@@ -90,7 +90,7 @@ impl SharedValues {
         })
     }
 
-    /// Returns a copy of the values.
+    // Returns a copy of the values.
     fn try_clone(&self) -> Result<SharedValues, AllocError>
         ensures { IfOk result (λ copy. copy ≡ self.now) }
     {
@@ -120,7 +120,7 @@ impl SharedValues {
         self.has_first_types
     }
 
-    // Sets a shared value.
+    // Sets a shared value. Changes nothing for a name whose value isn't shared.
     fn set(&mut self, given: Given, value: Value)
         ensures { self.new ≡ with_shared self.old given value }
     {
@@ -146,7 +146,8 @@ impl SharedValues {
     }
 }
 
-/// Sets a shared value, in a block that nothing else shares.
+/// Sets a shared value. If something else shares the block, a copy replaces it first. Err is out of memory; then no
+/// value has changed.
 pub(crate) fn set_shared(
     alloc: Global,
     shared: &mut Rc<SharedValues>,

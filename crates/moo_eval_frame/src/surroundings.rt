@@ -4,14 +4,14 @@ ghost use Rattle.moo_eval_frame.specs.Surroundings.{own_number};
 
 use crate::notice::Notice;
 
-/// Holds the player who is connected on a connection, and since when, in seconds.
+/// Holds the player who is connected on a connection, and the moment of the login, in seconds since 1970.
 #[derive(Clone, Copy)]
 pub struct Login {
     pub player: i32,
     pub moment: u32,
 }
 
-/// Describes an open connection. Its moments are in seconds.
+/// Describes an open connection. Its moments are in seconds since 1970.
 #[derive(Clone, Copy)]
 pub struct Connection {
     pub number: u16,
@@ -23,8 +23,8 @@ pub struct Connection {
     pub heard: Option<u32>,
 }
 
-/// Holds the surroundings of a task, which stay while it runs: the moment, in seconds, and the open connections, in the
-/// order of their numbers. The connections are borrowed, so that beginning a task copies none of them.
+/// Holds the surroundings of a task, which stay while it runs. They are the moment, in seconds since 1970, and the open
+/// connections, in the order of their numbers. The connections are borrowed, so that beginning a task copies none.
 #[derive(Clone, Copy)]
 pub struct Surroundings<'a> {
     pub moment: u32,

@@ -25,9 +25,9 @@ use moo_syntax_grammar::Program;
 use moo_value::{MooList, MooStr, Value};
 use std::alloc::{AllocError, Global};
 
-/// Holds the variables of a frame: the values of the names that every frame has, a slot with a value or none for each
-/// other name of its program, and a list of further names. Names that every frame has need no search, nor do names
-/// that are set and spelled as in the program.
+/// Holds the variables of a frame. Names that every frame has are kept apart, each other name of the program has a
+/// slot, and further variables are in a list. Names that every frame has need no search. Nor do names whose slot is
+/// noted, if they are spelled as in the program.
 #[derive(Drop)]
 pub struct Variables {
     given: GivenValues,
@@ -69,8 +69,8 @@ impl Variables {
         FrameMemory::of(self.own.into_values(), self.given.into_args())
     }
 
-    /// Returns the values of the names that the frame of a called verb has, which begin as those of its caller. The
-    /// variables of the command have the values that they have there.
+    /// Returns the values of the names that every frame has, for a verb that this frame calls. The variables of the
+    /// command have the values that they have in this frame. `caller` is the `this` of this frame.
     #[inline(always)]
     pub fn handed(
         &self,
@@ -83,7 +83,8 @@ impl Variables {
         self.given.handed(running, caller, args)
     }
 
-    /// Sets a variable. Inlined, so that a variable whose slot is known needs no call.
+    /// Sets a variable. Err is out of memory; then nothing has changed. Inlined, so that a variable whose slot is known
+    /// needs no call.
     #[inline(always)]
     pub fn set(&mut self, name: &Name, value: Value) -> Result<(), AllocError>
         ensures { OnOk result (variables_of self.new ≡ with_variable (variables_of self.old) (bind name.now (tree value))) }
@@ -97,8 +98,8 @@ impl Variables {
         }
     }
 
-    /// Sets a variable to an integer, in place if it holds one, and returns true. False if the variable's slot isn't known;
-    /// then nothing has changed.
+    /// Sets a variable to an integer, in place if it holds one, and returns true. Returns false if the variable's slot
+    /// isn't known; then nothing has changed.
     #[inline(always)]
     pub fn try_put_integer(&mut self, name: &Name, number: i32) -> bool
         ensures put { IsTrue result → variables_of self.new ≡ with_variable (variables_of self.old) (bind name.now (integer number)) }
@@ -113,7 +114,8 @@ impl Variables {
         }
     }
 
-    /// Adds to the integer in a variable, and returns whether it holds one. It doesn't if the variable's slot isn't known.
+    /// Adds a number to the integer in a variable, modulo 2^32, and returns whether it did. It doesn't if the variable
+    /// holds no integer, or if its slot isn't known; then nothing has changed.
     #[inline(always)]
     pub fn try_add_integer(&mut self, name: &Name, number: i32) -> bool
         ensures added { IsTrue result → (i : ℤ) × (variables_of self.old (folded name.now) ≡ Some (integer i)) × (variables_of self.new ≡ with_variable (variables_of self.old) (bind name.now (integer (int_wrap w32 (i +ℤ number))))) }
@@ -125,8 +127,9 @@ impl Variables {
         }
     }
 
-    /// Replaces an integer in the list in a variable by another if nothing else shares the list, and returns whether it
-    /// did. It doesn't if the variable's slot isn't known.
+    /// Replaces the integer at `index` of the list in a variable by another, in place, and returns whether it did. It
+    /// doesn't if there is no such integer, if something else shares the list, or if the variable's slot isn't known.
+    /// Then nothing has changed.
     #[inline(always)]
     pub fn try_put_element(&mut self, name: &Name, index: usize, number: i32) -> bool
         ensures put { IsTrue result → (ts : List Tree) × (variables_of self.old (folded name.now) ≡ Some (list_of ts)) × (index < length ts) × IsWithinLimits (list_of (set ts index (integer number))) × (variables_of self.new ≡ with_variable (variables_of self.old) (bind name.now (list_of (set ts index (integer number))))) }
@@ -138,8 +141,9 @@ impl Variables {
         }
     }
 
-    /// Replaces an integer in a list in the list in a variable by another, and returns whether it did. It doesn't if
-    /// something else shares the inner list, or if the variable's slot isn't known.
+    /// Replaces the integer at `inner` of the list at `outer` of the list in a variable, and returns whether it did. It
+    /// doesn't if there is no such integer, if something else shares one of the lists, or if the variable's slot isn't
+    /// known. Then no value has changed. Err is out of memory; the variable may then hold an empty list.
     #[inline(always)]
     pub fn try_put_inner(
         &mut self,
@@ -158,8 +162,9 @@ impl Variables {
         }
     }
 
-    /// Appends a string to the one in a variable, and returns whether it did. It doesn't if the variable holds no string, if
-    /// the longer one is past the limit, or if the variable's slot isn't known. Err is out of memory.
+    /// Appends a string to the one in a variable, and returns whether it did. It doesn't if the variable holds no
+    /// string, if the longer one is past the limit, or if the variable's slot isn't known. Then nothing has changed.
+    /// Err is out of memory; the variable then isn't set.
     #[inline(always)]
     pub fn try_extend(
         &mut self,
@@ -176,8 +181,9 @@ impl Variables {
         }
     }
 
-    /// Appends a value to the list in a variable, and returns whether it did. It doesn't if the variable holds no list, if
-    /// the longer one is past the limits, or if the variable's slot isn't known. Err is out of memory.
+    /// Appends a value to the list in a variable, and returns whether it did. It doesn't if the variable holds no list,
+    /// if the longer one is past the limits, or if the variable's slot isn't known. Then nothing has changed. Err is
+    /// out of memory; the variable then isn't set.
     #[inline(always)]
     pub fn try_push(&mut self, alloc: Global, name: &Name, value: Value) -> Result<bool, AllocError>
         ensures pushed { IfOk result (λ done. IsTrue done → (elements : List Tree) × (variables_of self.old (folded name.now) ≡ Some (list_of elements)) × IsWithinLimits (list_of (elements ++ tree value ∷ [])) × (variables_of self.new ≡ with_variable (variables_of self.old) (bind name.now (list_of (elements ++ tree value ∷ []))))) }
@@ -189,9 +195,9 @@ impl Variables {
         }
     }
 
-    /// Appends a value to a list in the list in a variable, and returns whether it did. It doesn't if one of the lists
-    /// isn't there or is past the limits with the value, or if the variable's slot isn't known. Err is out of memory;
-    /// the variable may then hold an empty list.
+    /// Appends a value to the list at `outer` of the list in a variable, and returns whether it did. It doesn't if one
+    /// of the lists isn't there or is past the limits with the value, or if the variable's slot isn't known. Then
+    /// nothing has changed. Err is out of memory; the variable may then hold an empty list.
     #[inline(always)]
     pub fn try_push_inner(
         &mut self,
@@ -256,8 +262,8 @@ impl Variables {
         }
     }
 
-    /// Returns the value of a variable, or `None` if it isn't set. Inlined, so that a variable whose slot is known needs
-    /// no call.
+    /// Returns the value of a variable, or `None` if it isn't set. Inlined, so that a variable whose slot is known
+    /// needs no call.
     #[inline(always)]
     pub fn get(&self, name: &Name) -> Option<&Value>
         ensures { option_map (λ v. tree v.now) result ≡ variables_of self.now (folded name.now) }

@@ -27,7 +27,7 @@ owner_of w o = (unwrap_or (object_numbered w o) nothing).owner
 abbrev pub uncounted : World → ℤ → World
 uncounted w owner = with_quota w owner (quota w owner) (pos 1)
 
--- The object is removed, unless a verb has done so, and no longer counts in its owner's quota: the quota is the one
+-- The object is removed, unless a verb has done so, and no longer counts in its owner's quota. The quota is the one
 -- that is found once the object is gone.
 unfoldable pub taken_away : World → ℤ → Progress × World
 taken_away w o =

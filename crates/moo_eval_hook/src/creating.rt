@@ -1,5 +1,5 @@
-//! `create`: 'Fundamental Operations on Objects' of the LambdaMOO Programmer's Manual, 'Functions over the running
-//! task' of docs/reference/language.md.
+//! `create`: 'Fundamental Operations on Objects' of the LambdaMOO Programmer's Manual, 'Functions that call verbs' of
+//! docs/reference/language.md.
 ghost use Rattle.std.specs.Prelude.{◌≡◌};
 ghost use Rattle.moo_eval_frame.specs.Seen.{IsKnownFailure};
 ghost use Rattle.moo_eval_hook.specs.Creating.{may_be_parent, owner_of_new, creating};
@@ -13,9 +13,10 @@ use moo_value::ErrorCode;
 use moo_world::{Rights, World};
 use std::alloc::Global;
 
-/// Makes an object: E_PERM if the parent isn't fertile, then E_QUOTA if the owner may not own more or there is no
-/// number left, then E_PERM if the owner isn't the programmer. It counts in its owner's quota, and its `initialize`
-/// is called: E_MAXREC if no frame is left for it, and the object stays.
+/// Makes an object. E_PERM if the programmer may not make an object inherit from the parent. Then E_QUOTA if the owner
+/// may not own more or there is no number left. Then E_PERM if the programmer is neither the owner nor a wizard. The
+/// object counts in its owner's quota, and its `initialize` is called: E_MAXREC if no frame is left for it; the object
+/// stays.
 pub(crate) fn create<'a>(
     alloc: Global,
     world: &mut World,

@@ -1,5 +1,5 @@
-//! `eval`: 'MOO-Code Evaluation and Task Manipulation' of the LambdaMOO Programmer's Manual, 'Functions over the
-//! running task' of docs/reference/language.md.
+//! `eval`: 'MOO-Code Evaluation and Task Manipulation' of the LambdaMOO Programmer's Manual, 'Functions that call
+//! verbs' of docs/reference/language.md.
 ghost use Rattle.std.specs.Prelude.{◌≡◌, ◌∷◌, [], true, IfOk};
 ghost use Rattle.moo_value.specs.Tree.{integer};
 ghost use Rattle.moo_value.specs.View.{tree, trees};

@@ -1,4 +1,4 @@
-//! Verbs that a function calls.
+//! Verbs of objects that a function calls, if an object has them.
 ghost use Rattle.std.specs.Prelude.{◌≡◌, ◌∷◌, List, IfOk, Ok};
 ghost use Rattle.moo_eval_frame.specs.declared.frame.TraceFrame.{TraceFrame};
 ghost use Rattle.moo_eval_frame.specs.declared.frame.TraceEntry.{TraceEntry};
@@ -60,7 +60,7 @@ fn call_found<'a>(
     Ok(Progress::verb_next(alloc, through(function, called), stage)?)
 }
 
-/// Enters a verb for a function, whose entry comes between the verb and its caller. The caller is a frame of a verb.
+/// Puts the entry of a function between an entered verb and its caller. The caller is a frame of a verb.
 pub(crate) fn through<'a>(function: &'static str, called: Called<'a>) -> Called<'a>
     ensures { (f : TraceFrame) (rest : List TraceEntry) → called.entry.stack.callers ≡ Verb f ∷ rest → entered_of result ≡ through function.now (entered_of called.entry) }
 {
@@ -80,7 +80,7 @@ pub(crate) fn through<'a>(function: &'static str, called: Called<'a>) -> Called<
     }
 }
 
-// Returns the name of a hook. A verb that has only this name shares it.
+// Returns the name by which a verb is called. If it is the verb's only name, they share its bytes.
 fn name_of_hook(alloc: Global, names: &MooStr, name: &str) -> Result<MooStr, AllocError>
     ensures { IfOk result (λ s. s ≡ name.now) }
 {

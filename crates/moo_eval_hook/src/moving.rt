@@ -1,5 +1,6 @@
-//! `move`: 'Object Movement' of the LambdaMOO Programmer's Manual, 'Functions over the running task' of
-//! docs/reference/language.md. If no frame is left for a verb that is to be called, E_MAXREC is raised; earlier changes stay.
+//! `move`: 'Object Movement' of the LambdaMOO Programmer's Manual, 'Functions that call verbs' of
+//! docs/reference/language.md. If no frame is left for a verb that is to be called, E_MAXREC is raised; earlier changes
+//! stay.
 ghost use Rattle.std.specs.Prelude.{◌≡◌};
 ghost use Rattle.moo_eval_frame.specs.Seen.{IsKnownFailure};
 ghost use Rattle.moo_eval_hook.specs.Moving.{move_calls, is_to_move, moved, moving, may_enter, accepted, has_come, left_behind};
@@ -13,8 +14,8 @@ use moo_value::{ErrorCode, Value};
 use moo_world::{Rights, World};
 use std::alloc::Global;
 
-/// Begins to move an object: E_INVARG if the place is neither an object nor #-1, then E_PERM if the programmer
-/// doesn't control the object. Then the place's `accept` is called; with #-1 the object moves at once.
+/// Begins to move an object. E_INVARG if the place is neither an object nor #-1, then E_PERM if the programmer neither
+/// owns the object nor is a wizard. Then the place's `accept` is called; with #-1 the object moves at once.
 pub(crate) fn begin_move<'a>(
     alloc: Global,
     world: &mut World,
@@ -38,9 +39,9 @@ pub(crate) fn begin_move<'a>(
     call_verb(alloc, world, stack, active, to, "accept", what, stage)
 }
 
-/// Goes on after the place's `accept`: E_NACC if the place doesn't accept, except for wizards, then E_RECMOVE if the
-/// place is the object or in it. Else the object moves, and the `exitfunc` of the place that it leaves is called. If
-/// the object is there already, or one of the two was recycled, the value is 0.
+/// Goes on after the place's `accept`. E_NACC if the place doesn't accept and the programmer is no wizard. If the
+/// object is there already, or one of the two was recycled, the value is 0. E_RECMOVE if the place is the object or in
+/// it. Else the object moves, and the `exitfunc` of the place that it leaves is called.
 pub(crate) fn accept<'a>(
     alloc: Global,
     world: &mut World,
@@ -64,8 +65,8 @@ fn may_enter(world: &World, programmer: i32, answer: bool) -> bool
     answer || Rights::is_wizard(world, programmer)
 }
 
-// Moves the object, if it isn't there and both are still valid: E_RECMOVE into itself. The `exitfunc` of the place
-// that it leaves is called.
+// Moves the object, if it isn't there and both are still valid: E_RECMOVE if the place is the object or in it. The
+// `exitfunc` of the place that it leaves is called.
 fn move_object<'a>(
     alloc: Global,
     world: &mut World,
@@ -91,8 +92,8 @@ fn is_to_move(world: &World, what: i32, to: i32) -> bool
     world.valid(what) && is_place(world, to) && location(world, what) != to
 }
 
-/// Goes on after the old place's `exitfunc`: the `enterfunc` of the new place is called, if the object is still
-/// there; else the value is 0.
+/// Goes on after the old place's `exitfunc`. If the object is still in the new place, the `enterfunc` of that place is
+/// called; else the value is 0.
 pub(crate) fn leave<'a>(
     alloc: Global,
     world: &World,

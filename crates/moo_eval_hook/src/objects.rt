@@ -33,7 +33,7 @@ pub(crate) fn location(world: &World, o: i32) -> i32
     world.location(o).unwrap_or(-1)
 }
 
-/// Returns the first of the contents of an object.
+/// Returns the first of the contents of an object, if it has any.
 pub(crate) fn first_inside(world: &World, o: i32) -> Option<i32>
     ensures { result ≡ first_inside world.now o }
 {

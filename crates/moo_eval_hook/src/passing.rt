@@ -1,4 +1,4 @@
-//! `pass`: 'Object-Oriented Programming' of the LambdaMOO Programmer's Manual, 'Functions over the running task' of
+//! `pass`: 'Object-Oriented Programming' of the LambdaMOO Programmer's Manual, 'Functions that call verbs' of
 //! docs/reference/language.md.
 ghost use Rattle.std.specs.Prelude.{◌≡◌};
 ghost use Rattle.moo_value.specs.View.{trees};
@@ -14,9 +14,9 @@ use moo_value::Value;
 use moo_world::World;
 use std::alloc::Global;
 
-/// Calls the verb of the running one's name that is found from the parent of its object on. E_QUOTA for a list of
-/// arguments past the limits, E_INVIND if there is no parent, E_VERBNF if it has no such executable verb, E_MAXREC if
-/// no frame is left.
+/// Calls the verb with the name of the running one that is found from the parent of its definer on. E_QUOTA for a list
+/// of arguments past the limits, E_INVIND if there is no parent. E_VERBNF if the parent has no such executable verb,
+/// E_MAXREC if no frame is left.
 pub(crate) fn pass<'a>(
     alloc: Global,
     world: &World,

@@ -10,7 +10,7 @@ use moo_value::Value;
 use moo_world::WorldFault;
 use std::alloc::{AllocError, Global};
 
-/// What a function continues with once a verb that it called has returned.
+/// Names what a function continues with once a verb that it called has returned.
 #[derive(Clone, Copy)]
 pub enum Stage {
     /// The verb that `pass` called: its value is that of the function.
@@ -25,13 +25,13 @@ pub enum Stage {
     Entering,
     /// A verb of this object, which is to be recycled once it has no contents.
     Emptying(i32),
-    /// Nothing: this object was recycled.
+    /// No verb: this object was recycled.
     Recycled(i32),
     /// The program that `eval` runs: its value comes after a 1.
     Evaluated,
 }
 
-/// What a function does next.
+/// Holds what a function does next.
 #[derive(Drop)]
 pub enum Progress<'a> {
     /// It returns this value.
@@ -43,8 +43,8 @@ pub enum Progress<'a> {
 }
 
 impl<'a> Progress<'a> {
-    /// Returns the step in which a verb runs, and its value goes to the stage. The verb is boxed, since most steps
-    /// have none.
+    /// Returns the step in which a verb runs, and its value goes to the stage. The verb is boxed, since most steps have
+    /// none. Err is out of memory.
     pub(crate) fn verb_next(
         alloc: Global,
         called: Called<'a>,

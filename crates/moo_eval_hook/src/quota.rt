@@ -11,7 +11,7 @@ use std::alloc::{AllocError, Global};
 /// The property that holds a quota.
 const QUOTA: &[u8] = b"ownership_quota";
 
-/// Returns the quota of an owner: the integer in its property, if it has one.
+/// Returns the quota of an owner: the integer in its property, if it has one. Err is out of memory.
 pub(crate) fn quota(alloc: Global, world: &World, owner: i32) -> Result<Option<i32>, AllocError>
     ensures { IfOk result (λ left. left ≡ quota world.now owner) }
 {
@@ -41,7 +41,8 @@ pub(crate) fn is_used_up(quota: Option<i32>) -> bool
     }
 }
 
-/// Sets an owner's quota to `quota` plus `change`. An owner without a quota isn't counted.
+/// Sets an owner's quota to `quota` plus `change`, modulo 2^32. Changes nothing if `quota` is `None`, or if the owner
+/// has no such property any more.
 pub(crate) fn change_quota(world: &mut World, owner: i32, quota: Option<i32>, change: i32)
     ensures { world.new ≡ with_quota world.old owner quota change }
 {

@@ -1,6 +1,6 @@
-//! `recycle`: 'Fundamental Operations on Objects' of the LambdaMOO Programmer's Manual, 'Functions over the running
-//! task' of docs/reference/language.md. If no frame is left for a verb that is to be called, E_MAXREC is raised; earlier
-//! changes stay.
+//! `recycle`: 'Fundamental Operations on Objects' of the LambdaMOO Programmer's Manual, 'Functions that call verbs' of
+//! docs/reference/language.md. If no frame is left for a verb that is to be called, E_MAXREC is raised; earlier changes
+//! stay.
 ghost use Rattle.std.specs.Prelude.{◌≡◌};
 ghost use Rattle.moo_eval_frame.specs.Seen.{IsKnownFailure};
 ghost use Rattle.moo_eval_hook.specs.Objects.{first_inside};
@@ -16,7 +16,7 @@ use moo_value::ErrorCode;
 use moo_world::{Rights, World};
 use std::alloc::Global;
 
-/// Begins to recycle an object: E_PERM if the programmer doesn't control it. Its `recycle` is called.
+/// Begins to recycle an object: E_PERM if the programmer neither owns it nor is a wizard. Its `recycle` is called.
 pub(crate) fn begin_recycling<'a>(
     alloc: Global,
     world: &World,

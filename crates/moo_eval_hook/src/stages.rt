@@ -18,8 +18,8 @@ use moo_world::World;
 use std::alloc::{AllocError, Global};
 
 /// Continues a function at a stage, with the value of the verb before it, and returns what comes next. Raises the
-/// errors of the stage (`accept`, `leave`, `empty`); earlier changes stay. A recycled object leaves a notice. As long
-/// as no verb changes the world, fewer stages are left after it.
+/// errors of the stage (`accept`, `leave`, `empty`, and E_QUOTA of the value of `eval`); earlier changes stay. Adds the
+/// notice of a recycled object. As long as no verb changes the world, fewer stages are left after it.
 pub fn resume_call<'a>(
     alloc: Global,
     world: &mut World,

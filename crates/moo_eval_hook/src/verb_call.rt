@@ -46,10 +46,10 @@ fn calls_verbs(function: Function) -> bool
 }
 
 /// Begins a call of a function that calls verbs, and returns what comes first: its value, a verb, or a stage. A wrong
-/// number of arguments raises E_ARGS, then one of a wrong type E_TYPE, then an object that isn't valid E_INVARG; the
+/// number of arguments raises E_ARGS, then one of a wrong type E_TYPE, then an object that isn't valid E_INVARG. The
 /// function's own tests follow. Any other function raises E_TYPE; no call has one. Lists that were spliced in are not
-/// copied if there are more arguments than the function takes, and for `pass` if they are too heavy together for a
-/// list.
+/// copied if there are more arguments than the function takes. For `pass` E_QUOTA comes first if they are too heavy
+/// together for a list, and they are not copied either.
 #[inline(never)]
 pub fn start_call<'a>(
     alloc: Global,

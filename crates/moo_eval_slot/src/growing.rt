@@ -1,4 +1,4 @@
-//! Strings and lists that grow, within the limits: in the slot that holds them, if nothing else shares them.
+//! Strings and lists that become longer within the limits. They grow in place if nothing else shares them.
 ghost use Rattle.std.specs.Prelude.{◌≡◌, ℕ, List, ◌↔◌, ◌++◌, ◌∷◌, [], Some, IsTrue, IsFalse, IfOk};
 ghost use Rattle.moo_value.specs.Tree.{Tree, list_of, string};
 ghost use Rattle.moo_value.specs.View.{tree};
@@ -8,8 +8,8 @@ ghost use Rattle.moo_value.specs.declared.value.Value.TheVariants.{Str, List as 
 use moo_value::{DEPTH_LIMIT, ListLimit, MooList, MooStr, Value, ValueFault, WEIGHT_LIMIT};
 use std::alloc::{AllocError, Global};
 
-/// Appends a string to the one at a place, and returns whether it did. It doesn't if no string is there, or if the longer
-/// one is past the limit; then the place is kept. Err is out of memory.
+/// Appends a string to the one at a place, and returns whether it did. It doesn't if no string is there, or if the
+/// longer one is past the limit; then nothing has changed. Err is out of memory; the place then holds nothing.
 #[inline(always)]
 pub(crate) fn try_extend(
     alloc: Global,
@@ -36,7 +36,7 @@ pub(crate) fn try_extend(
 }
 
 /// Appends a value to the list at a place, and returns whether it did. It doesn't if no list is there, or if the longer
-/// one is past the limits; then the place is kept. Err is out of memory.
+/// one is past the limits; then nothing has changed. Err is out of memory; the place then holds nothing.
 #[inline(always)]
 pub(crate) fn try_push(
     alloc: Global,
@@ -62,7 +62,8 @@ pub(crate) fn try_push(
     }
 }
 
-/// Returns whether the list with one more value, this one, is within the limits of weight and depth.
+/// Returns whether the list with this value before its elements, or after them, is within the limits of weight and
+/// depth.
 pub fn has_room_for(list: &MooList, value: &Value) -> bool
     ensures last { IsTrue result ↔ IsWithinLimits (list_of (list.now ++ tree value.now ∷ [])) }
     ensures first { IsTrue result ↔ IsWithinLimits (list_of (tree value.now ∷ list.now)) }
@@ -75,8 +76,8 @@ pub fn has_room_for(list: &MooList, value: &Value) -> bool
     depth <= DEPTH_LIMIT
 }
 
-/// Returns the list with this value at its end, which has to be within the limits. A list that nothing else shares grows
-/// in place. Err is out of memory.
+/// Returns the list with this value after its elements. The longer list has to be within the limits. A list that
+/// nothing else shares grows in place. Err is out of memory.
 pub fn pushed(alloc: Global, list: MooList, value: Value) -> Result<MooList, AllocError>
     requires { IsWithinLimits (list_of (list ++ tree value ∷ [])) }
     ensures { IfOk result (λ longer. longer ≡ list ++ tree value ∷ []) }
@@ -88,8 +89,8 @@ pub fn pushed(alloc: Global, list: MooList, value: Value) -> Result<MooList, All
     }
 }
 
-/// Returns the list with this value before its elements, which has to be within the limits. A list that nothing else
-/// shares takes it in place. Err is out of memory.
+/// Returns the list with this value before its elements. The longer list has to be within the limits. A list that
+/// nothing else shares takes the value in place. Err is out of memory.
 pub fn prepended(alloc: Global, list: MooList, value: Value) -> Result<MooList, AllocError>
     requires { IsWithinLimits (list_of (tree value ∷ list)) }
     ensures { IfOk result (λ longer. longer ≡ tree value ∷ list) }
@@ -101,14 +102,15 @@ pub fn prepended(alloc: Global, list: MooList, value: Value) -> Result<MooList, 
     }
 }
 
-/// Is true if the string with another after its bytes is within the limit of weight.
+/// Returns whether the string with another after its bytes is within the limit of weight.
 pub fn has_room_after(text: &MooStr, last: &MooStr) -> bool
     ensures { IsTrue result ↔ IsWithinLimits (string (text.now ++ last.now)) }
 {
     text.len() + last.len() < WEIGHT_LIMIT as usize
 }
 
-/// Returns the string with another after its bytes, which has to be within the limit of weight.
+/// Returns the string with another after its bytes. The longer string has to be within the limit of weight. A string
+/// that nothing else shares grows in place. Err is out of memory.
 pub fn extended(alloc: Global, text: MooStr, last: &MooStr) -> Result<MooStr, AllocError>
     requires { IsWithinLimits (string (text ++ last.now)) }
     ensures { IfOk result (λ longer. longer ≡ text ++ last.now) }

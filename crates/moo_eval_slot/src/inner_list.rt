@@ -1,4 +1,4 @@
-//! Integers that are put into a list in a list, and values that it takes at its end.
+//! Changes of a list in the list in a slot: an integer of it is replaced, or it takes a value at its end.
 ghost use Rattle.std.specs.Prelude.{◌≡◌, ◌<◌, ◌++◌, ◌∷◌, ℤ, List, [], Some, None, length, get_or, set, slice_get, slice_set, IsTrue, IsFalse, IfOk, IfSome};
 ghost use Rattle.moo_value.specs.Tree.{Tree, integer, list_of};
 ghost use Rattle.moo_value.specs.Size.{IsWithinLimits};
@@ -12,7 +12,9 @@ use moo_value::{DEPTH_LIMIT, ListLimit, MooList, Value, WEIGHT_LIMIT};
 use std::alloc::{AllocError, Global};
 use std::mem;
 
-/// Replaces an integer in a list in the list in a slot by another, and returns whether it did.
+/// Replaces the integer at `inner` of the list at `outer` of the list in a slot, and returns whether it did. It doesn't
+/// if there is no such integer, or if something else shares one of the lists; then no value has changed. Err is out of
+/// memory; the slot may then hold an empty list.
 #[inline(always)]
 pub(crate) fn put_inner_at(
     alloc: Global,
@@ -30,7 +32,9 @@ pub(crate) fn put_inner_at(
     try_put_inner(alloc, &mut values[slot], outer, inner, number)
 }
 
-/// Appends a value to a list in the list in a slot, and returns whether it did. Err is out of memory.
+/// Appends a value to the list at `outer` of the list in a slot, and returns whether it did. It doesn't if one of the
+/// lists isn't there, or is past the limits with the value; then nothing has changed. Err is out of memory; the slot
+/// may then hold an empty list.
 #[inline(always)]
 pub(crate) fn push_inner_at(
     alloc: Global,
@@ -47,8 +51,9 @@ pub(crate) fn push_inner_at(
     try_push_inner(alloc, &mut values[slot], outer, value)
 }
 
-// Replaces an integer in a list in the list at a place by another, and returns whether it did. It doesn't if something
-// else shares the inner list.
+// Replaces the integer at `inner` of the list at `outer` of the list at a place, and returns whether it did. It doesn't
+// if there is no such integer, or if something else shares one of the lists; then no value has changed. Err is out of
+// memory; the place may then hold an empty list.
 fn try_put_inner(
     alloc: Global,
     place: &mut Option<Value>,
@@ -65,8 +70,9 @@ fn try_put_inner(
     }
 }
 
-// Replaces an integer in the list at `outer` of a list by another, and returns whether it did. An empty list takes the
-// place of the inner list meanwhile, so that nothing else shares it.
+// Replaces the integer at `inner` of the list at `outer` of a list, and returns whether it did, as `put_inner_at` does.
+// An empty list takes the place of the inner list meanwhile, so that the outer list doesn't share it. On Err the outer
+// list may be empty.
 fn put_into_element(
     alloc: Global,
     list: &mut MooList,
@@ -89,9 +95,9 @@ fn put_into_element(
     Ok(is_put)
 }
 
-// Appends a value to a list in the list at a place, and returns whether it did. It doesn't if one of the lists isn't
-// there, or is past the limits with the value; then the place is kept. Err is out of memory; the place may then hold an
-// empty list.
+// Appends a value to the list at `outer` of the list at a place, and returns whether it did. It doesn't if one of the
+// lists isn't there, or is past the limits with the value; then nothing has changed. Err is out of memory; the place
+// may then hold an empty list.
 fn try_push_inner(
     alloc: Global,
     place: &mut Option<Value>,
@@ -107,8 +113,9 @@ fn try_push_inner(
     }
 }
 
-// Appends a value to the list at `outer` of a list, and returns whether it did. An empty list takes the place of the
-// inner list meanwhile, so that one that nothing else shares grows in place.
+// Appends a value to the list at `outer` of a list, and returns whether it did, as `push_inner_at` does. An empty list
+// takes the place of the inner list meanwhile, so that one that nothing else shares grows in place. On Err the outer
+// list may be empty.
 fn push_into_element(
     alloc: Global,
     list: &mut MooList,
@@ -130,7 +137,7 @@ fn push_into_element(
     Ok(true)
 }
 
-// Returns the list at `outer` of a list, if both are within the limits with this value at its end.
+// Returns the list at `outer` of a list, if both lists are within the limits once it has this value at its end.
 #[inline(always)]
 fn list_with_room<'a>(list: &'a MooList, outer: usize, value: &Value) -> Option<&'a MooList>
     ensures within { IfSome result (λ own. outer < length list.now) }
@@ -146,7 +153,7 @@ fn list_with_room<'a>(list: &'a MooList, outer: usize, value: &Value) -> Option<
     }
 }
 
-// Returns whether the list is within the limits of weight and depth with this value in a list in it.
+// Returns whether the list is within the limits of weight and depth once a list in it takes this value.
 #[inline(always)]
 fn has_inner_room(list: &MooList, value: &Value) -> bool
     ensures { IsTrue result → HasInnerRoom list.now (tree value.now) }
@@ -171,7 +178,7 @@ fn list_with_integer(list: &MooList, outer: usize, inner: usize) -> Option<&MooL
     }
 }
 
-// Returns the list at a place of a list.
+// Returns the list at `index` of a list, if one is there.
 #[inline(always)]
 fn list_at(list: &MooList, index: usize) -> Option<&MooList>
     ensures within { IfSome result (λ own. index < length list.now) }
@@ -210,7 +217,8 @@ fn empty_list(alloc: Global) -> Result<MooList, AllocError>
     }
 }
 
-// Returns the list with another list in the place of an element.
+// Returns the list with another list in the place of the element at `index`. The new list has to be within the limits.
+// Err is out of memory.
 #[inline(always)]
 fn replaced(
     alloc: Global,

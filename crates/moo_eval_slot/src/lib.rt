@@ -1,4 +1,5 @@
-//! The slots of the variables of a program, and the strings and lists that grow in them. An internal crate of `moo_eval`.
+//! The slots of the variables of a program, and the strings and lists that grow in them. An internal crate of
+//! `moo_eval`.
 #![tactic(auto)]
 
 mod growing;

@@ -44,7 +44,8 @@ impl Model for Slots {
 }
 
 impl Slots {
-    /// Returns the slots of the names of a program, none set. They take this memory, whose values are dropped.
+    /// Returns the slots of the names of a program, none set. They take this memory, whose values are dropped. Err is
+    /// out of memory.
     #[inline(always)]
     pub fn unset(program: Program, memory: Vec<Option<Value>>) -> Result<Slots, AllocError>
         ensures { IfOk result (λ own. slot_value own.names own.values (value_of_name []) ≡ value_of_name []) }
@@ -53,13 +54,14 @@ impl Slots {
         Ok(Slots { program, values })
     }
 
-    /// Returns the values of the slots.
+    /// Returns the values of the slots in their order, `None` for a slot that isn't set.
     #[inline(always)]
     pub fn into_values(self) -> Vec<Option<Value>> {
         self.values
     }
 
-    /// Returns the hint at the slot of a name, if the numbers of the name there are the name's.
+    /// Returns the slot that was noted at a name, if the numbers of the program's name there prove that its spelling is
+    /// the same. Returns `None` otherwise, and for a name that every frame has. The name may still have a slot.
     #[inline(always)]
     pub fn known_slot(&self, name: &Name) -> Option<usize>
         ensures there { IfSome result (λ i. position (λ own. bytes_eq (folded own) (folded name.now)) self.now.names ≡ Some i) }
@@ -78,7 +80,7 @@ impl Slots {
         }
     }
 
-    /// Returns the slot of a name.
+    /// Returns the slot of a name, in any case, or `None` if the program has no such name.
     #[inline(never)]
     pub fn slot_of(&self, name: &Name) -> Option<usize>
         ensures there { result ≡ position (λ own. bytes_eq (folded own) (folded name.now)) self.now.names }
@@ -99,7 +101,7 @@ impl Slots {
         }
     }
 
-    /// Sets a slot.
+    /// Sets a slot to a value.
     #[inline(always)]
     pub fn set(&mut self, slot: usize, value: Value)
         requires { IsSlot self.old slot }
@@ -117,7 +119,8 @@ impl Slots {
         put_integer(&mut self.values, slot, number);
     }
 
-    /// Adds to the integer in a slot, and returns whether it holds one.
+    /// Adds a number to the integer in a slot, modulo 2^32, and returns true. Returns false if the slot holds no
+    /// integer; then nothing has changed.
     #[inline(always)]
     pub fn try_add_integer(&mut self, slot: usize, number: i32) -> bool
         requires { IsSlot self.old slot }
@@ -127,7 +130,8 @@ impl Slots {
         try_add_integer(&mut self.values, slot, number)
     }
 
-    /// Replaces an integer in the list in a slot by another if nothing else shares the list, and returns whether it did.
+    /// Replaces the integer at `index` of the list in a slot by another, in place, and returns whether it did. It
+    /// doesn't if there is no such integer, or if something else shares the list; then nothing has changed.
     #[inline(always)]
     pub fn try_put_element(&mut self, slot: usize, index: usize, number: i32) -> bool
         requires { IsSlot self.old slot }
@@ -137,8 +141,9 @@ impl Slots {
         try_put_element(&mut self.values, slot, index, number)
     }
 
-    /// Replaces an integer in a list in the list in a slot by another, and returns whether it did. It doesn't if something
-    /// else shares the inner list.
+    /// Replaces the integer at `inner` of the list at `outer` of the list in a slot, and returns whether it did. It
+    /// doesn't if there is no such integer, or if something else shares one of the lists; then no value has changed.
+    /// Err is out of memory; the slot may then hold an empty list.
     #[inline(always)]
     pub fn try_put_inner(
         &mut self,
@@ -155,7 +160,8 @@ impl Slots {
         put_inner_at(alloc, &mut self.values, slot, outer, inner, number)
     }
 
-    /// Appends a string to the one in a slot, and returns whether it did. Err is out of memory.
+    /// Appends a string to the one in a slot, and returns whether it did. It doesn't if the slot holds no string, or if
+    /// the longer one is past the limit; then nothing has changed. Err is out of memory; the slot then isn't set.
     #[inline(always)]
     pub fn try_extend(
         &mut self,
@@ -170,7 +176,8 @@ impl Slots {
         extend_value(alloc, &mut self.values, slot, last)
     }
 
-    /// Appends a value to the list in a slot, and returns whether it did. Err is out of memory.
+    /// Appends a value to the list in a slot, and returns whether it did. It doesn't if the slot holds no list, or if
+    /// the longer one is past the limits; then nothing has changed. Err is out of memory; the slot then isn't set.
     #[inline(always)]
     pub fn try_push(&mut self, alloc: Global, slot: usize, value: Value) -> Result<bool, AllocError>
         requires { IsSlot self.old slot }
@@ -180,7 +187,9 @@ impl Slots {
         push_value(alloc, &mut self.values, slot, value)
     }
 
-    /// Appends a value to a list in the list in a slot, and returns whether it did. Err is out of memory.
+    /// Appends a value to the list at `outer` of the list in a slot, and returns whether it did. It doesn't if one of
+    /// the lists isn't there, or is past the limits with the value; then nothing has changed. Err is out of memory; the
+    /// slot may then hold an empty list.
     #[inline(always)]
     pub fn try_push_inner(
         &mut self,
@@ -197,7 +206,7 @@ impl Slots {
     }
 }
 
-// Appends a string to the one in a slot, and returns whether it did. Err is out of memory.
+// Appends a string to the one in a slot, as `Slots::try_extend` does.
 #[inline(always)]
 fn extend_value(
     alloc: Global,
@@ -213,7 +222,7 @@ fn extend_value(
     try_extend(alloc, &mut values[slot], last)
 }
 
-// Appends a value to the list in a slot, and returns whether it did. Err is out of memory.
+// Appends a value to the list in a slot, as `Slots::try_push` does.
 #[inline(always)]
 fn push_value(
     alloc: Global,
@@ -238,7 +247,7 @@ fn put_integer(values: &mut Vec<Option<Value>>, slot: usize, number: i32)
     set_integer(&mut values[slot], number);
 }
 
-// Adds to the integer in a slot, and returns whether it holds one.
+// Adds to the integer in a slot, as `Slots::try_add_integer` does.
 #[inline(always)]
 fn try_add_integer(values: &mut Vec<Option<Value>>, slot: usize, number: i32) -> bool
     requires { slot < length values.old.items }
@@ -248,7 +257,7 @@ fn try_add_integer(values: &mut Vec<Option<Value>>, slot: usize, number: i32) ->
     add_in_place(&mut values[slot], number)
 }
 
-// Adds to the integer at a place, and returns whether it holds one.
+// Adds a number to the integer at a place, and returns true. Returns false if the place holds no integer.
 #[inline(always)]
 fn add_in_place(place: &mut Option<Value>, number: i32) -> bool
     ensures added { IsTrue result → (i : ℤ) × (place.old ≡ Some (Int i)) × (place.new ≡ Some (Int (int_wrap w32 (i +ℤ number)))) }
@@ -270,7 +279,7 @@ fn sum(a: i32, b: i32) -> i32
     a.wrapping_add(b)
 }
 
-// Replaces an integer in the list in a slot by another if nothing else shares the list, and returns whether it did.
+// Replaces an integer in the list in a slot, as `Slots::try_put_element` does.
 #[inline(always)]
 fn try_put_element(values: &mut Vec<Option<Value>>, slot: usize, index: usize, number: i32) -> bool
     requires { slot < length values.old.items }
@@ -304,7 +313,7 @@ fn set_integer(place: &mut Option<Value>, number: i32)
     replace_by_integer(place, number);
 }
 
-// Sets a place to an integer that holds no integer. It is a separate function, so that the common case stays short.
+// Sets a place that holds no integer to one. It is a separate function, so that the common case stays short.
 #[cold]
 #[inline(never)]
 fn replace_by_integer(place: &mut Option<Value>, number: i32)
@@ -345,8 +354,8 @@ fn push_unset(all: &mut Vec<Option<Value>>, names: &[Name])
     }
 }
 
-// Returns the slot of a name among those of a program: the hint, if the name there has the same spelling, else what a
-// search finds.
+// Returns the slot of a name among those of a program. It is the noted one if the name there has the same spelling,
+// and otherwise the one that a search finds.
 #[inline(always)]
 fn own_slot(program: &Program, name: &Name) -> Option<usize>
     ensures { result ≡ position (λ own. bytes_eq (folded own) (folded name.now)) (slots program.now) }
@@ -359,7 +368,8 @@ fn own_slot(program: &Program, name: &Name) -> Option<usize>
     }
 }
 
-// Returns the slot of a name by a linear search. It is a separate function, so that the common case stays short.
+// Searches for the slot of a name, and notes it at the name. It is a separate function, so that the common case stays
+// short.
 #[cold]
 #[inline(never)]
 fn searched_slot(program: &Program, name: &Name) -> Option<usize>

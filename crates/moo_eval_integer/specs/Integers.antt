@@ -11,8 +11,8 @@ use Rattle.moo_eval_semantics.specs.Meaning.{Evaluates}
 abbrev pub with_ticks : ℕ → State → State
 with_ticks n s = record s { ticks = n }
 
--- with these variables an expression gives this value in every state, and changes nothing but the ticks, of which so
--- many are left before and after it
+-- With these variables an expression gives this value in every state, and changes nothing but the ticks. So many ticks
+-- are left before and after it.
 abbrev pub GivesValue : (List ℕ → Option Tree) → ℕ → Expr → Tree → ℕ → Type 0
 GivesValue variables n e v m = (c : Context) (s : State) → s.variables ≡ variables → Evaluates Faults c e (with_ticks n s) (Ok v) (with_ticks m s)
 

@@ -8,12 +8,12 @@ use Rattle.moo_builtin_operator.specs.Assignment.{with_index_of}
 use Rattle.moo_eval_slot.specs.Bindings.{bind, with_variable}
 use Rattle.moo_eval_integer.specs.Integers.{GivesInteger}
 
--- `name[place] = e` with integers: with these variables the place and then the value give integers, and the container in
--- the variable takes the one at the other. So many ticks are left before and after them.
+-- `name[place] = e` with integers: with these variables the place and then the value give integers. The container in
+-- the variable takes the value at the place. So many ticks are left before and after them.
 pub record PutsInteger (variables : List ℕ → Option Tree) (n : ℕ) (name : List ℕ) (place e : Expr) (m : ℕ) (after : List ℕ → Option Tree) : Type 0 where
   pub index : ℤ
   pub number : ℤ
-  -- the ticks that are left between them
+  -- the ticks that are left after the place, before the value
   pub between : ℕ
   pub container : Tree
   pub new : Tree
@@ -23,9 +23,9 @@ pub record PutsInteger (variables : List ℕ → Option Tree) (n : ℕ) (name : 
   pub made : with_index_of container (integer index) (integer number) ≡ Ok new
   pub sets : after ≡ with_variable variables (bind name new)
 
--- `name[outer][inner] = e` with integers: with these variables the places and then the value give integers. The container
--- in the variable has another container at `outer`, which takes the value at `inner`. So many ticks are left before and
--- after them.
+-- `name[outer][inner] = e` with integers: with these variables the places and then the value give integers. The
+-- container in the variable has another container at `outer`, which takes the value at `inner`. So many ticks are left
+-- before and after them.
 pub record PutsInner (variables : List ℕ → Option Tree) (n : ℕ) (name : List ℕ) (outer inner e : Expr) (m : ℕ) (after : List ℕ → Option Tree) : Type 0 where
   pub first : ℤ
   pub second : ℤ
@@ -47,7 +47,8 @@ pub record PutsInner (variables : List ℕ → Option Tree) (n : ℕ) (name : Li
   pub sets : after ≡ with_variable variables (bind name new)
 
 -- The places in `name[place] = {@name[again], e}`: with these variables both give this integer. Three ticks are taken
--- between them: for the list, for its element, and for the variable in it. So many are left before and after the places.
+-- between them: for the list, for its element, and for the variable in it. So many are left before and after the
+-- places.
 pub record GivePlace (variables : List ℕ → Option Tree) (n : ℕ) (place again : Expr) (index : ℤ) (m : ℕ) : Type 0 where
   pub between : ℕ
   pub placed : GivesInteger variables n place index between

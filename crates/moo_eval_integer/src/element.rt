@@ -1,4 +1,4 @@
-//! Elements of lists, and letters of strings, in variables.
+//! Reads elements of lists and letters of strings in variables, and sets elements to integers.
 ghost use Rattle.std.specs.Prelude.{◌≡◌, ◌≤◌, suc, pos, Ok, IsTrue, IsFalse, IfOk, IfSome, IfNone};
 ghost use Rattle.moo_value.specs.Tree.{integer, list_of, string as string_tree};
 ghost use Rattle.moo_value.specs.View.{tree};
@@ -18,10 +18,10 @@ use moo_syntax_lower::Node;
 use moo_value::{MooList, MooStr, Value};
 use std::alloc::{AllocError, Global};
 
-/// Returns `name[place]`, and takes its ticks from `left`. `None` if the place can't be computed from integers alone or
-/// is an element itself, if the variable isn't set, if the value has no such place, or if ticks or memory are missing.
-/// Then `left` may have fallen. An element is no place, so that the time for elements of elements is linear in their
-/// number. Inlined, so that an element of a variable needs no call.
+/// Returns `name[place]`, and takes its ticks from `left`. `None` if the place can't be computed from integers alone,
+/// or is an element itself. `None` too if the variable isn't set, if the value has no such place, or if ticks or memory
+/// are missing. Then `left` may have fallen. It declines an element as the place, so that the time for elements of
+/// elements is linear in their number. Inlined, so that an element of a variable needs no call.
 #[inline(always)]
 pub fn element_of(
     letters: &mut Letters,
@@ -66,8 +66,8 @@ pub fn inner_element_of(
     element_at(letters, base, place)
 }
 
-/// Is true if a place is no element, and its base is a variable, an element of one or an element of such an element,
-/// also at places that are no elements. So the time for elements of elements is linear in their number.
+/// Is true if neither the place nor a place within the base is an element. The base has to be a variable, an element of
+/// one or an element of such an element. So the time for elements of elements is linear in their number.
 #[inline(always)]
 pub(crate) fn has_flat_place(base: &Node, place: &Node) -> bool {
     !is_element(place) && is_flat_base(base)
@@ -113,7 +113,8 @@ fn element_at(letters: &mut Letters, base: &Value, place: i32) -> Option<Value>
     }
 }
 
-// Returns the element of a list that comes after so many.
+// Returns the element of a list that has this many elements before it. `None` if there is none, or if memory is
+// missing.
 #[inline(always)]
 fn element_after(list: &MooList, index: usize) -> Option<Value>
     ensures { IfSome result (λ v. index_of (list_of list.now) (integer (pos (suc index))) ≡ Ok (tree v)) }
@@ -128,7 +129,8 @@ fn element_after(list: &MooList, index: usize) -> Option<Value>
     }
 }
 
-// Returns the letter of a string that comes after so many.
+// Returns the letter of a string that has this many letters before it. `None` if there is none, or if memory is
+// missing.
 #[inline(always)]
 fn letter_after(letters: &mut Letters, string: &MooStr, index: usize) -> Option<Value>
     ensures value { IfSome result (λ v. index_of (string_tree string.now) (integer (pos (suc index))) ≡ Ok (tree v)) }
@@ -176,8 +178,8 @@ pub(crate) fn integer_at(list: &MooList, place: i32) -> Option<i32>
 }
 
 /// Sets `name[place]` to a value and returns true, and takes the ticks of place and value from `left`. The variable has
-/// to hold a list that nothing else shares, with an integer at the place; place and value have to be computed from
-/// integers alone. Else the variables stay, but `left` may have fallen.
+/// to hold a list that nothing else shares, with an integer at the place. Place and value have to be computed from
+/// integers alone. If not, it returns false and the variables stay, but `left` may have fallen.
 pub fn try_put_integer(
     active: &mut Activation,
     left: &mut u32,
@@ -203,7 +205,7 @@ pub fn try_put_integer(
 }
 
 /// Sets `name[outer][inner]` to a value and returns true, and takes the ticks of places and value from `left`. The
-/// inner list has to have an integer at its place, and nothing else may share it; places and value have to be computed
+/// inner list has to have an integer at its place, and nothing else may share it. Places and value have to be computed
 /// from integers alone. If not, it returns false and the variables stay, but `left` may have fallen. Err is out of
 /// memory; the variable may then hold an empty list.
 pub fn try_put_inner_integer(

@@ -1,4 +1,4 @@
-//! Calls of functions that give an integer for the value of a variable.
+//! Computes calls of `length` and `typeof` for a variable.
 ghost use Rattle.std.specs.Prelude.{◌≡◌, ◌≤◌, Ok, Some, IfSome};
 ghost use Rattle.moo_value.specs.Tree.{integer};
 ghost use Rattle.moo_value.specs.View.{tree};
@@ -20,8 +20,8 @@ use moo_syntax_lower::{FunctionName, Node, NodeItem};
 use moo_value::Value;
 
 /// Returns the integer of a call of `length` or `typeof` for a variable, and takes its ticks from `left`. `None` for
-/// another call, if the variable isn't set, for `length` of neither a string nor a list, or if ticks are missing. Then
-/// `left` may have fallen.
+/// another call, for a variable that isn't set, or if ticks are missing. `None` too for `length` of a value that is
+/// neither a string nor a list. Then `left` may have fallen.
 #[inline(always)]
 pub fn call_integer(
     active: &Activation,

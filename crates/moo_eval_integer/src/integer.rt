@@ -65,7 +65,7 @@ fn nested_integer(
 
 // Returns the integer of an operator between two integers or variables whose slots are known, and takes its ticks from
 // `left`. `None` if one has another value or none, if the operator may fail, or if ticks are missing. Then `left`
-// stays. The second is looked at first, so that no variable is read in vain if it is of another kind.
+// stays. It tests the second node first, so that it reads no variable if the second is of another kind.
 #[inline(always)]
 fn leaves_integer(
     active: &Activation,
@@ -127,8 +127,8 @@ fn known_integer(active: &Activation, name: &Name) -> Option<i32>
 }
 
 /// Adds the integer of a node to the one in a variable and returns true, and takes the ticks of the sum from `left`.
-/// The variable has to hold an integer, and the node has to be computed from integers alone. Else the variables stay,
-/// but `left` may have fallen.
+/// The variable has to hold an integer, and its slot has to be known. The node has to be computed from integers alone.
+/// If not, it returns false and the variables stay, but `left` may have fallen.
 #[inline(always)]
 pub fn try_add_integer(active: &mut Activation, left: &mut u32, name: &Name, node: &Node) -> bool
     ensures added { IsTrue result → (n : ℤ) × GivesInteger (variables_of active.old.variables) left.old (binary Add (variable name.now) (source node.now)) n left.new × (variables_of active.new.variables ≡ with_variable (variables_of active.old.variables) (bind name.now (integer n))) }
@@ -143,8 +143,8 @@ pub fn try_add_integer(active: &mut Activation, left: &mut u32, name: &Name, nod
 }
 
 /// Sets a variable to the integer of an operator and returns true, and takes the operator's ticks from `left`. The
-/// operator has to be computed from integers alone, and the variable's slot has to be known. Else the variables stay,
-/// but `left` may have fallen.
+/// operator has to be computed from integers alone, and the variable's slot has to be known. If not, it returns false
+/// and the variables stay, but `left` may have fallen.
 #[inline(always)]
 pub fn try_set_arithmetic(active: &mut Activation, left: &mut u32, name: &Name, node: &Node) -> bool
     ensures set { IsTrue result → (n : ℤ) × GivesInteger (variables_of active.old.variables) left.old (source node.now) n left.new × (variables_of active.new.variables ≡ with_variable (variables_of active.old.variables) (bind name.now (integer n))) }
@@ -184,8 +184,9 @@ fn addend(active: &Activation, left: &mut u32, node: &Node) -> Option<i32>
     operand_integer(active, left, node)
 }
 
-/// Returns the integer of a node, and takes its ticks from `left`. The node may also be an operator between such nodes.
-/// A statement tries a node so at most once, so that the time is linear in its size. `None` as `arithmetic_integer`.
+/// Returns the integer of a node, as `integer_of` does, or of any operator between such nodes, and takes its ticks from
+/// `left`. A statement calls it at most once for a node, so that the time is linear in its size. `None` as
+/// `arithmetic_integer`.
 #[cycle(operand)]
 #[inline(always)]
 pub(crate) fn operand_integer(active: &Activation, left: &mut u32, node: &Node) -> Option<i32>
@@ -251,8 +252,8 @@ pub(crate) fn integer_of(active: &Activation, left: &mut u32, node: &Node) -> Op
     part_integer(active, left, node)
 }
 
-// Returns the integer of an element, the length or the type of a variable, and takes its ticks from `left`. Not
-// inlined, so that operators between integers stay short.
+// Returns the integer of an element of a list, or the length or the type of a variable, and takes its ticks from
+// `left`. Not inlined, so that operators between integers stay short.
 #[cycle(integer)]
 #[inline(never)]
 fn part_integer(active: &Activation, left: &mut u32, node: &Node) -> Option<i32>

@@ -11,11 +11,11 @@ pub struct Letters {
     held: Vec<Option<MooStr>>,
 }
 
-/// The first byte that has a place: a blank.
+/// Is the first byte that has a place: a blank.
 const FIRST: u8 = 32;
 
 impl Letters {
-    /// Returns no strings.
+    /// Returns an empty set of strings.
     pub fn new(alloc: Global) -> Letters {
         Letters {
             alloc,

@@ -31,8 +31,9 @@ pub(crate) enum Operand<'a> {
 }
 
 /// Returns whether the value of `==` or `!=` between two nodes is true, and takes its ticks from `left`. `None` for
-/// another operator, if a node isn't a literal, a variable or an element of one, if one has no value, if a list is
-/// compared with another type, or if ticks are missing. Then `left` may have fallen.
+/// another operator, or if a node isn't a literal, a variable or an element of one, at most three places deep. `None`
+/// too if a place can't be computed from integers alone, if a node has no value, if a list is compared with another
+/// type, or if ticks are missing. Then `left` may have fallen.
 #[inline(never)]
 pub fn compare_nodes(
     active: &Activation,

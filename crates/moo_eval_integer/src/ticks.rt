@@ -1,4 +1,4 @@
-//! Counts ticks.
+//! Takes ticks.
 ghost use Rattle.std.specs.Prelude.{◌≡◌, ◌-◌, ◌<◌, ◌≤◌, IfSome, IfNone};
 
 /// Takes a tick. `None` if none is left.

@@ -1,4 +1,4 @@
-//! Evaluates the arguments of calls of verbs.
+//! Evaluates the arguments of calls.
 ghost use Rattle.std.specs.Prelude.{◌≡◌, ◌≤◌, false};
 ghost use Rattle.std.specs.List.{list_any};
 ghost use Rattle.moo_value.specs.View.{trees};
@@ -40,7 +40,7 @@ pub(crate) fn evaluate_arguments(
     evaluate_elements(task, world, active, stack, indexed, items, values)
 }
 
-// Evaluates items without a splice from left to right.
+/// Evaluates items without a splice, from left to right, into `values`, in place of those that it holds.
 #[cycle(evaluation)]
 #[inline(always)]
 pub(crate) fn evaluate_elements(

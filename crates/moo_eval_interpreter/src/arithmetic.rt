@@ -1,5 +1,5 @@
-//! Evaluates operators between integers, variables, their elements, their lengths and such operators. They are computed
-//! from integers alone if that can be, and else node by node.
+//! Evaluates operators between integers, variables, their elements, lengths and types, and such operators. They are
+//! computed from integers alone if that can be, and else node by node.
 ghost use Rattle.std.specs.Prelude.{◌≤◌, Ok};
 ghost use Rattle.moo_syntax_ast.specs.Tree.{binary};
 ghost use Rattle.moo_syntax_lower.specs.Source.{source};
@@ -18,7 +18,7 @@ use moo_syntax_lower::Node;
 use moo_value::Value;
 use moo_world::World;
 
-/// Computes an operator node by node.
+/// Computes an operator, whose tick was taken, node by node.
 #[cycle(evaluation)]
 #[inline(never)]
 pub(crate) fn arithmetic(
@@ -39,8 +39,8 @@ pub(crate) fn arithmetic(
     Ok(binary_in_place(task.alloc(), operator, left, &right)?)
 }
 
-/// Evaluates a node that `try_arithmetic` has declined, or a part of one. An operator isn't tried again, so the
-/// time of a statement is linear in its size. Inlined, so that a variable or an integer needs no call.
+/// Evaluates a node that couldn't be computed at once, or a part of one. It doesn't try an operator again, so the time
+/// of a statement is linear in its size. Inlined, so that a variable or an integer needs no call.
 #[cycle(evaluation)]
 #[inline(always)]
 pub(crate) fn evaluate_tried(

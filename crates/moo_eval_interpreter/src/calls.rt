@@ -52,7 +52,7 @@ pub(crate) fn verb_call(
     }
 }
 
-// Calls a verb whose name is a literal. An object in a variable is read at once.
+// Calls a verb whose name is a literal. An object that is a literal or in a variable is read at once.
 #[cycle(evaluation)]
 #[inline(always)]
 fn call_literal(

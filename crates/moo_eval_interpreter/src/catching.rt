@@ -45,7 +45,8 @@ pub(crate) fn catch(
     }
 }
 
-// Returns the values of the codes of a catch. Literal errors take their ticks alone.
+// Returns the values of the codes of a catch. It makes none for literal errors, of which it takes only the ticks, or
+// for `ANY`.
 #[cycle(evaluation)]
 #[inline(always)]
 fn guards(
@@ -89,7 +90,7 @@ pub(crate) fn evaluate_codes(
     Ok(values.into_values(task.alloc())?)
 }
 
-// Evaluates the body of a catch. An error of its own that the codes name isn't raised first.
+// Evaluates the body of a catch. An error of its own that the codes name is caught before it is raised.
 #[cycle(evaluation)]
 #[inline(never)]
 fn attempt(

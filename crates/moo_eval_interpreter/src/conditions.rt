@@ -1,4 +1,4 @@
-//! Evaluates conditions: only whether their value counts as true is wanted.
+//! Evaluates conditions, to learn only whether their values are true.
 ghost use Rattle.std.specs.Prelude.{◌≡◌, ◌≤◌, Ok, Err, IfOk, IfErr};
 ghost use Rattle.moo_value.specs.Tree.{Tree};
 ghost use Rattle.moo_syntax_ast.specs.declared.operator.UnaryOperator.TheVariants.{Not};
@@ -76,7 +76,7 @@ fn node_passes(
     }
 }
 
-// Returns whether the value of a condition that `try_comparison` has declined is true.
+// Returns whether the value of a condition that `try_comparison` and `try_property_test` have declined is true.
 #[cycle(evaluation)]
 #[inline(always)]
 fn value_passes(
@@ -98,7 +98,7 @@ fn value_passes(
     Ok(is_true(&value))
 }
 
-// Returns whether the value of an operator is true. Inlined, so that its value is looked at where it is made.
+// Returns whether the value of an operator is true. Inlined, so that its value needn't be moved.
 #[cycle(evaluation)]
 #[inline(always)]
 fn binary_passes(

@@ -1,4 +1,4 @@
-//! Expressions that evaluate only some of their parts.
+//! Evaluates operators and conditionals of which only some parts are evaluated.
 ghost use Rattle.std.specs.Prelude.{◌≤◌};
 ghost use Rattle.moo_syntax_ast.specs.Tree.{logic, conditional};
 ghost use Rattle.moo_syntax_lower.specs.Source.{source};

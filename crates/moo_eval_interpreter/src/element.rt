@@ -46,8 +46,8 @@ pub(crate) fn set_element(
     }
 }
 
-// Reads the variable, then evaluates the place, in which `$` measures the variable's value, and the value, then
-// sets the variable.
+// Reads the variable, then evaluates the place, in which `$` measures the variable's value. Then evaluates the value,
+// and sets the variable.
 #[cycle(evaluation)]
 fn put_at(
     task: &mut Task,

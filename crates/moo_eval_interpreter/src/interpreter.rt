@@ -13,8 +13,8 @@ use moo_syntax_lower::{Node, NodeItem};
 use moo_value::{ErrorCode, Value};
 use moo_world::World;
 
-/// Returns the value of an expression, which takes a tick as it begins. `indexed` is the value that `$` measures.
-/// Inlined, so that a variable or an integer needs no call.
+/// Returns the value of an expression, which takes a tick as it begins. `indexed` is the value that `$` measures. Err
+/// is a raised error, or that ticks or memory ran out. Inlined, so that a variable or an integer needs no call.
 #[cycle(evaluation)]
 #[inline(always)]
 pub fn evaluate(
@@ -34,8 +34,8 @@ pub fn evaluate(
     evaluate_node(task, world, active, stack, indexed, node)
 }
 
-/// Evaluates items from left to right, in this memory, whose values are dropped. Inlined, so that nested lists and
-/// calls need its stack space once.
+/// Evaluates items from left to right, in this memory, whose values are dropped. E_TYPE for a splice of a value that is
+/// no list. Inlined, so that nested lists and calls need its stack space once.
 #[cycle(evaluation)]
 #[inline(always)]
 pub(crate) fn evaluate_all(

@@ -45,7 +45,8 @@ fn turn(
     Ok(after_turn(own.as_ref(), flow))
 }
 
-// Runs a turn of a `for`, which takes a tick before the variable is set.
+// Runs a turn of a `for`, which takes a tick before the variable is set. Returns how the loop ends, or `None` if it
+// goes on.
 #[cycle(evaluation)]
 #[inline(always)]
 fn visit(
@@ -162,7 +163,8 @@ pub(crate) fn for_range(
     }
 }
 
-// Runs the turns of a `for` over a range. The counter goes one past `high`, so it is wider than the numbers.
+// Runs the turns of a `for` over a range. The counter goes one past `high`, so its type is wider than that of the
+// numbers.
 #[cycle(evaluation)]
 fn count(
     task: &mut Task,

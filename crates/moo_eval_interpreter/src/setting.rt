@@ -24,7 +24,8 @@ use moo_syntax_lower::{FunctionName, Node, NodeItem};
 use moo_value::{ErrorCode, Value};
 use moo_world::World;
 
-/// Evaluates the value that the property of a literal name is set to next.
+/// Evaluates the value that the property of a literal name is set to next. If it returns a value, it may have dropped
+/// the property's old one.
 #[cycle(evaluation)]
 #[inline(always)]
 pub(crate) fn evaluate_to_set(
@@ -158,7 +159,8 @@ fn compute_prepended(
     Ok(Value::List(longer))
 }
 
-// Computes a call of a built-in function. If it makes a list of its first argument, that is changed in place.
+// Computes a call of a built-in function. If the function makes a list of its first argument, it changes that list in
+// place if nothing else holds it.
 #[cycle(evaluation)]
 #[inline(never)]
 fn compute_call(

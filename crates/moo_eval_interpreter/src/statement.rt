@@ -147,7 +147,8 @@ fn drop_value(
     Ok(Flow::Next)
 }
 
-/// Runs statements in order, up to one that leads elsewhere.
+/// Runs statements in order, up to one that leads elsewhere: a `return`, or a `break` or `continue` of a loop around
+/// them. Returns where they lead. Err is a raised error, or that ticks or memory ran out.
 #[cycle(evaluation)]
 #[inline(never)]
 pub fn run_all(

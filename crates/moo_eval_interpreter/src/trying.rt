@@ -137,7 +137,8 @@ fn prepare<'a>(
     Ok(guarded)
 }
 
-// Returns the values of the codes of a handler. Literal errors take their ticks alone.
+// Returns the values of the codes of a handler. It makes none for literal errors, of which it takes only the ticks, or
+// for `ANY`.
 #[cycle(evaluation)]
 #[inline(always)]
 fn code_values(

@@ -1,4 +1,4 @@
-//! Runs `x = f(x, a);` for a function that makes a list of its first argument, and `x = listset(x, a, i);`.
+//! Runs `x = f(x, a);` for a function that makes a list of its first argument, and `x = listset(l, a, i);`.
 ghost use Rattle.std.specs.Prelude.{◌≤◌, None, Err, IfErr, OnOk};
 ghost use Rattle.moo_syntax_ast.specs.Tree.{variable, assign, performs, call};
 ghost use Rattle.moo_syntax_lower.specs.Source.{source_items};

@@ -17,14 +17,14 @@ use Rattle.moo_eval_semantics.specs.Verbs.{CallsVerb}
 abbrev pub with_new : State → ℤ → ℤ → State
 with_new s up owner = record s { world = with_quota (world_create s.world (place_of s.world.objects up) (owner_of_new s.world owner)) owner (quota s.world owner) (negsuc 0) }
 
--- nothing forbids it except perhaps the owner
+-- the parent, the quota and the world allow the object; the owner may still be refused
 abbrev pub MayCreate : State → ℤ → ℤ → Type 0
 MayCreate s up owner =
     (may_be_parent s.world s.programmer up ≡ true) × (is_used_up (quota s.world owner) ≡ false) × (create_raises s.world (place_of s.world.objects up) ≡ None)
 
--- `create(up, owner)`: the parent has to be the programmer's or fertile, the owner's quota not used up, the world not
--- full, and the owner the programmer, except for wizards. The object's `initialize` is called, and the object stays
--- even if that fails.
+-- `create(up, owner)`: the parent has to be the programmer's or fertile, the owner's quota not used up, and the world
+-- not full. The owner has to be the programmer, except for wizards. The object's `initialize` is called, and the object
+-- stays even if that fails.
 pub data Creates (T : Telling) (c : Context) (up owner : ℤ) : State → Result Tree Failure → State → Type 0 where
   no_parent : {s : State} →
       may_be_parent s.world s.programmer up ≡ false →

@@ -19,9 +19,9 @@ use Rattle.moo_eval_semantics.specs.Meaning.{Evaluates, Computes, EvaluatesAll, 
 abbrev pub HasRoom : Entered → Type 0
 HasRoom e = frames e.context.callers ≤ most_frames
 
--- The verbs that run on the way to a result, in order, each before those that it calls; a program that `eval` runs is among them. Verbs are
--- entered by calls of verbs and by the functions that call verbs. Otherwise those of the parts run. A rule that
--- is not named has no part in which a verb could run.
+-- The verbs that run on the way to a result, in order, each before those that it calls. A program that `eval` runs is
+-- among them. Verbs are entered by calls of verbs and by the functions that call verbs. Otherwise those of the parts
+-- run. A rule that is not named has no part in which a verb could run.
 abbrev mutual
   pub verbs_of_expression : {T : Telling} {c : Context} {e : Expr} {s s' : State} {o : Result Tree Stop} → Evaluates T c e s o s' → List Entered
   verbs_of_expression (begins z d f) = verbs_of_parts d

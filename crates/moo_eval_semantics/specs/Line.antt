@@ -1,4 +1,4 @@
--- What a line of input is answered.
+-- The result of a line of input.
 use Rattle.std.specs.Prelude.{◌≡◌, ◌≢◌, ℕ, negsuc, List, [], ◌∷◌, ◌++◌, codes}
 use Rattle.moo_value.specs.Tree.{IsText}
 use Rattle.moo_value.specs.Size.{IsString}
@@ -37,9 +37,9 @@ pub record HasFault (text : List ℕ) (fault : SyntaxFault) : Type 0 where
   pub blames : Blames Known (text ∷ []) fault.line fault.kind
   pub told : fault.kind ≢ Memory
 
--- A line has these lines and this status as its result: what is shown of its program's end. A line that is refused
--- has the line that gives the reason: a byte that no string holds, a length past that of a string, or a fault of its
--- program.
+-- A line has these lines and this status as its result: what is shown of its program's end. A line that is refused has
+-- the line that gives the reason. This is a byte that no string holds, a length past that of a string, or a fault of
+-- its program.
 pub data AnswersLine (line : List ℕ) (lines : List (List ℕ)) (status : ℕ) : Type 0 where
   bad_byte : (¬ IsText line) → lines ≡ codes "Line 1:  Bad token" ∷ [] → status ≡ 5 → AnswersLine line lines status
   too_long : IsText line → (¬ IsString (program_text line)) → lines ≡ codes "Line 1:  Too deeply nested" ∷ [] → status ≡ 5 → AnswersLine line lines status

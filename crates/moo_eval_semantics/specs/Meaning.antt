@@ -60,7 +60,7 @@ mutual
         EvaluatesAll T c (operands e) s (Ok vs) s' → EvaluatesAll T (within c vs) (places e) s' (Ok ws) s'' → Applies T c e vs ws s'' o s3 →
         Computes T c e s o s3
 
-  -- Items from left to right. A splice of what is no list ends them, and so does a name that may be left out, which no
+  -- Items from left to right. A splice of what is no list ends them. So does a name that may be left out, which no
   -- program has outside the target of a scatter.
   pub data EvaluatesAll (T : Telling) : Context → Items → State → Result (List Tree) Failure → State → Type 0 where
     no_more : {c : Context} {s : State} →
@@ -153,8 +153,8 @@ mutual
         Evaluates T c a s o s' → caught codes vs o ≡ Some code → Evaluates T c b s' p s'' → passes p ≡ r →
         Applies T c (catch_or a codes b) vs [] s r s''
 
-  -- A function that calls verbs goes on: the value of a verb goes to the next stage, and if the verb stops so does
-  -- the function.
+  -- A function that calls verbs goes on: the value of a verb goes to the next stage. If the verb stops, so does the
+  -- function.
   pub data Proceeds (T : Telling) : Context → Progress → State → Result Tree Failure → State → Type 0 where
     is_done : {c : Context} {s : State} {r : Result Tree Failure} →
         Proceeds T c (done r) s r s
@@ -180,7 +180,7 @@ mutual
         Locates T c t s (Ok path) s' → Evaluates T c e s' (Ok v) s'' → Stores T c path.root path.steps v s'' o s3 → with_value v o ≡ r →
         Assigns T c t e s r s3
 
-  -- A target takes no tick of its own. What is set is found, then the containers are gone into, from the root on.
+  -- A target takes no tick of its own. Its root is found first, then its containers are read, from the root on.
   pub data Locates (T : Telling) : Context → Expr → State → Result Path Failure → State → Type 0 where
     root_ends : {c : Context} {t : Expr} {s s' : State} {failure : Failure} →
         Finds T c (root_of t) s (Err failure) s' →
@@ -354,7 +354,8 @@ mutual
         Evaluates T c e s (Ok v) s' → is_true v ≡ false → Selects T c arms s' o s'' →
         Selects T c (elseif e b arms) s o s''
 
-  -- A turn of a loop takes a tick as it begins; then the loop's variable is set, if it has one. `None` is on to the next turn.
+  -- A turn of a loop takes a tick as it begins; then the loop's variable is set, if it has one. After `None` the next
+  -- turn follows.
   pub data Turns (T : Telling) : Context → Option (List ℕ) → List Binding → Block → State → Option (Result Flow Stop) → State → Type 0 where
     turn_spent : {c : Context} {own : Option (List ℕ)} {bindings : List Binding} {b : Block} {s : State} →
         s.ticks ≡ 0 →

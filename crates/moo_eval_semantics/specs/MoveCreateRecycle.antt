@@ -1,4 +1,4 @@
--- Laws of the functions that call verbs, in the words of those who call them.
+-- Laws of whole calls of `move`, `create` and `recycle`.
 use Rattle.std.specs.Prelude.{ℤ, [], ◌∷◌, Result}
 use Rattle.moo_value.specs.Tree.{Tree, object}
 use Rattle.moo_syntax_function.specs.declared.function.Function.TheVariants as function

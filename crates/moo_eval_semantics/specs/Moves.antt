@@ -16,7 +16,7 @@ use Rattle.moo_eval_hook.specs.Objects.{is_place, location}
 use Rattle.moo_eval_hook.specs.Moving.{is_to_move, may_enter, has_come}
 use Rattle.moo_eval_semantics.specs.Verbs.{CallsVerb}
 
--- whether the world has something against the move
+-- the error with which the world refuses the move, if it does
 abbrev pub move_error : State → ℤ → ℤ → Option ErrorCode
 move_error s what to = move_raises s.world (number_of s.world.objects what) (place_of s.world.objects to)
 

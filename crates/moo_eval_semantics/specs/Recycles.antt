@@ -16,10 +16,11 @@ use Rattle.moo_eval_hook.specs.Objects.{first_inside}
 use Rattle.moo_eval_hook.specs.Recycling.{owner_of, uncounted}
 use Rattle.moo_eval_semantics.specs.Verbs.{CallsVerb}
 
--- what the world has against moving something to no place, and the state with it moved there
+-- the error with which the world refuses to move something to no place, if it does
 abbrev pub out_error : State → ℤ → Option ErrorCode
 out_error s inside = move_raises s.world (number_of s.world.objects inside) (place_of s.world.objects (negsuc 0))
 
+-- the state after something has moved to no place
 abbrev pub with_out : State → ℤ → State
 with_out s inside = record s { world = world_move s.world (number_of s.world.objects inside) (place_of s.world.objects (negsuc 0)) }
 

@@ -44,8 +44,8 @@ first_state start world = record {
   notices = [];
 }
 
--- A task that begins with this frame, in these surroundings and over a world, ends so, and leaves this world and these notices: all that
--- it changed stays, and all that it asked for is asked for, however it ends.
+-- A task that begins with this frame, in these surroundings and over a world, ends so, and leaves this world and these
+-- notices. All that it changed stays, and all that it asked for is asked for, however it ends.
 pub record TaskEnds (T : Telling) (around : Surroundings) (start : Frame) (before : World) (end : End) (after : World) (notices : List Notice) : Type 0 where
   pub outcome : Result Flow Stop
   pub last : State

@@ -1,4 +1,4 @@
--- The arguments of a call of a verb.
+-- The arguments of calls.
 use Rattle.std.specs.Prelude.{◌≡◌, ◌⊎◌, List, Bool, true, false, Result, Ok, Err}
 use Rattle.moo_value.specs.Tree.{Tree}
 use Rattle.moo_syntax_ast.specs.Tree.{Items}

@@ -1,4 +1,4 @@
--- For private clauses: verbs that a function calls.
+-- The verbs that a function calls, one after another.
 use Rattle.std.specs.Prelude.{◌≡◌, ◌≢◌, Result, Ok, Err}
 use Rattle.moo_value.specs.Tree.{Tree}
 use Rattle.moo_value.specs.View.{tree}

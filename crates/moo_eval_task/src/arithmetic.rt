@@ -1,4 +1,4 @@
-//! Computes operators between integers, variables, their elements and their lengths at once, from integers alone.
+//! Computes operators between integers, variables, their elements, lengths and types at once, from integers alone.
 ghost use Rattle.std.specs.Prelude.{◌≡◌, ◌≤◌, Ok, IfSome, IfNone};
 ghost use Rattle.moo_value.specs.Tree.{integer};
 ghost use Rattle.moo_syntax_ast.specs.Tree.{binary};

@@ -23,8 +23,8 @@ use moo_value::Value;
 use moo_world::World;
 
 impl Task {
-    // Assigns to a variable by integers alone, takes its ticks, and returns true. Returns false, and changes nothing,
-    // if that can't be.
+    /// Sets a variable to the integer of an operator, from integers alone, takes the assignment's ticks, and returns
+    /// true. Returns false, and changes nothing, if that can't be or for another value.
     #[inline(always)]
     pub(crate) fn try_assign(&mut self, active: &mut Activation, name: &Name, value: &Node) -> bool
         ensures assigned { IsTrue result → (w : WorldModel) (c : Context) → Does Faults c (performs (assign (variable name.now) (source value.now))) (state_of self.old w active.old) (Ok next) (state_of self.new w active.new) }
@@ -57,8 +57,9 @@ impl Task {
         true
     }
 
-    /// Sets a property, or the part of it at the end of the steps. A list that nothing but the property holds is changed
-    /// in place. Not inlined, so that nested scatters need no stack space for it.
+    /// Sets a property, or the part of it at the end of the steps. Fails as `rebuilt` and `write_property` do. A list
+    /// that nothing but the property holds is changed in place. Not inlined, so that nested scatters need no stack
+    /// space for it.
     #[inline(never)]
     pub fn store_property(
         &self,
@@ -78,8 +79,8 @@ impl Task {
         write_property(world, active.programmer, base, name, whole)
     }
 
-    /// Sets a variable, or the part of it at the end of the steps. Not inlined, so that nested scatters need no stack
-    /// space for it.
+    /// Sets a variable, or the part of it at the end of the steps. Fails as `set_variable` does. Not inlined, so that
+    /// nested scatters need no stack space for it.
     #[inline(never)]
     pub fn store_variable(
         &self,

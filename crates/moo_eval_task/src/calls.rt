@@ -14,8 +14,8 @@ use moo_syntax_lower::Node;
 use moo_value::Value;
 
 impl Task {
-    /// Returns the object in a variable, or a literal one, and takes the ticks of it and of a literal name. `None` if
-    /// that can't be; then nothing has changed.
+    /// Returns the object in a variable, or a literal one. Takes two ticks: that of the object, and that of a literal
+    /// name. `None` if that can't be; then nothing has changed.
     #[inline(always)]
     pub fn try_object(&mut self, active: &Activation, base: &Node) -> Option<i32>
         ensures some { IfSome result (λ o. GivesLeaf (variables_of active.now.variables) (source base.now) (object o) × (1 < self.old.ticks_left) × (self.new ≡ record self.old { ticks_left = self.old.ticks_left - 2 })) }
@@ -32,7 +32,7 @@ impl Task {
     }
 }
 
-/// Returns the value of a called verb: the one that it returns, or 0 if it comes to its end.
+/// Returns the value of a called verb: the one that it returns, or 0 if it comes to its end. Err if it was stopped.
 pub fn answered(outcome: Result<Flow, Stop>) -> Result<Value, Failure>
     ensures answer { answered (seen_flow outcome) ≡ seen_answer result }
     ensures known { IsKnownFailure result → IsKnown outcome }

@@ -21,8 +21,8 @@ pub enum Attempt {
 }
 
 impl Task {
-    /// Returns what a failure of the body comes to. With the d bit an error that the codes name is caught at once: it
-    /// needs no traceback. Inlined, so that it needs no call.
+    /// Returns how the body of a catch ends after this failure. With the d bit an error that the codes name is caught
+    /// at once: it needs no traceback. Inlined, so that it needs no call.
     #[inline(always)]
     pub fn settle_attempt(
         &self,
@@ -43,8 +43,8 @@ impl Task {
         }
     }
 
-    // Returns what another failure of the body comes to. Not inlined, so that nested catches need no stack space for
-    // it.
+    // Returns how the body of a catch ends after any failure. Not inlined, so that nested catches need no stack space
+    // for it.
     #[inline(never)]
     fn settle_uncaught(
         &self,

@@ -1,4 +1,4 @@
-//! Tests conditions at once: only whether their value counts as true is wanted.
+//! Tests conditions at once, to learn only whether their values are true.
 ghost use Rattle.std.specs.Prelude.{◌≡◌, ◌≤◌, Ok, IfSome, IfNone};
 ghost use Rattle.moo_value.specs.Tree.{Tree};
 ghost use Rattle.moo_syntax_ast.specs.Tree.{variable, binary};
@@ -22,7 +22,8 @@ use moo_syntax_lower::Node;
 
 impl Task {
     /// Returns whether the value of an operator between variables, literals or (for `==` and `!=`) elements is true.
-    /// Takes its ticks. `None` for other parts, an error, or too few ticks; then nothing has changed.
+    /// Takes its ticks. `None` for another node or other operands, for an error, or if ticks or memory are missing;
+    /// then nothing has changed.
     #[inline(always)]
     pub fn try_comparison(&mut self, active: &Activation, test: &Node) -> Option<bool>
         ensures some { IfSome result (λ b. (w : WorldModel) (c : Context) → (v : Tree) × Evaluates Faults c (source test.now) (state_of self.old w active.now) (Ok v) (state_of self.new w active.now) × (is_true v ≡ b)) }
@@ -110,8 +111,8 @@ impl Task {
         Some(is_true(&value))
     }
 
-    /// Returns whether the value of a variable, or of an operator between integers, is true, and takes its ticks. `None`
-    /// if that can't be, or for another node; then nothing has changed.
+    /// Returns whether the value of a variable, or of an operator between integers, is true, and takes its ticks.
+    /// `None` if that can't be, or for another node; then nothing has changed.
     #[inline(always)]
     pub fn try_test(&mut self, active: &Activation, test: &Node) -> Option<bool>
         ensures some { IfSome result (λ b. (w : WorldModel) (c : Context) → (v : Tree) × Evaluates Faults c (source test.now) (state_of self.old w active.now) (Ok v) (state_of self.new w active.now) × (is_true v ≡ b)) }
@@ -152,7 +153,7 @@ fn is_compared(node: &Node) -> bool {
     is_leaf(node) || matches!(node, Node::Index(..))
 }
 
-/// Is true if the first operand decides; `first` is whether it is true.
+/// Returns whether the first operand alone decides the value of the operator. `first` is whether this operand is true.
 #[inline]
 pub fn decides(operator: LogicOperator, first: bool) -> bool
     ensures { (v : Tree) → is_true v ≡ first → is_decided operator v ≡ result }

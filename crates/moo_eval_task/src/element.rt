@@ -1,4 +1,4 @@
-//! Assigns to an element of a list, or a byte of a string, in a variable at once.
+//! Sets elements of lists in variables, and elements of these elements, to integers at once.
 ghost use Rattle.std.specs.Prelude.{◌≡◌, ◌≤◌, None, Ok, IsTrue, IsFalse, IfOk, IfSome};
 ghost use Rattle.moo_syntax_ast.specs.Tree.{performs};
 ghost use Rattle.moo_syntax_lower.specs.Source.{source};
@@ -45,7 +45,8 @@ impl Task {
     }
 
     /// Runs `name[outer][inner] = value` in place by integers alone, takes its ticks, and returns true. Returns false,
-    /// and changes nothing, if that can't be, or for another expression.
+    /// and changes nothing, if that can't be, or for another expression. Err is out of memory; the variable may then
+    /// hold an empty list.
     #[inline(always)]
     pub fn try_put_inner(
         &mut self,

@@ -20,8 +20,8 @@ use moo_value::Value;
 use std::alloc::AllocError;
 
 impl Task {
-    // Runs `name = name + last` by integers alone, takes its ticks, and returns true. Returns false, and changes
-    // nothing, if that can't be.
+    /// Runs `name = name + last` by integers alone, takes its ticks, and returns true. Returns false, and changes
+    /// nothing, if that can't be.
     #[inline(always)]
     pub(crate) fn try_add(&mut self, active: &mut Activation, name: &Name, last: &Node) -> bool
         ensures added { IsTrue result → (w : WorldModel) (c : Context) → Does Faults c (performs (assign (variable name.now) (binary Add (variable name.now) (source last.now)))) (state_of self.old w active.old) (Ok next) (state_of self.new w active.new) }
@@ -54,9 +54,9 @@ impl Task {
         true
     }
 
-    /// Appends a string to the one in a variable, and returns whether it did. `last` is a variable, a literal or an
-    /// element. The ticks are those of `name = name + last`. It doesn't if that can't be done at once; then nothing has
-    /// changed.
+    /// Appends a string to the one in a variable, takes the ticks of `name = name + last`, and returns true. `last` is
+    /// a variable, a literal or an element. Returns false, and changes nothing, if that can't be done at once. Err is
+    /// out of memory.
     #[inline(always)]
     pub fn try_extend(
         &mut self,

@@ -23,7 +23,8 @@ pub enum Pending<'a> {
 }
 
 impl Task {
-    /// Continues at a stage with the value of its verb, up to the next verb that has a statement.
+    /// Continues at a stage with the value of its verb, up to the function's end or to the next verb that has a
+    /// statement.
     pub fn resume<'a>(
         &mut self,
         world: &mut World,
@@ -41,7 +42,8 @@ impl Task {
         self.pass_over(world, active, stack, next)
     }
 
-    /// Continues past verbs that are missing or have no statement. Such a verb changes nothing and returns 0.
+    /// Continues past verbs that are missing or have no statement, up to the function's end or to a verb that has one.
+    /// A verb without a statement changes nothing and returns 0.
     pub fn pass_over<'a>(
         &mut self,
         world: &mut World,
@@ -65,7 +67,8 @@ impl Task {
     }
 }
 
-// Returns the stage that comes next if no statement runs before it.
+// Returns the stage that comes next if no statement runs before it. Err is the function's value, or a verb with
+// statements.
 fn idle_stage<'a>(progress: Progress<'a>) -> Result<Stage, Pending<'a>>
     ensures ok { IfOk result (IsIdle progress.entry) }
     ensures same { IfErr result (λ pending. pending_progress pending ≡ progress_of progress.entry) }

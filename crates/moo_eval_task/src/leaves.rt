@@ -1,4 +1,4 @@
-//! Evaluates variables and literals.
+//! Evaluates variables, literals and elements of variables.
 ghost use Rattle.std.specs.Prelude.{◌≡◌, ◌≤◌, Option, Ok, Err, IfSome, IfNone};
 ghost use Rattle.std.specs.Borrow.{Bor};
 ghost use Rattle.moo_value.specs.Tree.{string as string_tree};
@@ -25,7 +25,9 @@ use moo_syntax_lower::Node;
 use moo_value::{ErrorCode, MooStr, Value};
 
 impl Task {
-    /// Returns the value of a variable, which takes a tick, whatever `$` measures. Inlined, so that it needs no call.
+    /// Returns the value of a variable, and takes its tick. A variable that isn't set has the error E_VARNF, which is
+    /// raised if the frame has the d bit. The value doesn't depend on what `$` measures. Inlined, so that it needs no
+    /// call.
     #[inline(always)]
     pub fn variable(
         &mut self,
@@ -120,7 +122,8 @@ fn try_element_value(
     }
 }
 
-/// Returns the value of a variable or of a literal, if it has one.
+/// Returns the value of a variable or of a literal. `None` for another node, for a variable that isn't set, or if
+/// memory is missing.
 #[inline(always)]
 pub(crate) fn leaf_value(active: &Activation, node: &Node) -> Option<Value>
     ensures { IfSome result (λ v. GivesLeaf (variables_of active.now.variables) (source node.now) (tree v)) }

@@ -17,9 +17,9 @@ use moo_syntax_lower::Node;
 use std::alloc::AllocError;
 
 impl Task {
-    /// Appends a value to the list in a variable, and returns whether it did. `last` is a variable, a literal or an
-    /// element. The ticks are those of `name = {@name, last}`. It doesn't if that can't be done at once; then nothing
-    /// has changed.
+    /// Appends a value to the list in a variable, takes the ticks of `name = {@name, last}`, and returns true. `last`
+    /// is a variable, a literal or an element. Returns false, and changes nothing, if that can't be done at once. Err
+    /// is out of memory.
     #[inline(always)]
     pub fn try_lengthen(
         &mut self,

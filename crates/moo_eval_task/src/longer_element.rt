@@ -20,9 +20,10 @@ use moo_syntax_lower::Node;
 use std::alloc::AllocError;
 
 impl Task {
-    /// Runs `name[place] = value` at once, takes its ticks, and returns true, if the value is `{@name[place], e}` and
-    /// `e` a variable, a literal or an element. A list that nothing else holds grows in place. Returns false, and
-    /// changes nothing, if that can't be, or for another value. Err is out of memory.
+    /// Runs `name[place] = value` at once, takes its ticks, and returns true. The value has to be `{@name[place], e}`,
+    /// with a variable, a literal or an element as `e`. A list that nothing else holds grows in place. Returns false,
+    /// and changes nothing, if that can't be, or for another value. Err is out of memory; the variable may then hold an
+    /// empty list.
     #[inline(always)]
     pub fn try_lengthen_element(
         &mut self,

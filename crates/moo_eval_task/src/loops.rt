@@ -9,7 +9,7 @@ use moo_syntax_ast::Name;
 use moo_value::Value;
 use std::alloc::AllocError;
 
-/// Sets a variable to a value, in place if both are integers.
+/// Sets a variable to a value, in place if the old and the new value are integers. Err is out of memory.
 #[inline(always)]
 pub fn set_value(variables: &mut Variables, name: &Name, value: Value) -> Result<(), AllocError>
     ensures { OnOk result (variables_of variables.new ≡ with_variable (variables_of variables.old) (bind name.now (value_tree value))) }
@@ -22,7 +22,7 @@ pub fn set_value(variables: &mut Variables, name: &Name, value: Value) -> Result
     set_anew(variables, name, value)
 }
 
-// Sets a variable. Not inlined, so that a turn with an integer stays short.
+// Sets a variable to any value. Not inlined, so that the code for a turn with an integer stays short.
 #[inline(never)]
 fn set_anew(variables: &mut Variables, name: &Name, value: Value) -> Result<(), AllocError>
     ensures { OnOk result (variables_of variables.new ≡ with_variable (variables_of variables.old) (bind name.now (value_tree value))) }

@@ -1,4 +1,4 @@
-//! Evaluates nodes at once, from integers alone.
+//! Evaluates operators between integers, elements, lengths and types at once, and copies literal strings.
 ghost use Rattle.std.specs.Prelude.{◌≡◌, ◌≤◌, Ok, IfSome, IfNone};
 ghost use Rattle.moo_value.specs.Tree.{integer, string};
 ghost use Rattle.moo_value.specs.View.{tree};
@@ -19,8 +19,8 @@ use moo_syntax_lower::{FunctionName, Node, NodeItem};
 use moo_value::Value;
 
 impl Task {
-    /// Evaluates at once an operator of arithmetic, the length or the type of a variable, or an element of a variable or
-    /// of an element of one. Takes its ticks. `None` if that can't be, or for another node; then nothing has changed.
+    /// Evaluates at once an operator of arithmetic, an element as `try_element` does, or the length or the type of a
+    /// variable. Takes its ticks. `None` if that can't be, or for another node; then nothing has changed.
     #[inline(always)]
     pub fn try_node(&mut self, active: &Activation, node: &Node) -> Option<Value>
         ensures some { IfSome result (λ v. (w : WorldModel) (c : Context) → Evaluates Faults c (source node.now) (state_of self.old w active.now) (Ok (tree v)) (state_of self.new w active.now)) }

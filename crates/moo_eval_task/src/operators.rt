@@ -73,7 +73,8 @@ impl Task {
     }
 }
 
-/// Returns the list of values. Not inlined, so that nested lists need no stack space for it.
+/// Returns the list of values. E_QUOTA if it is past the limits of lists. Not inlined, so that nested lists need no
+/// stack space for it.
 #[inline(never)]
 pub fn listed(alloc: Global, values: Gathered) -> Result<Value, Failure>
     ensures { IsKnownFailure result → answers (made_list values) ≡ seen_answer result }

@@ -41,8 +41,8 @@ impl Task {
         Some(value)
     }
 
-    /// Returns whether the value of a property is true, read as by `try_property`, but without a copy. It declines a
-    /// built-in property too.
+    /// Returns whether the value of a property is true, without a copy of it, and takes its ticks. `None` as
+    /// `try_property`, and for a built-in property.
     #[inline(always)]
     pub fn try_property_test(
         &mut self,
@@ -79,7 +79,7 @@ fn literal_property<'a>(active: &Activation, node: &'a Node) -> Option<(i32, &'a
     Some((object, name))
 }
 
-/// Returns the object in a variable, or the literal one that a node is.
+/// Returns the object in a variable, or the literal one that a node is. `None` for another value or another node.
 #[inline(always)]
 pub(crate) fn object_of(active: &Activation, node: &Node) -> Option<i32>
     ensures { IfSome result (λ o. GivesLeaf (variables_of active.now.variables) (source node.now) (object o)) }

@@ -26,8 +26,8 @@ use moo_value::{MooList, Value};
 use std::alloc::AllocError;
 
 impl Task {
-    /// Sets these names to the elements of `args`, with the ticks of `{x, y} = args`, and returns whether it did. It
-    /// doesn't for another value or if that can't be done at once; then nothing has changed.
+    /// Sets these names to the elements of `args`, takes the ticks of `{x, y} = args`, and returns true. Returns false,
+    /// and changes nothing, for another value or if that can't be done at once. Err is out of memory.
     #[inline(always)]
     pub fn try_scatter(
         &mut self,
@@ -54,8 +54,9 @@ impl Task {
         Ok(true)
     }
 
-    /// Sets the names that get an element, and returns those with a default that get none. Not inlined, so that nested
-    /// scatters need no stack space for it.
+    /// Sets the names that get an element, and returns those with a default that get none. E_TYPE for a value that is
+    /// no list, E_ARGS for a wrong count; then no name is set. Not inlined, so that nested scatters need no stack space
+    /// for it.
     #[inline(never)]
     pub fn deal<'a>(
         &self,

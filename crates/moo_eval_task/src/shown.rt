@@ -1,4 +1,4 @@
-//! Calls functions that look at an object, which need no list of values.
+//! Calls built-in functions of one object at once, without a list of values.
 ghost use Rattle.std.specs.Prelude.{◌≡◌, ◌≤◌, Ok, IfSome, IfNone};
 ghost use Rattle.moo_value.specs.View.{tree};
 ghost use Rattle.moo_syntax_ast.specs.Tree.{call, element, no_items};
@@ -18,8 +18,8 @@ use moo_value::Value;
 use moo_world::World;
 
 impl Task {
-    /// Calls `valid`, `is_player` or `parent` for an object, and takes the tick of the object. This is a literal, or in a
-    /// variable. `None` if that can't be, or for another function; then nothing has changed.
+    /// Calls `valid`, `is_player` or `parent` for an object, and takes the tick of the object, which is a literal or in
+    /// a variable. `None` if that can't be, or for another function; then nothing has changed.
     #[inline(always)]
     pub fn try_shown(
         &mut self,
@@ -45,7 +45,8 @@ impl Task {
     }
 }
 
-// Is true for the functions that `shown` knows. So no variable is read for another one.
+// Is true for the functions that `shown` computes. `try_shown` tests this first, so that it reads no variable for
+// another function.
 #[inline(always)]
 fn is_shown(function: Function) -> bool {
     matches!(

@@ -1,4 +1,4 @@
-//! The memory of calls that have ended, which the next ones use.
+//! Memory of calls that have ended, which the next calls use.
 
 use moo_eval_access::MOST_FRAMES;
 use moo_eval_frame::FrameMemory;
@@ -6,8 +6,8 @@ use moo_eval_integer::Letters;
 use moo_value::Value;
 use std::alloc::Global;
 
-/// Holds the memory of frames that have ended, and that of the values of arguments and of the codes of catches. No more
-/// of each is kept than a task has frames. It also holds strings of one letter.
+/// Holds the memory of frames that have ended, and that of the values of arguments and of the codes of catches. It
+/// keeps at most as many of each as a task may have frames. It also holds strings of one letter.
 #[derive(Drop)]
 pub struct SpareMemory {
     alloc: Global,
@@ -17,7 +17,7 @@ pub struct SpareMemory {
 }
 
 impl SpareMemory {
-    /// Returns no memory.
+    /// Returns spare memory that holds nothing.
     pub(crate) fn new(alloc: Global) -> SpareMemory {
         SpareMemory {
             alloc,
@@ -27,7 +27,7 @@ impl SpareMemory {
         }
     }
 
-    /// Takes out the memory of the frame that ended last.
+    /// Takes out the memory of the frame that ended last. Returns new memory if none is kept.
     #[inline(always)]
     pub fn take(&mut self) -> FrameMemory {
         match self.frames.pop() {
@@ -36,8 +36,8 @@ impl SpareMemory {
         }
     }
 
-    /// Keeps the memory of a frame. That of the values of its arguments is kept apart, since the next call takes it
-    /// before its frame.
+    /// Keeps the memory of a frame, or drops it if enough is kept. The memory of the values of its arguments is kept
+    /// apart, since the next call takes that before the memory of its frame.
     #[inline(always)]
     pub fn keep(&mut self, memory: FrameMemory) {
         let mut memory = memory;
@@ -60,6 +60,7 @@ impl SpareMemory {
     }
 
     /// Takes out memory for values: that of the arguments of a call, or of the codes of a catch, that has ended.
+    /// Returns new memory if none is kept.
     #[inline(always)]
     pub fn take_values(&mut self) -> Vec<Value> {
         match self.values.pop() {
@@ -68,7 +69,7 @@ impl SpareMemory {
         }
     }
 
-    /// Keeps the memory of these values, which are dropped.
+    /// Keeps the memory of these values, or drops it if enough is kept. The values are dropped.
     #[inline(always)]
     pub fn keep_values(&mut self, values: Vec<Value>) {
         let mut memory = values;

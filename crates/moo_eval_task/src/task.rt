@@ -1,4 +1,4 @@
-//! The resources of a task.
+//! The resources of a task, and the calls of built-in functions, which use them.
 ghost use Rattle.std.specs.Prelude.{◌≡◌, ◌-◌, ◌<◌, ◌≤◌, ℕ, List, [], ◌++◌, None, Ok, Err, IfOk, IfErr, OnOk, OnErr};
 ghost use Rattle.moo_value.specs.View.{tree as tree_of, trees};
 ghost use Rattle.moo_eval_frame.specs.Outcome.{out_of_ticks, settled};
@@ -31,7 +31,7 @@ pub struct Task {
 }
 
 impl Task {
-    /// Returns a task that begins.
+    /// Returns the resources of a task that begins: 100,000 ticks, and no notices.
     pub fn new(alloc: Global) -> Task
         ensures ticks { result.ticks_left ≡ most_ticks }
         ensures notices { result.notices.items ≡ [] }
@@ -44,7 +44,7 @@ impl Task {
         }
     }
 
-    /// Appends the task's notices to these.
+    /// Appends the task's notices to these. Err is out of memory; then `notices` holds what it held before.
     pub fn leave_notices(&mut self, notices: &mut Vec<Notice>) -> Result<(), AllocError>
         ensures left { OnOk result (notices.new.items ≡ notices.old.items ++ self.old.notices.items) }
         ensures kept { OnErr result (notices.new.items ≡ notices.old.items) }
@@ -52,7 +52,7 @@ impl Task {
         notices.append(&mut self.notices)
     }
 
-    /// Takes a tick, if one is left.
+    /// Takes a tick. If none is left, changes nothing and returns the end of the task.
     #[inline(always)]
     pub fn take_tick(&mut self, active: &Activation, stack: &CallStack<'_>) -> Result<(), Stop>
         ensures taken { OnOk result (0 < self.old.ticks_left) }
@@ -103,7 +103,8 @@ impl Task {
         }
     }
 
-    /// Returns the outcome of a failure. Not inlined, so that nested expressions need no stack space for it.
+    /// Returns the outcome of an expression that fails. An error of its own is its value, or is raised if the frame has
+    /// the d bit. Not inlined, so that nested expressions need no stack space for it.
     #[inline(never)]
     pub fn settled(
         &self,
@@ -122,7 +123,8 @@ impl Task {
         self.alloc
     }
 
-    /// Calls a built-in function, which may read the ticks that are left and leave notices.
+    /// Calls a built-in function, which may read the ticks that are left and leave notices. `None` is a name that no
+    /// function has.
     #[inline(never)]
     pub fn call_function(
         &mut self,
@@ -151,7 +153,8 @@ impl Task {
         answer
     }
 
-    /// Calls a built-in function with values among which no list was spliced in. They may be moved out.
+    /// Calls a built-in function as `call_function` does, if no list was spliced into its arguments. It may move the
+    /// values out.
     #[inline(always)]
     pub fn call_values(
         &mut self,

@@ -17,8 +17,9 @@ use moo_eval_frame::{Activation, CallStack, Raise, Stop};
 use moo_syntax_lower::NodeStmt;
 
 impl Task {
-    /// Returns the statements of the first handler that names the error, and sets its variable. Err is the error
-    /// itself if no handler names it. Not inlined, so that nested handlers need no stack space for it.
+    /// Returns the statements of the first handler that names the error, and sets its variable. Err is the error itself
+    /// if no handler names it. Err is E_QUOTA if the variable's value is past the limits. Not inlined, so that nested
+    /// handlers need no stack space for it.
     #[inline(never)]
     pub fn begin_handler<'a>(
         &self,

@@ -29,7 +29,8 @@ settled_session s = record s { sent = []; log = []; asked = false }
 abbrev pub settled : WorldState → WorldState
 settled s = in_session settled_session s
 
--- What a happening came to: what was sent and logged, whether a checkpoint was asked for, and whether the server began to shut down.
+-- What a happening came to: what was sent and logged, whether a checkpoint was asked for, and whether the server began
+-- to shut down.
 abbrev pub told_of : Bool → Session → Told
 told_of was_closing s = record {
   out = record { sent = λ c. stream c s.sent; logged = s.log };
@@ -37,7 +38,7 @@ told_of was_closing s = record {
   shuts = s.closing && not was_closing;
 }
 
--- what each happening does, by what may be told of texts that are no programs
+-- what each happening does, if these faults may be reported for texts that are no programs
 abbrev pub Becomes : Telling → Input → ℕ → WorldState → WorldState → Type 0
 Becomes T (Opens c) moment old new = OpensConnection T moment c old new
 Becomes T (Receives c piece) moment old new = Hears T moment c piece old new
@@ -59,8 +60,8 @@ pub record LiveStarts (T : Telling) (saved : Saved) (moment : ℕ) (told : Told)
   pub told_is : told ≡ told_of false end.session
   pub new_is : new ≡ settled end
 
--- The meaning of the world with its connections. What is saved is the world with the connected players, in the order of their connections; its
--- text is the canonical one.
+-- The meaning of the world with its connections. What is saved is the world with the connected players, in the order of
+-- their connections; its text is the canonical one.
 abbrev pub live_meaning : Telling → Meaning WorldState Saved
 live_meaning T = record {
   happens = LiveHappens T;

@@ -11,7 +11,7 @@ use moo_session::{WorldState, checkpoint_ends, checkpoint_starts, hang_up, open,
 use moo_session_connection::Outbox;
 use std::alloc::{AllocError, Global};
 
-/// Drops what is left of an earlier happening. It takes no memory.
+/// Drops what an earlier happening has left. It takes no memory.
 pub(crate) fn discard_leftovers(live: &mut WorldState)
     ensures { live.new ≡ settled live.old }
 {
@@ -20,7 +20,7 @@ pub(crate) fn discard_leftovers(live: &mut WorldState)
     let _asked = live.session.take_asked();
 }
 
-/// Returns whether it is bytes for a connection that is leaving. Nothing comes of them.
+/// Returns whether a happening is bytes of a connection that is leaving. Such bytes change nothing.
 pub(crate) fn is_dropped(live: &WorldState, happening: Input) -> bool
     ensures nothing { result ≡ true → (moment : ℕ) → Becomes Faults (seen_happening happening.entry) moment (settled live.now) (settled live.now) }
     ensures is { result ≡ is_dropped (live_meaning Faults) live.now (seen_happening happening.entry) }
@@ -31,7 +31,7 @@ pub(crate) fn is_dropped(live: &WorldState, happening: Input) -> bool
     }
 }
 
-/// What happens to the world and its connections, with the hooks that it causes. The error is that memory runs out.
+/// Applies a happening to the world and its connections, with the hooks that it causes. Err is out of memory.
 pub(crate) fn apply(
     alloc: Global,
     live: &mut WorldState,
@@ -50,7 +50,8 @@ pub(crate) fn apply(
     }
 }
 
-/// Appends what was sent and logged to the output, and answers what was asked for. The error is that memory runs out.
+/// Appends what was sent and logged to the output, and returns what was requested. A shutdown is among that only if it
+/// began in this happening. Err is out of memory.
 pub(crate) fn move_out(
     live: &mut WorldState,
     was_closing: bool,

@@ -11,13 +11,14 @@ ghost use Rattle.moo_server.specs.declared.moo_application.MooApplication.{MooAp
 use crate::MooApplication;
 use moo_disk::Disk;
 
-/// Proves that for every list of connections' bytes, hang-ups, moments and flush turns, in whatever calls they come, and a stop
-/// before or within any disk call, starting again reads exactly the object world that the meaning gives after some prefix of the
-/// events. This prefix holds every event up to a mark whose checkpoint was reported done in a call that has returned. If none
-/// was, starting again may read the world that was read at the start.
+/// Proves that starting again reads exactly the object world that the meaning gives after some prefix of the events.
+/// This holds for every list of connections' bytes, hang-ups, moments and flush turns, in whatever calls they come. It
+/// holds for a stop before or within any disk call. The prefix holds every event up to a mark whose checkpoint was
+/// reported done in a call that has returned. If none was, starting again may read the world that was read at the
+/// start.
 ///
-/// Main then spells that world as a database text within the limits. So `recover` and `Server::open` return it, or report
-/// that the device failed or that memory ran out.
+/// Main then spells that world as a database text within the limits. So `recover` and `Server::open` return it, or
+/// report that the device failed or that memory ran out.
 pub fn starting_again_reads_a_prefix<D: Disk, E: Disk, F: Disk>()
     ensures { (stopped : Stopped live_layer D.kind E.kind) (found : F)
         → F.kind.honest found → (F.kind.view found).main_text ≡ stopped.left
@@ -26,8 +27,8 @@ pub fn starting_again_reads_a_prefix<D: Disk, E: Disk, F: Disk>()
     moo_server_core::laws::a_stopped_server_starts_again::<MooApplication, D, E, F>();
 }
 
-/// Proves what `starting_again_reads_a_prefix` does for a stop at any moment since the start began, inside the start too. Starting
-/// again reads the world that was read at the start, or the world after a prefix of the events.
+/// Proves what `starting_again_reads_a_prefix` does for a stop at any moment since the start began, inside the start
+/// too. Starting again reads the world that was read at the start, or the world after a prefix of the events.
 pub fn starting_again_reads_a_prefix_since_the_start<D: Disk, E: Disk, F: Disk>()
     ensures { (start end : ServerCore MooApplication) (first opened : D) (last : Lent D E) (calls : List (Call MooApplication (Lent D E)))
         (entries : List (Entry Saved)) (saved : Saved) (moment : ℕ)

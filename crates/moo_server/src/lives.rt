@@ -10,8 +10,8 @@ use moo_disk::CrashDisk;
 use moo_server_core::{Life, LifeBegin, LivesFault};
 use std::alloc::Global;
 
-/// Runs lives one after another, each over the disk that the one before it left. Returns the disk that is left too, also
-/// with a fault.
+/// Runs lives one after another, each over the disk that the one before it left. Returns the disk that is left too,
+/// also with a fault.
 ///
 /// If a life can't begin or end, the fault names it, and nothing is returned of those before it.
 pub fn run_lives_on<D: CrashDisk + Drop>(
@@ -19,11 +19,12 @@ pub fn run_lives_on<D: CrashDisk + Drop>(
     disk: D,
     lives: &[Life],
 ) -> Result<(D, Vec<LifeBegin>), (D, LivesFault)>
-    // Suppose that the disk is honest, that a crash leaves only its main text, and that this spells a saved world within
-    // the limits. Then these lives were lived, this is returned of them, and they left the disk that is returned.
+    // Suppose that the disk is honest, that a crash leaves only its main text, and that this spells a saved world
+    // within the limits. Then these lives were lived, this is returned of them, and they left the disk that is
+    // returned.
     ensures lives { D.kind.honest disk → (s : Saved) → SpellsSavedWithin (D.kind.view disk).main_text s → LeavesOnly (D.kind.view disk).main_text (D.kind.view disk)
         → IfOk result (λ given. SoFar live_layer D.kind D.images lives.now given.1.items disk given.0) }
-    // At a fault the lives before that of its place were lived, and that one met what the fault says and left the disk
+    // At a fault the lives before that of its place were lived. That one met what the fault says, and left the disk
     // that is returned. Only running out of memory ends lives without a reason of theirs.
     ensures fault { D.kind.honest disk → (s : Saved) → SpellsSavedWithin (D.kind.view disk).main_text s → LeavesOnly (D.kind.view disk).main_text (D.kind.view disk)
         → IfErr result (λ given. EndsAt live_layer D.kind D.images lives.now disk given.0 given.1) }
@@ -37,8 +38,8 @@ pub fn run_lives<D: CrashDisk + Drop>(
     disk: D,
     lives: &[Life],
 ) -> Result<Vec<LifeBegin>, LivesFault>
-    // Suppose that the disk is honest, that a crash leaves only its main text, and that this spells a saved world within
-    // the limits. Then these lives were lived, and this is returned of them.
+    // Suppose that the disk is honest, that a crash leaves only its main text, and that this spells a saved world
+    // within the limits. Then these lives were lived, and this is returned of them.
     ensures lives { D.kind.honest disk → (s : Saved) → SpellsSavedWithin (D.kind.view disk).main_text s → LeavesOnly (D.kind.view disk).main_text (D.kind.view disk)
         → IfOk result (λ begins. (left : D) × SoFar live_layer D.kind D.images lives.now begins.items disk left) }
     // At a fault the lives before that of its place were lived, and that one met what the fault says. Only running out

@@ -11,7 +11,7 @@ use moo_session_connection::{Outbox, pending_numbers};
 use moo_value::MooStr;
 use std::alloc::{AllocError, Global};
 
-/// A world, its connections, and what waits to be taken from them.
+/// Holds a world, its connections, and what waits to be taken from them.
 #[derive(Drop)]
 pub struct MooApplication {
     alloc: Global,

@@ -93,8 +93,8 @@ programmed n o i b s = programmed_unless (program_raises s.world (number_of s.wo
 abbrev pub told_fault : ℕ → SyntaxFault → Session → Session
 told_fault n fault s = sent n (codes "Verb not programmed.") (sent n (fault_text fault) s)
 
--- The lines that were gathered become the verb's program, or a line says why not. The verb is looked for again by its name, and the
--- right to write it is asked again.
+-- The lines that were gathered become the verb's program, or a line says why not. The verb is looked for again by its
+-- name, and the right to write it is asked again.
 pub data EndsProgramming (T : Telling) (n : ℕ) (player : ℤ) (g : Gathering) (s : WorldState) : WorldState → Type 0 where
   no_verb : own_verb s.world g.object g.verb ≡ None → EndsProgramming T n player g s (in_session (sent n (codes "No such verb.")) s)
   denied : {i : ℕ} → own_verb s.world g.object g.verb ≡ Some i → may_write s.world player g.object i ≡ false →

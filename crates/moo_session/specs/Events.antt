@@ -27,7 +27,8 @@ pub record OpensConnection (T : Telling) (moment : ℕ) (n : ℕ) (s s' : WorldS
 abbrev pub with_connections : Connections → WorldState → WorldState
 with_connections connections s = in_session (in_connections (λ _. connections)) s
 
--- Bytes of a connection: the lines that they end are run. Those of a connection that isn't open, or is leaving, are dropped.
+-- Bytes of a connection: the lines that they end are run. Those of a connection that isn't open, or is leaving, are
+-- dropped.
 pub data Hears (T : Telling) (moment : ℕ) (n : ℕ) (piece : List ℕ) (s : WorldState) : WorldState → Type 0 where
   dropped : client_here n s.session.connections ≡ None → Hears T moment n piece s s
   heard : {lines : List (List ℕ)} {after : Connections} {s' : WorldState} → HasHeard n moment piece s.session.connections lines after →
@@ -69,7 +70,8 @@ abbrev pub all_parted : List ℤ → Session → Session
 all_parted [] s = s
 all_parted (player ∷ players) s = all_parted players (caused (Disconnected player) s)
 
--- A start: `user_disconnected` for each player who was connected when the world was saved, in this order, then `server_started`.
+-- A start: `user_disconnected` for each player who was connected when the world was saved, in this order, then
+-- `server_started`.
 pub record Starts (T : Telling) (moment : ℕ) (players : List ℤ) (w : World) (s' : WorldState) : Type 0 where
   pub parted : WorldState
   pub hooks : HooksRun T moment (state w (all_parted players no_session)) parted

@@ -60,7 +60,8 @@ pub record MeetsLine (T : Telling) (moment : ℕ) (n : ℕ) (client : Client) (l
   pub types : Types T moment n client line s typed
   pub hooks : HooksRun T moment typed s'
 
--- The lines of an event, each with its hooks before the next. Those of a connection that isn't here, or is leaving, are dropped.
+-- The lines of an event, each with its hooks before the next. Those of a connection that isn't here, or is leaving, are
+-- dropped.
 pub data MeetsLines (T : Telling) (moment : ℕ) (n : ℕ) : List (List ℕ) → WorldState → WorldState → Type 0 where
   no_line_more : {s : WorldState} → MeetsLines T moment n [] s s
   dropped : {lines : List (List ℕ)} {s : WorldState} → client_here n s.session.connections ≡ None → MeetsLines T moment n lines s s

@@ -64,8 +64,8 @@ abbrev pub let_in : ℕ → ℕ → ℤ → Option ℤ → Session → Session
 let_in n moment before None s = s
 let_in n moment before (Some player) s = connected n player moment (int_lt before player) s
 
--- `do_login_command` is called with these words and this line; its task ends before anybody is connected. A player is new if the
--- number is above the highest before the call.
+-- `do_login_command` is called with these words and this line; its task ends before anybody is connected. A player is
+-- new if the number is above the highest before the call.
 pub record LogsIn (T : Telling) (moment : ℕ) (n : ℕ) (words : List (List ℕ)) (line : List ℕ) (s s' : WorldState) : Type 0 where
   pub answer : Option Tree
   pub asked : WorldState

@@ -10,7 +10,8 @@ use moo_value::{ListLimit, MooList, MooStr, Value};
 use moo_world::World;
 use std::alloc::{AllocError, Global};
 
-/// Runs what runs when a checkpoint is about to begin. Fails only if memory runs out.
+/// Calls `checkpoint_started` of #0, since a checkpoint is about to begin, and runs the hooks that it causes. Fails
+/// only if memory runs out.
 pub fn checkpoint_starts(
     alloc: Global,
     live: &mut WorldState,
@@ -22,7 +23,8 @@ pub fn checkpoint_starts(
     call_own_hook(alloc, live, moment, b"checkpoint_started", args)
 }
 
-/// Runs what runs when a checkpoint has ended, done or failed. Fails only if memory runs out.
+/// Calls `checkpoint_finished` of #0, since a checkpoint has ended, and runs the hooks that it causes. The argument is
+/// 1 if the checkpoint was done, and 0 if it failed. Fails only if memory runs out.
 pub fn checkpoint_ends(
     alloc: Global,
     live: &mut WorldState,
@@ -35,8 +37,9 @@ pub fn checkpoint_ends(
     call_own_hook(alloc, live, moment, b"checkpoint_finished", args)
 }
 
-/// Runs what runs when a server starts over a world in which these players were connected when it was saved. Fails only
-/// if memory runs out.
+/// Starts a server over a world in which these players were connected when it was saved. Runs `user_disconnected` for
+/// each, in this order, then `server_started` of #0, with the hooks that they cause. Returns the world with its
+/// sessions. Fails only if memory runs out.
 pub fn start(
     alloc: Global,
     world: World,

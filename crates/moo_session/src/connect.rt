@@ -1,4 +1,4 @@
-//! Connecting a player on a connection.
+//! Connects players on connections.
 ghost use Rattle.std.specs.Prelude.{◌≡◌, OnOk};
 ghost use Rattle.moo_session.specs.Login.{connected, redirected, welcomed, greeting, welcoming_hook};
 

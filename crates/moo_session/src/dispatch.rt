@@ -17,7 +17,7 @@ use moo_session_task::{Session, WorldState, call_server_verb, run, word_list};
 use moo_value::{MooStr, Value};
 use std::alloc::{AllocError, Global};
 
-/// Runs a player's command on the connection of this number, which is open and not leaving: the line, and its words.
+/// Runs a player's command, a line with its words, on the connection of this number, which is open and not leaving.
 /// Fails only if memory runs out.
 pub(crate) fn command(
     alloc: Global,

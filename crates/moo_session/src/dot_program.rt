@@ -12,8 +12,8 @@ use moo_world::{Rights, World};
 use moo_world_object::Need;
 use std::alloc::{AllocError, Global};
 
-/// Runs `.program` with these words after it. The connection of this number gathers lines from now on, or a line says
-/// why not. Fails only if memory runs out.
+/// Runs `.program` with these words after it. The connection of this number gathers lines from now on, or gets a line
+/// that says why not. Fails only if memory runs out.
 pub fn begin_programming(
     alloc: Global,
     world: &World,

@@ -9,7 +9,8 @@ use moo_session_task::{Hook, Session, WorldState, run_hooks};
 use moo_value::MooStr;
 use std::alloc::{AllocError, Global};
 
-/// Opens a connection at this moment, in seconds, under a number that none has. Fails only if memory runs out.
+/// Opens a connection at this moment, in seconds, under a number that none has. Calls `do_login_command` for it, and
+/// runs the hooks that this causes. Fails only if memory runs out.
 pub fn open(
     alloc: Global,
     live: &mut WorldState,
@@ -25,8 +26,8 @@ pub fn open(
     run_hooks(alloc, live, moment)
 }
 
-/// Takes bytes of the connection of this number, and runs the lines that they end. If it isn't open or is leaving, drops
-/// them and takes no memory. Fails only if memory runs out.
+/// Takes bytes of the connection of this number, and runs the lines that they end. If it isn't open or is leaving,
+/// drops them and takes no memory. Fails only if memory runs out.
 pub fn receive(
     alloc: Global,
     live: &mut WorldState,
@@ -44,7 +45,8 @@ pub fn receive(
     meet_lines(alloc, live, moment, number, &lines)
 }
 
-/// Closes the connection of this number, which has hung up, and frees its number. Fails only if memory runs out.
+/// Closes the connection of this number, which has hung up, and frees its number. Runs `user_client_disconnected` if a
+/// player was connected on it. Fails only if memory runs out.
 pub fn hang_up(
     alloc: Global,
     live: &mut WorldState,

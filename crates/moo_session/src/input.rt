@@ -11,8 +11,8 @@ use moo_session_task::{Session, WorldState, run_hooks};
 use moo_value::MooStr;
 use std::alloc::{AllocError, Global};
 
-/// Runs the lines of the connection of this number, one after another, each with the hooks that it causes. Drops those of
-/// a connection that isn't open, or is leaving. Fails only if memory runs out.
+/// Runs the lines of the connection of this number, one after another, each with the hooks that it causes. Drops those
+/// of a connection that isn't open, or is leaving. Fails only if memory runs out.
 pub fn meet_lines(
     alloc: Global,
     live: &mut WorldState,

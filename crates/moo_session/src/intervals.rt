@@ -5,8 +5,8 @@ ghost use Rattle.moo_session.specs.Interval.{interval};
 use moo_value::Value;
 use moo_world::World;
 
-/// Returns the seconds from the beginning of a checkpoint to that of the next: the value of `#0.dump_interval` if that is
-/// an integer of at least 60, else 3,600.
+/// Returns the seconds from the beginning of a checkpoint to that of the next. They are the value of `#0.dump_interval`
+/// if that is an integer of at least 60, else 3,600.
 pub fn interval(world: &World) -> u32
     ensures { result ≡ interval world.now }
 {

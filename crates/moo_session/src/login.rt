@@ -12,8 +12,8 @@ use moo_value::{MooStr, Value};
 use moo_world::World;
 use std::alloc::{AllocError, Global};
 
-/// Calls `do_login_command` for the connection of this number, with the words and the line that it sent, and connects the
-/// player that it returns. Fails only if memory runs out.
+/// Calls `do_login_command` for the connection of this number, with the words and the line that it sent, and connects
+/// the player that it returns. Fails only if memory runs out.
 pub fn log_in(
     alloc: Global,
     live: &mut WorldState,

@@ -24,8 +24,8 @@ pub(crate) enum LineKind {
     Command,
 }
 
-/// Takes a player's line that isn't gathered, on a connection that is open and not leaving: nothing without words, the text
-/// before or after the output of commands, `.program`, or a command. Fails only if memory runs out.
+/// Takes a player's line that isn't gathered, on a connection that is open and not leaving. The line is without words,
+/// sets the text before or after the output of commands, is `.program`, or is a command. Fails only if memory runs out.
 pub(crate) fn player_types(
     alloc: Global,
     live: &mut WorldState,

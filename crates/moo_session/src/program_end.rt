@@ -12,7 +12,8 @@ use moo_syntax_grammar::{Names, Program};
 use moo_world::{Rights, WorldFault};
 use std::alloc::{AllocError, Global};
 
-/// Makes the lines the program of the verb that they were gathered for, or sends the player a line that says why not.
+/// Makes the lines the program of the verb that they were gathered for. Sends the connection of this number a line that
+/// says so, or lines that say why not. Fails only if memory runs out.
 pub(crate) fn end_programming(
     alloc: Global,
     live: &mut WorldState,

@@ -8,8 +8,8 @@ use moo_session_task::WorldState;
 use moo_value::MooStr;
 use std::alloc::{AllocError, Global};
 
-/// Takes a line of the connection of this number, which gathers lines: the line is kept, or it is the dot that ends them.
-/// Fails only if memory runs out.
+/// Takes a line of the connection of this number, which gathers lines: the line is kept, or it is the dot that ends
+/// them. Fails only if memory runs out.
 pub fn gather(
     alloc: Global,
     live: &mut WorldState,

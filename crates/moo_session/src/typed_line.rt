@@ -1,4 +1,4 @@
-//! One line.
+//! Takes one line of a connection.
 ghost use Rattle.std.specs.Prelude.{◌≡◌, OnOk, IsSomeAnd, IsSome, is_some};
 ghost use Rattle.moo_builtin.specs.Telling.{Faults};
 ghost use Rattle.moo_session_connection.specs.Connections.{client_here};
@@ -15,8 +15,8 @@ use moo_session_task::{Session, WorldState};
 use moo_value::MooStr;
 use std::alloc::{AllocError, Global};
 
-/// Takes one line of the connection of this number, which is open and not leaving, without the hooks that it causes. Fails
-/// only if memory runs out.
+/// Takes one line of the connection of this number, which is open and not leaving, without the hooks that it causes.
+/// Fails only if memory runs out.
 pub(crate) fn type_line(
     alloc: Global,
     live: &mut WorldState,

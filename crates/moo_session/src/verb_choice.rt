@@ -15,6 +15,7 @@ use moo_world::World;
 use std::alloc::{AllocError, Global};
 
 /// Returns the verb that a command runs and the object that it runs on: the verb that is chosen, else the room's `huh`.
+/// `None` if there is neither.
 pub(crate) fn verb_to_run<'a>(
     world: &'a World,
     player: i32,

@@ -27,8 +27,8 @@ player_of_hook (ClientDisconnected player) = player
 abbrev pub CallsHook : Telling → ℕ → Hook → WorldState → Option Tree → WorldState → Type 0
 CallsHook T moment h = CallsServerVerb T moment (hook_name h) (player_of_hook h) (object (player_of_hook h) ∷ []) []
 
--- The hooks that wait run from the first on, until none waits. Each is looked for when its turn comes, and what it causes waits after
--- the others.
+-- The hooks that wait run from the first on, until none waits. Each is looked for when its turn comes, and what it
+-- causes waits after the others.
 pub data HooksRun (T : Telling) (moment : ℕ) : WorldState → WorldState → Type 0 where
   none_waits : {s : WorldState} → s.session.hooks ≡ [] → HooksRun T moment s s
   first_runs : {s s' s'' : WorldState} {h : Hook} {hs : List Hook} {v : Option Tree} →

@@ -21,7 +21,7 @@ abbrev pub IsWithin : Telling → Telling → Type 0
 IsWithin T U = (around : Surroundings) (start : Frame) (before after : World) (end : End) (notices : List Notice) →
     TaskEnds T around start before end after notices → TaskEnds U around start before end after notices
 
--- for each choice of the fault that is reported, if the choice is one each time
+-- for each choice of the faults that are reported, if it has none for a program
 abbrev pub OneResultOfCalls : Type 0
 OneResultOfCalls = (choice : Choice) → PassesPrograms choice → (moment : ℕ) (name : List ℕ) (player : ℤ) (args : List Tree) (argstr : List ℕ) (s s' t : WorldState) (v w : Option Tree) →
     CallsServerVerb (chosen_by choice) moment name player args argstr s v s' → CallsServerVerb (chosen_by choice) moment name player args argstr s w t → (v ≡ w) × (s' ≡ t)

@@ -1,4 +1,4 @@
--- What an opening, a line and a hang-up change: the world and its sessions.
+-- What an opening, bytes and a hang-up change: the world and its sessions.
 use Rattle.moo_world_table.specs.World.{World}
 use Rattle.moo_session_task.specs.declared.world_state.WorldState.{WorldState}
 use Rattle.moo_session_task.specs.Session.{Session}

@@ -26,8 +26,8 @@ account_of (value v) = []
 account_of (uncaught lines) = lines
 account_of (out_of_ticks lines) = lines
 
--- A task that begins with this frame, at this moment: what it changed in the world stays, then what it asked for is applied in order,
--- then the lines of its end go to its player.
+-- A task that begins with this frame, at this moment. What it changed in the world stays. Then what it asked for is
+-- applied in order, and the lines of its end go to its player.
 pub record RunsTask (T : Telling) (moment : ℕ) (start : Frame) (s : WorldState) (v : Option Tree) (s' : WorldState) : Type 0 where
   pub end : End
   pub after : World

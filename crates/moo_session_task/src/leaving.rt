@@ -10,7 +10,8 @@ use moo_value::MooStr;
 use std::alloc::{AllocError, Global};
 
 impl Session {
-    /// Sends a last line to the connection that goes by this number, and marks it as leaving. Fails only if
+    /// Sends a last line to the connection that goes by this number, and marks it as leaving. Enqueues
+    /// `user_disconnected` if a player was connected on it. Without such a connection, does nothing. Fails only if
     /// memory runs out.
     pub fn disconnect(&mut self, who: i32, line: &[u8]) -> Result<(), AllocError>
         ensures { OnOk result (self.new ≡ disconnected who line.now self.old) }

@@ -1,4 +1,5 @@
-//! An internal crate of `moo_session`.
+//! Tasks that the server starts, the hooks that they cause, and the sessions that they change. An internal crate of
+//! `moo_session`.
 #![tactic(auto)]
 
 mod hook;

@@ -7,7 +7,7 @@ use moo_eval_frame::Notice;
 use std::alloc::AllocError;
 
 impl Session {
-    /// Applies what a task asked for, in its order.
+    /// Applies what a task asked for, in its order. Fails only if memory runs out.
     pub fn apply_notices(&mut self, notices: &[Notice]) -> Result<(), AllocError>
         ensures { OnOk result (self.new ≡ all_applied notices.now self.old) }
     {

@@ -35,7 +35,8 @@ impl Session {
         }
     }
 
-    /// Sends several lines, in order, to the connection that goes by this number, if there is one.
+    /// Sends several lines, in order, to the connection that goes by this number, if there is one. Fails only if memory
+    /// runs out.
     pub fn notify_all(&mut self, who: i32, lines: &[Vec<u8>]) -> Result<(), AllocError>
         ensures { OnOk result (self.new ≡ all_notified who (texts lines.now) self.old) }
     {

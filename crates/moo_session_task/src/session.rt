@@ -14,7 +14,7 @@ use std::collections::VecDeque;
 use std::marker::Model;
 use std::mem;
 
-/// Holds the open connections, the hooks that wait, and what an event has sent so far.
+/// Holds the open connections, the hooks that wait, and what an event has sent, logged and requested so far.
 #[derive(Drop)]
 pub struct Session {
     pub(crate) alloc: Global,
@@ -43,7 +43,7 @@ impl Model for Session {
 }
 
 impl Session {
-    /// Returns sessions without a connection, before any event.
+    /// Returns sessions without a connection, in which nothing has happened.
     pub fn new(alloc: Global) -> Session
         ensures { result ≡ no_session }
     {
@@ -81,7 +81,7 @@ impl Session {
         Ok(())
     }
 
-    /// Takes the hook that is to run next.
+    /// Takes the hook that is to run next. `None` if none waits.
     pub fn next_hook(&mut self) -> Option<Hook>
         ensures some { IfSome result (λ h. (hs : List hook) × (self.old.hooks ≡ h ∷ hs) × (self.new ≡ with_hooks hs self.old)) }
         ensures none { IfNone result ((self.old.hooks ≡ []) × (self.new ≡ self.old)) }

@@ -6,7 +6,7 @@ ghost use Rattle.moo_session_task.specs.WordList.{strings_of, FitsAList};
 use moo_value::{ListLimit, MooList, MooStr, Value};
 use std::alloc::{AllocError, Global};
 
-/// Returns the list of these words, if it is within the limits.
+/// Returns the list of these words, which has to be within the limits of lists. Fails only if memory runs out.
 pub fn word_list(alloc: Global, words: Vec<MooStr>) -> Result<MooList, AllocError>
     requires { FitsAList words.items }
     ensures { IfOk result (λ list. list ≡ strings_of words.items) }

@@ -15,8 +15,8 @@ use moo_value::{MooList, MooStr, Value};
 use std::alloc::{AllocError, Global};
 
 /// Calls the verb of #0 with this name at this moment, in seconds, if there is one that can be executed. It gets these
-/// arguments, this text as `argstr`, and this player, which need not be one. Returns the value of its task, if it has
-/// one. Fails only if memory runs out.
+/// arguments, this text as `argstr`, and this number as `player`, which need not be a player's. Returns the value of
+/// its task, if it has one. Fails only if memory runs out.
 pub fn call_server_verb(
     alloc: Global,
     live: &mut WorldState,

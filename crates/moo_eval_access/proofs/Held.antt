@@ -1,8 +1,8 @@
 -- Containers with another value in the place of the next one.
-use Rattle.std.proofs.Common.{◌≡◌, ℕ, zero, suc, ◌<◌, ℤ, List, [], ◌∷◌, ◌++◌, length, set, get_or, Bool, true, false, cond, Some, None, Option, Result, Ok, Err, refl, sym, ap, subst, ◌∙◌, arith}
+use Rattle.std.proofs.Common.{◌≡◌, ℕ, zero, suc, ◌<◌, ℤ, List, [], ◌∷◌, length, set, get_or, Some, None, Option, Result, Ok, Err, refl, sym, ap, ◌∙◌, arith}
 use Rattle.moo_value.specs.declared.error_code.ErrorCode.{ErrorCode}
 use Rattle.moo_value.specs.declared.error_code.ErrorCode.TheVariants.{Quota}
-use Rattle.moo_value.specs.Tree.{Tree, Elements, integer, list, list_of, trees_of, elements_of}
+use Rattle.moo_value.specs.Tree.{Tree, integer, list_of}
 use Rattle.moo_value.specs.TreeCode.{trees_of-elements_of}
 use Rattle.moo_value.specs.View.{tree}
 use Rattle.moo_builtin_operator.specs.Answer.{limited}

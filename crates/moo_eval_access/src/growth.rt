@@ -1,6 +1,6 @@
 //! Lists and strings that grow in the variable that holds them, as by `l = {@l, x};` and `s = s + x;`.
 ghost use Rattle.std.specs.Prelude.{◌≡◌, ◌++◌, ◌∷◌, [], Ok, Err, IfErr, OnOk};
-ghost use Rattle.moo_value.specs.Tree.{Tree, list_of, string};
+ghost use Rattle.moo_value.specs.Tree.{Tree, string};
 ghost use Rattle.moo_value.specs.View.{tree};
 ghost use Rattle.moo_builtin_operator.specs.Operators.{added};
 ghost use Rattle.moo_builtin_operator.specs.Places.{made_list};

@@ -12,7 +12,7 @@ use Rattle.moo_value.specs.Tree.{Tree, string}
 use Rattle.moo_builtin_operator.specs.declared.fault.OperationFault.{OperationFault}
 use Rattle.moo_builtin_operator.specs.declared.fault.OperationFault.TheVariants.{Raise, Memory}
 use Rattle.moo_builtin_operator.specs.Answer.{limited}
-use Rattle.moo_builtin_value.specs.TextAnswers.{Gives, IsRefusedText}
+use Rattle.moo_builtin_value.specs.TextAnswers.{IsRefusedText}
 use Rattle.moo_builtin_value.proofs.Making.{limited_made}
 use Rattle.moo_eval_call.specs.Spliced.{text_from, GoesOn, Ends}
 

@@ -3,7 +3,7 @@
 //! 'Operations on Player Objects' and 'Administrative Operations'. Arguments that don't fit the function's row raise
 //! E_TYPE; no call has such arguments. A call that raises changes nothing.
 ghost use Rattle.std.specs.Prelude.{◌≡◌, ◌++◌, ◌∷◌, [], ℕ, OnOk};
-ghost use Rattle.moo_value.specs.View.{tree, trees};
+ghost use Rattle.moo_value.specs.View.{trees};
 ghost use Rattle.moo_eval_frame.specs.Seen.{seen_answer, IsKnownFailure};
 ghost use Rattle.moo_eval_frame.specs.declared.frame.Activation.{Activation};
 ghost use Rattle.moo_world_table.specs.World.{World as Objects};

@@ -3,10 +3,9 @@ ghost use Rattle.std.specs.Prelude.{◌≡◌, ◌++◌, ◌∷◌, [], IfErr, O
 ghost use Rattle.moo_value.specs.Faults.{TakesMemory};
 ghost use Rattle.moo_value.specs.declared.error_code.ErrorCode.TheVariants.{VariableNotFound};
 ghost use Rattle.moo_value.specs.Compare.{folded};
-ghost use Rattle.moo_value.specs.View.{tree};
 ghost use Rattle.moo_eval_frame.specs.Outcome.{answers, or_error};
 ghost use Rattle.moo_eval_frame.specs.State.{measured};
-ghost use Rattle.moo_eval_frame.specs.Seen.{variables_of, indexed_of, failure_of, seen_answer, IsKnownFailure, LacksOnlyIn};
+ghost use Rattle.moo_eval_frame.specs.Seen.{variables_of, indexed_of, seen_answer, IsKnownFailure, LacksOnlyIn};
 
 use crate::frame::Activation;
 use crate::outcome::Failure;

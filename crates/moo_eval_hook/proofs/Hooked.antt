@@ -2,7 +2,7 @@
 use Rattle.std.proofs.Common.{◌≡◌, ℕ, ℤ, pos, negsuc, List, ◌∷◌, Bool, true, false, Option, None, Some, is_some, if◌then◌else◌, Result, Ok, Err, refl, sym, ap, ◌∙◌}
 use Rattle.std.specs.Option.{option_map, option_and_then}
 use Rattle.moo_value.specs.declared.error_code.ErrorCode.TheVariants.{InvalidIndirection, VerbNotFound, MaximumRecursion}
-use Rattle.moo_value.specs.Tree.{Tree, object, string}
+use Rattle.moo_value.specs.Tree.{Tree}
 use Rattle.moo_world_object.specs.Objects.{Object}
 use Rattle.moo_world_object.specs.declared.verb.Verb.{Verb}
 use Rattle.moo_world_object.specs.declared.verb.Need.TheVariants as need
@@ -17,7 +17,7 @@ use Rattle.moo_eval_frame.specs.State.{trace_frame}
 use Rattle.moo_eval_frame.specs.Outcome.{Failure, fails, answers, or_error}
 use Rattle.moo_eval_access.specs.Entering.{Entered, called_verb, found_verb, has_frame_left, player_of_call, called_frame, entered, entered_found}
 use Rattle.moo_eval_hook.specs.declared.progress.Stage.{Stage}
-use Rattle.moo_eval_hook.specs.Progressing.{Calling, Progress, done, verb_next, stage_next, through, hooked, hook}
+use Rattle.moo_eval_hook.specs.Progressing.{Calling, done, verb_next, stage_next, through, hooked, hook}
 use Rattle.moo_eval_hook.specs.SeenByHooks.{arguments_of}
 
 -- an object on which a verb is found is valid

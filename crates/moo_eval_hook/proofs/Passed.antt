@@ -1,5 +1,5 @@
 -- `pass` with arguments that make no list.
-use Rattle.std.proofs.Common.{◌≡◌, ℕ, length, ℤ, List, [], ◌∷◌, Bool, true, false, Option, None, Some, Result, Ok, Err, refl, ap, ◌∙◌, ◌+◌, if◌then◌else◌, not, is_some, ◌&&◌}
+use Rattle.std.proofs.Common.{◌≡◌, ℕ, length, ℤ, List, [], ◌∷◌, Bool, true, Option, None, Some, Result, Ok, Err, refl, ap, ◌∙◌, ◌+◌, if◌then◌else◌, not, is_some, ◌&&◌}
 use Rattle.std.proofs.Math.Dec.{leb-zero}
 use Rattle.moo_value.specs.declared.error_code.ErrorCode.{ErrorCode}
 use Rattle.moo_value.specs.declared.error_code.ErrorCode.TheVariants.{Arguments, TypeMismatch, InvalidArgument}
@@ -7,10 +7,10 @@ use Rattle.moo_value.specs.Tree.{Tree}
 use Rattle.moo_builtin_operator.specs.Places.{made_list}
 use Rattle.moo_syntax_function.specs.declared.function.Function.TheVariants as function
 use Rattle.moo_syntax_function.specs.Table.{row}
-use Rattle.moo_syntax_function.specs.Check.{is_count, fits, kind_at, names_valid, holds_from, all_fit, all_valid, mismatch, refusal}
+use Rattle.moo_syntax_function.specs.Check.{is_count, fits, kind_at, names_valid, holds_from, all_fit, all_valid, refusal}
 use Rattle.moo_world_table.specs.World.{World}
 use Rattle.moo_eval_frame.specs.Outcome.{Failure, answers}
-use Rattle.moo_eval_access.specs.Entering.{Entered, after_list, entered_from}
+use Rattle.moo_eval_access.specs.Entering.{Entered, after_list}
 use Rattle.moo_eval_hook.specs.declared.progress.Stage.TheVariants.{Passed}
 use Rattle.moo_eval_hook.specs.Progressing.{Calling, Progress, done}
 use Rattle.moo_eval_hook.specs.Passing.{run_by, passing}

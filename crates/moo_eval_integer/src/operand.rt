@@ -1,8 +1,8 @@
 //! Operands of `==` and `!=`, which are compared without a copy.
-ghost use Rattle.std.specs.Prelude.{◌≡◌, ◌≤◌, ◌∷◌, [], Ok, Some, IfSome};
-ghost use Rattle.moo_value.specs.Tree.{integer, list_of, string as string_tree};
+ghost use Rattle.std.specs.Prelude.{◌≡◌, ◌≤◌, Ok, Some, IfSome};
+ghost use Rattle.moo_value.specs.Tree.{integer, string as string_tree};
 ghost use Rattle.moo_value.specs.View.{tree};
-ghost use Rattle.moo_syntax_ast.specs.Tree.{binary, variable, index};
+ghost use Rattle.moo_syntax_ast.specs.Tree.{binary, index};
 ghost use Rattle.moo_syntax_lower.specs.Source.{source};
 ghost use Rattle.moo_builtin_operator.specs.Operators.{binary_of};
 ghost use Rattle.moo_builtin_operator.specs.Places.{index_of};

@@ -7,15 +7,12 @@ use Rattle.std.specs.declared.vec.Vec.{Vec}
 use Rattle.std.specs.declared.alloc.Global.{Global}
 use Rattle.moo_value.specs.declared.value.Value.{Value}
 use Rattle.moo_value.specs.View.{trees}
-use Rattle.moo_value.specs.Tree.{Tree}
-use Rattle.moo_syntax_ast.specs.Tree.{Codes}
 use Rattle.moo_syntax_lower.specs.declared.node.NodeCodes.{NodeCodes}
 use Rattle.moo_eval_frame.specs.declared.outcome.Failure as code_failure
 use Rattle.moo_eval_frame.specs.declared.outcome.Stop as code_stop
 use Rattle.moo_eval_frame.specs.Seen.{seen_by, seen_answers}
 use Rattle.moo_eval_control.specs.SeenCatching.{seen_codes, code_values}
 use Rattle.moo_eval_interpreter.specs.Codes.{seen_values}
-use Rattle.moo_eval_control.specs.Catching.{guards, coded}
 use Rattle.moo_eval_frame.specs.Outcome.{Failure, stops, out_of_ticks}
 use Rattle.moo_eval_frame.specs.State.{Context}
 use Rattle.moo_eval_access.specs.State.{State, ticked, trace}

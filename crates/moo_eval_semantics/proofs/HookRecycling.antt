@@ -26,7 +26,7 @@ use Rattle.moo_eval_semantics.specs.Operands.{answered, begun, left}
 use Rattle.moo_eval_semantics.specs.Meaning.{RunsAll, Proceeds, is_done, hook_stops, hook_then, at_once}
 use Rattle.moo_eval_semantics.specs.Verbs.{entering, CallsVerb, passed_over, no_frame, runs}
 use Rattle.moo_eval_semantics.specs.Recycles as law
-use Rattle.moo_eval_semantics.specs.Recycles.{out_error, with_out, without, Empties, Recycles}
+use Rattle.moo_eval_semantics.specs.Recycles.{out_error, with_out, Empties, Recycles}
 use Rattle.moo_eval_semantics.proofs.Called.{GoesOn, begun as begun_call, refused_object, valid_object}
 
 -- a verb that was entered has run

@@ -1,5 +1,5 @@
 //! Changes of a list in the list in a slot: an integer of it is replaced, or it takes a value at its end.
-ghost use Rattle.std.specs.Prelude.{◌≡◌, ◌<◌, ◌++◌, ◌∷◌, ℤ, List, [], Some, None, length, get_or, set, slice_get, slice_set, IsTrue, IsFalse, IfOk, IfSome};
+ghost use Rattle.std.specs.Prelude.{◌≡◌, ◌<◌, ℤ, List, [], Some, None, length, get_or, set, slice_get, slice_set, IsTrue, IsFalse, IfOk, IfSome};
 ghost use Rattle.moo_value.specs.Tree.{Tree, integer, list_of};
 ghost use Rattle.moo_value.specs.Size.{IsWithinLimits};
 ghost use Rattle.moo_value.specs.View.{tree};

@@ -1,5 +1,4 @@
 //! The world with its connections and what waits to be taken: the layer of sessions that a server is over.
-ghost use Rattle.std.specs.Prelude.{◌≡◌};
 
 use crate::connected::player_here;
 use crate::happening::{apply, discard_leftovers, is_dropped, move_out};

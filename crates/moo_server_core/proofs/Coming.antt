@@ -1,6 +1,6 @@
 -- The report of a checkpoint comes in time.
 use Rattle.std.proofs.Common.{◌≡◌, ◌≢◌, inl, inr, ℕ, ◌+◌, ◌/◌, ◌<◌, ◌≤◌, List, [], ◌∷◌, ◌++◌, length, Option, Some, None, Bool, true, false, refl, ◌∙◌, ap, subst, arith}
-use Rattle.std.specs.Prelude.{MatchBool, ◌&&◌, ◌||◌, not, is_none, nat_le}
+use Rattle.std.specs.Prelude.{MatchBool, ◌||◌, not, is_none, nat_le}
 use Rattle.std.specs.Option.{option_map}
 use Rattle.moo_server_core.specs.Traces.{Report, Trace}
 use Rattle.moo_server_core.specs.Turns.{IsInTime, HasReport, flush_count, flush_takes, flushes, turns_after, turns_for, turns_left_after, turns_marked, turns_unmarked}

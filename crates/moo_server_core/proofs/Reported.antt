@@ -1,5 +1,5 @@
 -- The report of a checkpoint.
-use Rattle.std.proofs.Common.{◌≡◌, ◌↔◌, ℕ, List, Option, Some, None, Result, Ok, Err, OnOk, Bool, refl, sym, ◌∙◌, ap, subst, inl}
+use Rattle.std.proofs.Common.{◌≡◌, ℕ, List, Option, Some, None, Result, Ok, Err, OnOk, Bool, refl, sym, ◌∙◌, ap, subst, inl}
 use Rattle.std.specs.Prelude.{if◌then◌else◌}
 use Rattle.moo_disk.specs.Disk.{DiskKind, LeavesOnly}
 use Rattle.moo_checkpoint.specs.Checkpoint.{text_of, turns_left}

@@ -1,7 +1,6 @@
 //! The server: its application, and the checkpoint that is open.
 ghost use Rattle.std.specs.Prelude.{All, Contains, ℕ, [], Err, ◌≡◌, ◌≢◌, ◌⊎◌, ◌↔◌, ◌<◌, ◌||◌, None, false, true, length, IfOk, if◌then◌else◌};
 ghost use Rattle.std.specs.List.{AllPairs};
-ghost use Rattle.moo_dbtext_read.specs.Saved.{Saved};
 ghost use Rattle.moo_server_core.specs.Application.{silence, then_out};
 ghost use Rattle.moo_server_core.specs.Courses.{phase_of};
 ghost use Rattle.moo_server_core.specs.Seen.{Flush, seen};

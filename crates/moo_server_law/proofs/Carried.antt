@@ -1,5 +1,5 @@
 -- What holds of the connections that aren't leaving, and stays so when one goes or is changed, stays so in whatever happens to them.
-use Rattle.std.proofs.Common.{◌≡◌, ℕ, ℤ, Bool, true, false, cond, List, [], ◌∷◌, Option, Some, None, refl, subst, ◌≢◌, ◌++◌, sym, ◌∙◌, ap}
+use Rattle.std.proofs.Common.{◌≡◌, ℕ, ℤ, Bool, true, false, cond, List, [], ◌∷◌, Option, Some, None, refl, subst}
 use Rattle.std.specs.Prelude.{codes, is_some, int_lt, position}
 use Rattle.moo_builtin.specs.Setting.{is_programmer}
 use Rattle.moo_builtin.specs.Telling.{Telling}
@@ -10,13 +10,12 @@ use Rattle.moo_eval_frame.specs.declared.notice.Notice.TheVariants as notice
 use Rattle.moo_eval_frame.specs.declared.notice.Notice.{Notice}
 use Rattle.moo_session.specs.Dispatch.{RunsVerb, runs, nothing_runs, FollowsDoCommand, is_done, goes_on, Commanded, sent_unless_empty}
 use Rattle.moo_session.specs.DotProgram.{begun_by, begun_at_colon, begun_for_place, gathering_for, ready_line, told_usage, is_colon, may_write, EndsProgramming, no_verb, denied, faulty, parsed, programmed_unless, Gathers, keeps, ends}
-use Rattle.moo_session.specs.Events as event
-use Rattle.moo_session.specs.Events.{OpensConnection, Hears, HangsUp, CallsOwnHook, hung_up, parted_from_client, player_at, with_connections}
+use Rattle.moo_session.specs.Events.{CallsOwnHook, parted_from_client}
 use Rattle.moo_session.specs.Frames.{command_frame}
 use Rattle.moo_session.specs.Input.{PlayerTypes, no_word, prefix, suffix, program, command, Types, logs_in, gathers, plays, MeetsLines, no_line_more, dropped, one_line_more}
 use Rattle.moo_session.specs.Login.{LogsIn, let_in, admitted, highest_in, redirected, welcomed}
-use Rattle.moo_session_connection.specs.Changes.{joined, freed, with_changed, left_where, left_by, displaced, played, as_playing, with_heard, with_prefix, with_suffix, with_gathering}
-use Rattle.moo_session_connection.specs.Clients.{number_of, player_on, newcomer, has_number, is_known_as, is_played_by, without_first, changed}
+use Rattle.moo_session_connection.specs.Changes.{with_changed, left_where, left_by, displaced, played, as_playing, with_prefix, with_suffix, with_gathering}
+use Rattle.moo_session_connection.specs.Clients.{player_on, has_number, is_known_as, is_played_by, without_first, changed}
 use Rattle.moo_session_connection.specs.Connections.{Connections, client_here, client_known_as, client_playing}
 use Rattle.moo_session_connection.specs.Gathering.{Gathering}
 use Rattle.moo_session_connection.specs.declared.client.Client.{Client}

@@ -1,5 +1,5 @@
 -- No connection is open behind a start: the tasks of its hooks open none.
-use Rattle.std.proofs.Common.{◌≡◌, ℕ, ℤ, true, false, List, [], ◌∷◌, Option, Some, None, refl, sym, ◌∙◌, ap, subst}
+use Rattle.std.proofs.Common.{◌≡◌, ℕ, ℤ, true, false, List, [], ◌∷◌, Option, Some, None, refl, sym, ap, subst}
 use Rattle.std.specs.Prelude.{codes}
 use Rattle.moo_value.specs.Tree.{Tree}
 use Rattle.moo_world_table.specs.World.{World}
@@ -13,11 +13,10 @@ use Rattle.moo_session_task.specs.declared.world_state.WorldState.{WorldState}
 use Rattle.moo_session_task.specs.Leaving.{disconnected, disconnected_from}
 use Rattle.moo_session_task.specs.Notices.{all_applied, applied}
 use Rattle.moo_session_task.specs.Sending.{all_notified, sent_to, notified}
-use Rattle.moo_session_task.specs.Session.{Session, caused, no_session}
-use Rattle.moo_session_task.specs.State.{state}
+use Rattle.moo_session_task.specs.Session.{Session, no_session}
 use Rattle.moo_session_task.specs.Tasks.{CallsServerVerb, is_missing, runs, account_of}
 use Rattle.moo_session_task.specs.Hooks.{HooksRun, first_runs, none_waits}
-use Rattle.moo_session.specs.Events.{CallsOwnHook, Starts, all_parted}
+use Rattle.moo_session.specs.Events.{Starts, all_parted}
 
 abbrev pub IsEmpty : Session → Type 0
 IsEmpty s = s.connections ≡ no_connections

@@ -1,22 +1,16 @@
 -- A connection's reader is changed by its own bytes alone.
-use Rattle.std.proofs.Common.{◌≡◌, ◌≢◌, ℕ, ◌==◌, ℤ, Bool, true, false, cond, List, [], ◌∷◌, zero, suc, Option, Some, None, inl, inr, refl, sym, ◌∙◌, ap, subst}
-use Rattle.std.specs.Prelude.{find, codes}
+use Rattle.std.proofs.Common.{◌≡◌, ◌≢◌, ℕ, ◌==◌, Bool, true, false, cond, List, [], ◌∷◌, zero, suc, Option, Some, None, inl, inr, refl, sym, ◌∙◌, ap, subst}
+use Rattle.std.specs.Prelude.{find}
 use Rattle.std.specs.List.{insert}
 use Rattle.std.proofs.lemmas.Bool.{eqb-true, eq-eqb}
 use Rattle.std.proofs.lemmas.Bool.Decides.{eqb_tells}
 use Rattle.moo_session_line.specs.Rest.{Rest}
 use Rattle.moo_session_line.specs.Lines.{rest}
-use Rattle.moo_eval_frame.specs.declared.notice.Notice.{Notice}
-use Rattle.moo_eval_frame.specs.declared.notice.Notice.TheVariants as notice
 use Rattle.moo_session_connection.specs.declared.client.Client.{Client}
-use Rattle.moo_session_connection.specs.Clients.{number_of, player_on, newcomer, has_number, is_known_as, is_played_by, without_first, changed}
-use Rattle.moo_session_connection.specs.Connections.{Connections, client_here, client_known_as, client_playing}
-use Rattle.moo_session_connection.specs.Gathering.{Gathering}
-use Rattle.moo_session_connection.specs.Changes.{joined, freed, with_changed, left_where, left_by, displaced, played, as_playing, with_heard, with_prefix, with_suffix, with_gathering}
-use Rattle.moo_session_task.specs.Session.{Session, in_connections}
-use Rattle.moo_session_task.specs.Sending.{sent_to, notified, all_notified}
-use Rattle.moo_session_task.specs.Leaving.{parted, disconnected_from}
-use Rattle.moo_session_task.specs.Notices.{applied, all_applied}
+use Rattle.moo_session_connection.specs.Clients.{number_of, newcomer, has_number, without_first, changed}
+use Rattle.moo_session_connection.specs.Connections.{Connections, client_here}
+use Rattle.moo_session_connection.specs.Changes.{joined, freed, with_heard}
+use Rattle.moo_session_task.specs.Session.{Session}
 use Rattle.moo_server_law.proofs.Carried.{KeepsHeard, IsCarried}
 
 -- at most one connection has this number, and it holds this rest

@@ -14,7 +14,7 @@ use Rattle.moo_eval_frame.specs.declared.frame.Frame.{Frame}
 use Rattle.moo_eval_frame.specs.declared.notice.Notice.TheVariants as notice
 use Rattle.moo_eval_frame.specs.declared.notice.Notice.{Notice}
 use Rattle.moo_session.specs.Dispatch.{RunsVerb, runs, nothing_runs, FollowsDoCommand, is_done, goes_on, Commanded, sent_unless_empty}
-use Rattle.moo_session.specs.DotProgram.{begun_by, begun_at_colon, begun_for_place, gathering_for, ready_line, told_usage, is_colon, may_write, EndsProgramming, no_verb, denied, faulty, parsed, programmed_unless, Gathers, keeps, ends, with_line}
+use Rattle.moo_session.specs.DotProgram.{begun_by, begun_at_colon, begun_for_place, gathering_for, ready_line, is_colon, may_write, EndsProgramming, no_verb, denied, faulty, parsed, programmed_unless, Gathers, keeps, ends, with_line}
 use Rattle.moo_session.specs.Frames.{command_frame}
 use Rattle.moo_session.specs.Input.{PlayerTypes, no_word, prefix, suffix, program, command, Types, logs_in, gathers, plays, MeetsLines, no_line_more, dropped, one_line_more}
 use Rattle.moo_session.specs.Login.{LogsIn, let_in, admitted, highest_in, redirected, welcomed, greeting, welcoming_hook, is_player, object_in}

@@ -1,6 +1,6 @@
 -- While a server runs, its sessions aren't shutting down. A shutdown leaves no client.
-use Rattle.std.proofs.Common.{◌≡◌, ℕ, List, [], ◌∷◌, Option, Some, None, Bool, true, false, cond, ◌&&◌, refl, sym, ◌∙◌, ap, subst}
-use Rattle.std.specs.Prelude.{MatchBool, not, ◌||◌}
+use Rattle.std.proofs.Common.{◌≡◌, ℕ, List, [], Option, Some, None, Bool, true, false, cond, ◌&&◌, refl, sym, ◌∙◌, ap, subst}
+use Rattle.std.specs.Prelude.{MatchBool, not}
 use Rattle.moo_builtin.specs.Telling.{Telling, Faults}
 use Rattle.moo_dbtext_read.specs.Saved.{Saved}
 use Rattle.moo_session.specs.Events.{Hears as HearsBytes}

@@ -5,7 +5,7 @@ use Rattle.std.proofs.lemmas.Bool.{eqb-true, eq-eqb, true≢false}
 use Rattle.moo_dbtext_read.specs.Saved.{Saved}
 use Rattle.moo_builtin.specs.Telling.{Faults}
 use Rattle.moo_session_line.specs.Lines.{lines, rest}
-use Rattle.moo_session_connection.specs.Connections.{Connections, client_here}
+use Rattle.moo_session_connection.specs.Connections.{client_here}
 use Rattle.moo_session_connection.specs.Changes.{joined}
 use Rattle.moo_session_connection.proofs.Numbers.{nobody_here}
 use Rattle.moo_session_task.specs.declared.world_state.WorldState.{WorldState}
@@ -16,7 +16,6 @@ use Rattle.moo_session.specs.Events.{Hears as HearsBytes, OpensConnection}
 use Rattle.moo_server_core.specs.Application.{Input, Opens, Receives, HangsUp, Starts, Finishes, Output}
 use Rattle.moo_server_core.specs.Seen.{Event, Open, Bytes, Hangup, Moment, Flush}
 use Rattle.moo_server_core.specs.Traces.{Report}
-use Rattle.moo_server_core.specs.Courses.{is_closing}
 use Rattle.moo_server_core.specs.declared.event.Course.{Course}
 use Rattle.moo_server_core.specs.declared.event.Course.TheVariants.{Running, Closing, Closed}
 use Rattle.moo_server_core.specs.Meaning.{Acts, Entry, FindsFree, Hears, Marks, Passes, Reports, Run, State, Steps, Takes, is_done, is_passed_over}
@@ -24,7 +23,7 @@ use Rattle.moo_server_core.proofs.Idle.{finds_free}
 use Rattle.moo_server.specs.Live.{Becomes, live_meaning, settled}
 use Rattle.moo_server_law.specs.Stream.{HappensBeside, opens, hears, hangs_up, checkpoint_starts, checkpoint_ends, piece_of, stream_of, StaysOpen, LinesOfTheRun}
 use Rattle.moo_server_law.proofs.Carried.{hooks_keep, login_keeps, lines_keep}
-use Rattle.moo_server_law.proofs.Kept.{IsLone, Lone, Keeps, lone_is_carried, lone_of_none, lone_reader, joins_itself}
+use Rattle.moo_server_law.proofs.Kept.{IsLone, Keeps, lone_is_carried, lone_of_none, lone_reader, joins_itself}
 use Rattle.moo_server_law.proofs.Typed.{beside_keeps, own_heard, read_on}
 
 abbrev Holds : ℕ → List ℕ → State WorldState → Type 0

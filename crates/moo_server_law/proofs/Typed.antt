@@ -1,41 +1,20 @@
 -- The lines of a connection are those of all its bytes.
-use Rattle.std.proofs.Common.{◌≡◌, ◌≢◌, ℕ, ℤ, Bool, true, false, cond, List, [], ◌∷◌, ◌++◌, Option, Some, None, refl, sym, ◌∙◌, ap, subst}
-use Rattle.std.specs.Prelude.{codes, is_some, int_lt, position}
-use Rattle.moo_value.specs.declared.error_code.ErrorCode.{ErrorCode}
-use Rattle.moo_value.specs.Tree.{Tree, object}
-use Rattle.moo_syntax_ast.specs.Tree.{Block}
-use Rattle.moo_syntax.specs.FaultText.{fault_text}
-use Rattle.moo_command.specs.Commands.{Command}
-use Rattle.moo_world_table.specs.World.{World}
-use Rattle.moo_builtin.specs.Setting.{is_programmer}
+use Rattle.std.proofs.Common.{◌≡◌, ◌≢◌, ℕ, List, [], ◌++◌, refl, sym, ◌∙◌, ap, subst}
 use Rattle.moo_builtin.specs.Telling.{Telling}
 use Rattle.moo_session_line.specs.Rest.{Rest}
 use Rattle.moo_session_line.specs.Lines.{lines, rest}
 use Rattle.moo_session_line.specs.Reading.{Reads}
 use Rattle.moo_session_line.proofs.Cutting.{one_reading}
 use Rattle.moo_session_line.proofs.Streams.{lines_of, lines-append}
-use Rattle.moo_session_connection.specs.declared.client.Client.{Client}
-use Rattle.moo_eval_frame.specs.Surroundings.{own_number}
-use Rattle.moo_eval_frame.specs.declared.frame.Frame.{Frame}
-use Rattle.moo_session_connection.specs.Connections.{Connections, client_here, client_known_as}
-use Rattle.moo_session_connection.specs.Gathering.{Gathering}
+use Rattle.moo_session_connection.specs.Connections.{Connections}
 use Rattle.moo_session_connection.specs.Changes.{joined, freed, HasHeard}
 use Rattle.moo_session_task.specs.declared.world_state.WorldState.{WorldState}
-use Rattle.moo_session_task.specs.Session.{Session, in_connections, with_hooks}
+use Rattle.moo_session_task.specs.Session.{Session, in_connections}
 use Rattle.moo_session_task.specs.State.{in_session}
-use Rattle.moo_session_task.specs.Notices.{all_applied}
-use Rattle.moo_session_task.specs.Sending.{sent, notified, all_notified}
-use Rattle.moo_session_task.specs.WordList.{strings_of}
-use Rattle.moo_session_task.specs.Frames.{nobody as no_player, server_frame}
-use Rattle.moo_session_task.specs.Tasks.{RunsTask, CallsServerVerb, is_missing, runs as verb_runs, account_of}
-use Rattle.moo_session_task.specs.Hooks.{HooksRun, none_waits, first_runs, hook_name, player_of_hook}
-use Rattle.moo_session.specs.Login.{LogsIn, let_in, admitted, highest_in, redirected, welcomed}
-use Rattle.moo_session.specs.DotProgram.{begun_by, begun_at_colon, begun_for_place, gathering_for, ready_line, told_usage, is_colon, may_write, EndsProgramming, no_verb, denied, faulty, parsed, programmed_unless, Gathers, keeps, ends}
-use Rattle.moo_session.specs.Dispatch.{RunsVerb, runs, nothing_runs, FollowsDoCommand, is_done, goes_on, Commanded, sent_unless_empty}
-use Rattle.moo_session.specs.Frames.{command_frame}
-use Rattle.moo_session.specs.Input.{PlayerTypes, no_word, prefix, suffix, program, command, Types, logs_in, gathers, plays, MeetsLines, no_line_more, dropped, one_line_more}
+use Rattle.moo_session_task.specs.Sending.{sent}
+use Rattle.moo_session.specs.Input.{logs_in, dropped}
 use Rattle.moo_session.specs.Events as event
-use Rattle.moo_session.specs.Events.{OpensConnection, Hears, HangsUp, CallsOwnHook, hung_up, parted_from_client, player_at, with_connections}
+use Rattle.moo_session.specs.Events.{Hears, player_at}
 use Rattle.moo_server_law.specs.Stream.{HappensBeside, opens, hears, hangs_up, checkpoint_starts, checkpoint_ends, HasTyped, opened, passed, moved_out, heard}
 use Rattle.moo_server_law.proofs.Carried.{hooks_keep, login_keeps, lines_keep, own_hook_keeps, gone_keeps}
 use Rattle.moo_server_law.proofs.Kept.{IsLone, Lone, Keeps, lone_is_carried, lone_heard, lone_reader, lone_beside, joins_beside, joins_itself, frees_beside}

@@ -1,5 +1,5 @@
 //! The bytes for one number.
-ghost use Rattle.std.specs.Prelude.{◌≡◌, ◌<◌, ◌++◌, ℕ, [], filter, length, nat_lt, slice_index_or, OnOk};
+ghost use Rattle.std.specs.Prelude.{◌≡◌, ◌<◌, ◌++◌, ℕ, filter, length, nat_lt, slice_index_or, OnOk};
 ghost use Rattle.moo_session_connection.specs.Streams.{ended};
 ghost use Rattle.moo_session_connection.specs.Outbox.{no_bytes};
 ghost use Rattle.moo_session_connection.specs.Rows.{committed, rolled_back, changed_at, all_changed, has_waiting};

@@ -1,5 +1,5 @@
 -- A task causes no more hooks than it disconnects players.
-use Rattle.std.proofs.Common.{◌≡◌, ℕ, ◌+◌, ◌≤◌, ℤ, List, Option, subst, arith}
+use Rattle.std.proofs.Common.{ℕ, ◌≤◌, ℤ, List, Option, subst, arith}
 use Rattle.moo_value.specs.Tree.{Tree}
 use Rattle.moo_builtin.specs.Telling.{Telling}
 use Rattle.moo_eval_frame.specs.declared.frame.Frame.{Frame}

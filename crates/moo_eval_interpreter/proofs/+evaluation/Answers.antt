@@ -42,7 +42,6 @@ use Rattle.moo_eval_interpreter.proofs.Choosing.{passed}
 use Rattle.moo_eval_interpreter.proofs.Spliced.{plain_rest, not_spliced}
 use Rattle.moo_eval_interpreter.proofs.Known.{codes_given, errors_given, errors_end, seen_listed}
 use Rattle.moo_eval_control.specs.SeenCatching.{code_values}
-use Rattle.moo_eval_control.specs.Catching.{guards}
 use Rattle.moo_eval_frame.specs.Outcome.{out_of_ticks}
 use Rattle.moo_value.specs.Tree.{error}
 use Rattle.moo_eval_task.specs.Arguments.{is_splice}

@@ -1,4 +1,4 @@
-use Rattle.std.proofs.Common.{◌≡◌, Ok, length, IsTrue}
+use Rattle.std.proofs.Common.{Ok, length, IsTrue}
 use Rattle.std.specs.Prelude.{is_ok}
 use Rattle.moo_value.specs.Tree.{Tree}
 use Rattle.moo_eval_access.specs.Bounds.{IsWithin}

@@ -1,10 +1,9 @@
-use Rattle.std.proofs.Common.{◌≡◌, ℕ, ◌<◌, ◌-◌, ◌+ℤ◌, w32, rules, refl, arith}
+use Rattle.std.proofs.Common.{◌≡◌, ◌<◌, ◌-◌, ◌+ℤ◌, w32, rules, refl, arith}
 use Rattle.std.proofs.lemmas.Int.{to_z-of_z}
 use Rattle.std.specs.Int.{int_wrap}
 use mir.Val.{SFits}
 use Rattle.moo_syntax_ast.specs.declared.operator.BinaryOperator.TheVariants.{Add}
 use Rattle.moo_syntax_ast.specs.Tree.{variable}
-use Rattle.moo_value.specs.Tree.{integer}
 use Rattle.moo_eval_frame.specs.Seen.{variables_of}
 use Rattle.moo_eval_integer.specs.Integers.{GivesInteger}
 use Rattle.moo_eval_integer.proofs.Given.{operator_gives, variable_gives}

@@ -1,4 +1,3 @@
-use Rattle.std.proofs.Common.{refl}
 use Rattle.moo_eval_task.proofs.leaves.try_element_value.Goals as goal
 
 pub returns-in-Variable-clause-value : goal.returns-in-Variable-clause-value

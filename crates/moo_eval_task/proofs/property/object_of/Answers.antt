@@ -1,4 +1,4 @@
-use Rattle.std.proofs.Common.{ap, ◌∙◌, sym, refl, Ok, w32, rules}
+use Rattle.std.proofs.Common.{ap, ◌∙◌, sym, refl, w32, rules}
 use Rattle.std.proofs.lemmas.Int.{to_z-of_z}
 use mir.Val.{SFits}
 use Rattle.moo_value.specs.Compare.{folded}

@@ -1,4 +1,4 @@
-use Rattle.std.proofs.Common.{◌≡◌, ℤ, Option, Some, None, sym, ◌∙◌, ap, to_z, of_z, w32, SFits, rules}
+use Rattle.std.proofs.Common.{◌≡◌, ℤ, Option, sym, ◌∙◌, ap, to_z, of_z, w32, SFits, rules}
 use Rattle.std.proofs.Common as common
 use Rattle.std.proofs.lemmas.Int.{to_z-of_z}
 use Rattle.std.specs.Option.{option_map}

@@ -1,4 +1,4 @@
-use Rattle.std.proofs.Common.{◌≡◌, ◌+◌, ℕ, ℤ, take, drop, Option, Some, ◌∙◌, arith, to_z, of_z, w32, SFits, rules}
+use Rattle.std.proofs.Common.{◌≡◌, ◌+◌, take, drop, Some, ◌∙◌, arith, to_z, of_z, w32, SFits, rules}
 use Rattle.std.proofs.Common as common
 use Rattle.std.specs.Prelude.{position}
 use Rattle.std.proofs.lemmas.Grind.{common_steps}

@@ -1,4 +1,4 @@
-use Rattle.std.proofs.Common.{◌≡◌, ℕ, ℤ, true, false, Option, Some, None, ◌∙◌, arith, to_z, of_z, w32, SFits, rules}
+use Rattle.std.proofs.Common.{◌≡◌, true, false, Some, None, ◌∙◌, arith, to_z, of_z, w32, SFits, rules}
 use Rattle.std.proofs.Common as common
 use Rattle.std.proofs.lemmas.Grind.{common_steps}
 use Rattle.std.proofs.lemmas.Int.{ints, to_z-of_z}

@@ -1,4 +1,4 @@
-use Rattle.std.proofs.Common.{◌≡◌, ◌∙◌, rules, w32}
+use Rattle.std.proofs.Common.{◌∙◌, rules, w32}
 use mir.Val.{SFits}
 use Rattle.std.proofs.lemmas.Int.{to_z-of_z}
 use Rattle.moo_session_task.proofs.Steps.{hook_called}

@@ -1,4 +1,4 @@
-use Rattle.std.proofs.Common.{Bool, true, false, ◌<◌, ◌+◌, ◌≤◌, subst, arith}
+use Rattle.std.proofs.Common.{Bool, true, false, ◌<◌, subst, arith}
 use Rattle.std.proofs.lemmas.Result.{err_from_is_err_and}
 use Rattle.moo_builtin.specs.Telling.{Faults}
 use Rattle.moo_session_task.proofs.Potential.{potential}

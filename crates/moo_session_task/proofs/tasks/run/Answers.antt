@@ -1,4 +1,4 @@
-use Rattle.std.proofs.Common.{◌≡◌, ℤ, List, IfOk, sym, ◌∙◌, ap, subst, to_z, of_z, to_z-of_z, w32, SFits, rules}
+use Rattle.std.proofs.Common.{◌≡◌, ℤ, List, IfOk, ◌∙◌, ap, subst, to_z, of_z, to_z-of_z, w32, SFits, rules}
 use Rattle.moo_eval_frame.specs.declared.notice.Notice.{Notice}
 use Rattle.moo_session_task.specs.Session.{Session}
 use Rattle.moo_session_task.specs.Notices.{all_applied}

@@ -1,4 +1,4 @@
-use Rattle.std.proofs.Common.{◌≡◌, List, sym, ◌∙◌, ap, refl}
+use Rattle.std.proofs.Common.{List, ◌∙◌, ap, refl}
 use Rattle.moo_eval_frame.specs.declared.surroundings.Connection.{Connection}
 use Rattle.moo_eval_frame.specs.Surroundings.{Surroundings}
 use Rattle.moo_session_connection.specs.Connections.{Connections, around}

@@ -1,4 +1,4 @@
-use Rattle.std.proofs.Common.{◌≡◌, ℕ, ℤ, List, Option, Some, None, sym, ◌∙◌, ap, to_z, of_z, to_z-of_z, w32, SFits, rules}
+use Rattle.std.proofs.Common.{ℕ, ℤ, List, Option, sym, ◌∙◌, ap, to_z-of_z, w32, SFits, rules}
 use Rattle.std.specs.Option.{option_map}
 use Rattle.moo_eval_access.specs.declared.entering.Found.{Found}
 use Rattle.moo_eval_access.specs.SeenCalled.{found_of}

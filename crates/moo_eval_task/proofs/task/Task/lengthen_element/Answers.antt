@@ -1,4 +1,4 @@
-use Rattle.std.proofs.Common.{◌<◌, sym, refl, rules, arith}
+use Rattle.std.proofs.Common.{◌<◌, refl, rules, arith}
 use mir.Syntax.{w32}
 use mir.Val.{SFits}
 use Rattle.moo_eval_task.specs.Seen.{state_of}

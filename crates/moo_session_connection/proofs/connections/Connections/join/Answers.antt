@@ -1,4 +1,4 @@
-use Rattle.std.proofs.Common.{◌≡◌, None, sym, ap, subst}
+use Rattle.std.proofs.Common.{◌≡◌, None, ap, subst}
 use Rattle.moo_session_connection.specs.Connections.{Connections, AreInOrder, client_here}
 use Rattle.moo_session_connection.specs.Clients.{player_on}
 use Rattle.moo_session_connection.proofs.Numbers.{nobody_here}

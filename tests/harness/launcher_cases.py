@@ -20,8 +20,8 @@ from row_file import TOP
 TOOLS = "awk cat chmod cp cut date dirname find grep mkdir mkfifo mktemp mv paste readlink rm sed sh sha256sum sleep sort stat tail tar uname wc xargs".split()
 
 PARTS = ["moo", "release/sum", "release/check", "release/launch"]
-NEWER = "moo: the sources are newer than the release; this is the release\n"
-OLDER = "moo: the sources are newer than the program that was built here; this is that program\n"
+NEWER = "moo: the sources are newer than the release; this is the release (./moo build builds the newer program)\n"
+OLDER = "moo: the sources are newer than the program that was built here; this is that program (./moo build builds the newer one)\n"
 BUILDS = "moo: proving and building 1 crates, once ..\n"
 NOTHING = ("moo: there is no program: release/moo cannot run here, and nothing was built here"
            " (building needs the command rt of the Rattle kit)\n")
@@ -107,40 +107,37 @@ def times_of_files_are_not_looked_at(folder):
     yield folder.run("expr"), 0, NEWER + "released expr\n"
 
 
-def without_a_kit_the_release_of_older_sources_is_run(folder):
+def the_release_of_older_sources_is_run(folder):
     folder.release()
     folder.change()
     yield folder.run("expr"), 0, NEWER + "released expr\n"
+    yield folder.run("expr", has_kit=True), 0, NEWER + "released expr\n"
 
 
-def changed_sources_are_built_once(folder):
+def changed_sources_are_built_when_that_is_asked_for(folder):
     folder.release()
     folder.build()
     folder.change()
-    yield folder.run("expr", has_kit=True), 0, BUILDS + "new expr\n"
+    yield folder.run("expr", has_kit=True), 0, NEWER + "released expr\n"
+    yield folder.run("build", has_kit=True), 0, BUILDS
     yield folder.run("expr", has_kit=True), 0, "new expr\n"
     yield folder.run("build", has_kit=True), 0, "moo: crates/moo/out/moo was built from these sources\n"
 
 
-def a_word_in_the_environment_asks_for_the_release(folder):
-    folder.release()
-    folder.change()
-    yield folder.run("expr", has_kit=True, MOO_RELEASE="1"), 0, NEWER + "released expr\n"
-
-
-def a_word_forbids_a_build(folder):
+def without_a_release_an_older_program_is_run(folder):
     folder.build()
     folder.change()
-    yield folder.run("--no-build", "expr", has_kit=True), 0, OLDER + "built expr\n"
-    folder.write("crates/moo/src/main.rt", "fn main() {}\n")
-    folder.release()
-    folder.change()
-    yield folder.run("--no-build", "expr", has_kit=True), 0, NEWER + "released expr\n"
+    yield folder.run("expr", has_kit=True), 0, OLDER + "built expr\n"
+
+
+def without_a_program_one_is_built(folder):
+    yield folder.run("--no-build", "expr", has_kit=True), 2, NOTHING
+    yield folder.run("expr", has_kit=True), 0, BUILDS + "new expr\n"
+    yield folder.run("expr", has_kit=True), 0, "new expr\n"
 
 
 def there_is_no_program(folder):
     yield folder.run("expr"), 2, NOTHING
-    yield folder.run("--no-build", "expr", has_kit=True), 2, NOTHING
     yield folder.run("build"), 2, "moo: the command rt of the Rattle kit is not on the path\n"
 
 
@@ -162,7 +159,7 @@ def a_build_that_fails_ends_with_status_2(folder):
     folder.release()
     folder.change()
     folder.set_kit("echo it fails; exit 1")
-    yield folder.run("expr", has_kit=True), 2, BUILDS + "it fails\n"
+    yield folder.run("build", has_kit=True), 2, BUILDS + "it fails\n"
 
 
 def each_file_counts_but_those_of_out(folder):
@@ -384,10 +381,10 @@ CASES = [
     the_release_is_run,
     what_was_built_here_is_run_before_the_release,
     times_of_files_are_not_looked_at,
-    without_a_kit_the_release_of_older_sources_is_run,
-    changed_sources_are_built_once,
-    a_word_in_the_environment_asks_for_the_release,
-    a_word_forbids_a_build,
+    the_release_of_older_sources_is_run,
+    changed_sources_are_built_when_that_is_asked_for,
+    without_a_release_an_older_program_is_run,
+    without_a_program_one_is_built,
     there_is_no_program,
     a_damaged_release_is_not_run,
     a_program_that_others_put_there_is_not_run,

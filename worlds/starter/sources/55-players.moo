@@ -419,11 +419,7 @@ elseif (!player:may_speak())
 endif
 // the words have lost their quotes and backslashes, the line has not
 i = index(argstr, " as ");
-text = i ? $string:trim(argstr[i + 4..$]) | p[2];
-n = length(text);
-if (n > 1 && text[1] == "\"" && index(text[2..n], "\"") == n - 1)
-  text = text[2..n - 1];
-endif
+text = i ? $string:unquoted($string:trim(argstr[i + 4..$])) | p[2];
 try
   o.description = text;
   player:tell(o == player ? "You are" | o.name + " is", " described.");

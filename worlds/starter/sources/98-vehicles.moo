@@ -37,7 +37,7 @@ elseif (!$isa(here, $room))
   player:tell("It is nowhere.");
   return;
 endif
-e = $match:among(argstr, here.exits);
+e = $match:among($string:unquoted(argstr), here.exits);
 if (!valid(e))
   player:tell(argstr ? (e == #-2 ? "There is more than one exit that begins so." | "There is no exit " + $string:quoted(argstr) + " there.") | "Drive where?");
   player:tell_lines($string:flow("Ways:", $string:names(here.exits)));

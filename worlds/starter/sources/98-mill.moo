@@ -96,7 +96,7 @@ if (this.open && !this:in_use())
   $meadow:announce("Over at the mill something wooden falls shut.");
 endif
 .
-;#0.at_checkpoint = {$mill};
+;#0.at_checkpoint = {$keeper, $mill};
 
 // Announces in all five rooms that the stones have begun to grind.
 @program $mill:begin this none this rxd

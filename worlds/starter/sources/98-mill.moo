@@ -110,7 +110,22 @@ endfor
 .
 
 @program $mill_sluice:"turn open crank" this none none rd
-if (player.location != $mill)
+this:lift();
+.
+@program $mill_sluice:"turn open crank" this with any rd
+iobj == $mill_crank ? this:lift() | player:tell("The hole in the frame is square. It takes a crank.");
+.
+@program $mill_sluice:"put insert" any in this rd
+dobj == $mill_crank ? this:lift() | player:tell("The hole in the frame is square. It takes a crank.");
+.
+@program $mill_crank:"turn use" this none none rd
+player.location == $mill ? $mill_sluice:lift() | player:tell("There is nothing here that it fits.");
+.
+
+@program $mill_sluice:lift this none this rxd
+if (!(caller in {this, $mill_crank}))
+  raise(E_PERM);
+elseif (player.location != $mill)
   player:tell("It isn't within reach.");
 elseif ($mill_crank.location != player)
   player:tell("The hole in the frame is square. You would need a crank.");
@@ -132,7 +147,16 @@ this.(verb[5..$]) = 1;
 .
 
 @program $mill_axle:"oil grease" this none none rd
-if (player.location != $mill_wheel)
+this:be_oiled();
+.
+@program $mill_axle:"oil grease" this with any rd
+iobj == $mill_can ? this:be_oiled() | player:tell("It needs oil.");
+.
+
+@program $mill_axle:be_oiled this none this rxd
+if (caller != this)
+  raise(E_PERM);
+elseif (player.location != $mill_wheel)
   player:tell("It isn't within reach.");
 elseif ($mill_can.location != player)
   player:tell("With what?");

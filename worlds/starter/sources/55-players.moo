@@ -231,7 +231,7 @@ if ($match:found(o, text, player))
 endif
 .
 
-@program $player:"i*nventory" none none none rd
+@program $player:"i inv*entory" none none none rd
 names = $string:names(player.contents);
 player:tell_lines(names ? $string:flow("You carry:", names) | {"You carry nothing."});
 .
@@ -437,9 +437,9 @@ if (player != this)
   return;
 endif
 set_task_perms(player);
-if (argstr in {"she", "he", "it", "they"})
-  player.gender = argstr;
-  player:tell("You are spoken of as \"", argstr, "\".");
+if (i = argstr in {"she", "he", "it", "they", "female", "male", "neuter", "plural"})
+  player.gender = {"she", "he", "it", "they"}[(i - 1) % 4 + 1];
+  player:tell("You are spoken of as \"", player.gender, "\".");
 else
   player:tell("Type  @gender she,  he,  it  or  they. You are \"", player.gender, "\".");
 endif
@@ -494,7 +494,7 @@ endif
 .
 
 // The exits of the room, and where they lead. No verb of an exit is called: one could use up the ticks.
-@program $player:"@ways ways" none none none rd
+@program $player:"@ways ways exits" none none none rd
 here = player.location;
 lines = {};
 for e in ($isa(here, $room) ? here.exits[1..min(40, length(here.exits))] | {})

@@ -40,7 +40,8 @@ endif
 e = $match:among($string:unquoted(argstr), here.exits);
 if (!valid(e))
   player:tell(argstr ? (e == #-2 ? "There is more than one exit that begins so." | "There is no exit " + $string:quoted(argstr) + " there.") | "Drive where?");
-  player:tell_lines($string:flow("Ways:", $string:names(here.exits)));
+  ways = $string:names(here.exits);
+  player:tell_lines(ways ? $string:flow("Ways:", ways) | {"There are no exits there."});
 elseif (!$isa(e, $exit) || !$isa(e.dest, $room) || !e:unlocked_for(player) || !(`e.dest:accept(player) ! ANY => 0'))
   player:tell("You can't drive there.");
 elseif (e:move(this))
@@ -63,8 +64,9 @@ else
 endif
 .
 
+// Most vehicles have no exits of their own, and `leave` is the way out.
 @program $vehicle:tell_exits this none this rxd
-return;
+return this.exits ? pass(@args) | 0;
 .
 
 @program $vehicle:accept this none this rxd

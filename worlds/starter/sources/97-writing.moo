@@ -491,7 +491,7 @@ else
 endif
 .
 
-// @mail lists the letters, @mail N reads one, @mail new the next one that isn't read; @rmmail N; @answer N TEXT
+// @mail lists the letters, @mail N reads one, @mail new the next one that isn't read; @rmmail N, @rmmail N-M; @answer N TEXT
 @program $builder:"@mail @rmmail @answer" any any any rd wiz
 if (player != this)
   return $builder:refuse(verb);
@@ -515,8 +515,19 @@ elseif (verb == "@mail" && !args)
   player:tell(all ? "@mail N reads one, @answer N TEXT answers, @rmmail N throws it away; * isn't read." | "You have no letters.");
   return;
 endif
+gone = {};
+n = verb == "@rmmail" && args ? length(all) | n;
+for w in (verb == "@rmmail" ? args[1..min(30, length(args))] | {})
+  dash = index(w, "-");
+  from = toint(dash ? w[1..dash - 1] | w);
+  to = dash ? toint(w[dash + 1..$]) | from;
+  n = from > to || to > length(all) ? 0 | min(n, from);
+  for i in [from..n ? to | from - 1]
+    gone = setadd(gone, i);
+  endfor
+endfor
 if (n < 1 || n > length(all))
-  player:tell(all ? tostr("You have the letters 1 to ", length(all), ". For example: ", verb, " 1") | "You have no letters.");
+  player:tell(all ? tostr("You have ", length(all) == 1 ? "one letter" | tostr("the letters 1 to ", length(all)), ". For example: ", verb, " 1") | "You have no letters.");
 elseif (verb == "@mail")
   {from, name, when, lines, seen} = all[n];
   player:tell("Letter ", n, ", from ", name, ", ", $time:text(when), ":");
@@ -527,8 +538,12 @@ elseif (verb == "@mail")
   player:tell_lines(shown);
   this.letters[n][5] = 1;
 elseif (verb == "@rmmail")
-  this.letters = listdelete(all, n);
-  player:tell("The letter from ", all[n][2], " is thrown away.");
+  left = {};
+  for i in [1..length(all)]
+    left = i in gone ? left | {@left, all[i]};
+  endfor
+  this.letters = left;
+  player:tell(length(gone) == 1 ? tostr("The letter from ", all[n][2], " is") | tostr(length(gone), " letters are"), " thrown away.");
 else
   o = all[n][1];
   i = index(argstr, " ");

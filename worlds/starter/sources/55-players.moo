@@ -211,10 +211,19 @@ elseif (prepstr in {"in", "inside", "into"} && !dobjstr)
     o:look_inside(player);
   endif
   return;
-elseif (prepstr in {"in", "on", "from"} && dobjstr && valid(iobj))
+elseif (prepstr in {"in", "on", "from"} && dobjstr)
   text = dobjstr;
-  o = (`iobj.opened ! ANY => 0') || iobj == player || iobj == here ? $match:among(text, iobj.contents) | #-3;
-  seen = 0;
+  open = (`iobj.opened ! ANY => 0') || iobj in {player, here};
+  o = open && valid(iobj) ? $match:among(text, iobj.contents) | #-3;
+  // a thing may be called `man in black`
+  o = o == #-3 ? $match:object(argstr, player) | o;
+  if (o == #-3 && !$match:found(iobj, iobjstr, player))
+    return;
+  elseif (o == #-3)
+    name = $string:the(iobj.name);
+    player:tell(open || !$isa(iobj, $container) ? tostr("There is no ", $string:quoted(text), " ", prepstr, " ", name) | $string:capital(name) + " is closed", ".");
+    return;
+  endif
 else
   text = prepstr ? argstr | dobjstr;
   o = dobj;
@@ -338,7 +347,7 @@ elseif (verb == "@ungag")
   this.gags = setremove(this.gags, o);
   o.gagged_by = setremove(o.gagged_by, this);
 elseif (o == player)
-  player:tell("Not yourself.");
+  player:tell("You can't gag yourself.");
 elseif (length(this.gags) >= 50)
   player:tell("You gag fifty already. @ungag somebody first.");
 else
@@ -555,7 +564,7 @@ first = player == #3 && $login.first_password;
 if (length(args) != (first ? 1 | 2))
   player:tell(first ? "Type  @password NEW." | "Type  @password OLD NEW.");
 elseif (!first && !equal(player.password, args[1]))
-  player:tell("Your old password is another one.");
+  player:tell("That isn't your old password.");
 elseif (fault = $login:password_fault(args[length(args)]))
   player:tell(fault);
 else

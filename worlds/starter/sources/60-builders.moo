@@ -397,7 +397,9 @@ if (!i)
 endif
 p = $match:part($string:trim(argstr[1..i - 1]), ".", player);
 if (!p)
-  player:tell("For example: @set whistle.fixed to 1   or: @set north.leave_msg to climbs the stairs.");
+  if (p == {})
+    player:tell("For example: @set whistle.fixed to 1   or: @set north.leave_msg to climbs the stairs.");
+  endif
   return;
 elseif (p[2] in {"name", "aliases"} && $controls(player, p[1]))
   // @rename looks at names: everybody has to be able to read and to type them
@@ -414,12 +416,13 @@ elseif (length(text) > 1 && text[1] == "\"" && text[length(text)] == "\"")
 else
   value = text;
 endif
-// what the core's kinds have as a number or an object stays one: their verbs reckon with it
+// what the core's kinds have as a number, an object or a text stays one: their verbs reckon with it
 k = parent(p[1]);
 while (valid(k) && !(p[2] in (`properties(k) ! E_PERM => {}')))
   k = parent(k);
 endwhile
 kind = valid(k) && k <= $login.core_end ? typeof(`k.(p[2]) ! ANY => ""') | typeof(value);
+value = kind == STR && typeof(value) != STR ? text | value;
 if (kind in {INT, OBJ} && typeof(value) != kind && $controls(player, p[1]))
   player:tell(p[1].name, ".", p[2], kind == INT ? " has to be a number." | " has to be an object, as #12.");
   return;
@@ -539,7 +542,7 @@ elseif (!$match:found(dobj, dobjstr, player))
 elseif (dobj.location != here || dobj == player)
   player:tell("Eject whom, or what?");
 elseif (dobj.wizard)
-  player:tell("Not a wizard.");
+  player:tell("Wizards can't be sent away.");
 else
   name = dobj.name;
   // to no place whose verbs could keep it here

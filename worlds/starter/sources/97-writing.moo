@@ -219,7 +219,9 @@ elseif (index(argstr, ":"))
   endif
   p = $match:part(argstr, ":", player);
   at = p ? this:verb_of(@p) | {};
-  if (!at)
+  if (p == 0)
+    return;
+  elseif (!at)
     player:tell("There is no such verb. To make one: @verb ", argstr, " this none none");
     return;
   endif
@@ -235,7 +237,12 @@ elseif (index(argstr, ":"))
 else
   p = index(argstr, ".") ? $match:part(argstr, ".", player) | {};
   o = p ? p[1] | $match:object(argstr, player);
-  if (!p && (index(argstr, ".") || !$match:found(o, argstr, player)))
+  if (!p && index(argstr, "."))
+    if (p == {})
+      player:tell("For example: @edit whistle   or: @edit whistle.description");
+    endif
+    return;
+  elseif (!p && !$match:found(o, argstr, player))
     return;
   endif
   name = p ? p[2] | ($isa(o, $note) ? "text" | "description");
@@ -389,7 +396,7 @@ if (!i)
 elseif (fault)
   return fault;
 elseif (!(who in this.lists[i][3]))
-  return "Only who gets its letters writes to a list: @subscribe " + name;
+  return "Only its readers write to a list: @subscribe " + name;
 elseif (!who:may_speak())
   return "It isn't sent.";
 endif

@@ -319,6 +319,9 @@ else
   return;
 endif
 o = name == "me" ? player | $match:among(name, people);
+if (o == #-3 && (found = $match:player(name)) in people)
+  o = found;
+endif
 if (o == #-3 && valid(here) && $match:player(name) == #-3 && $match:among(name, {@player.contents, @here.contents}) != #-3)
   player:tell("You can whisper only to players.");
 elseif ($match:found(o, name, player) && player:may_speak(o, "whispers"))

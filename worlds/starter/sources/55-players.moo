@@ -602,14 +602,20 @@ endif
 lines = {};
 k = o;
 while (valid(k) && k != #1 && !(k in {$player, $builder, $prog, $wiz, $guest, $room}) && length(lines) < 40)
-  for i in [1..min(100, length(`verbs(k) ! E_PERM => {}'))]
+  // what stays where it is isn't taken, dropped or given
+  most = k == $thing && `o.fixed ! ANY => 0' && !$controls(player, o) ? 0 | 100;
+  for i in [1..min(most, length(`verbs(k) ! E_PERM => {}'))]
     a = `verb_args(k, i) ! E_PERM => {}';
     if (a && "this" in {a[1], a[3]} && a != {"this", "none", "this"})
       w = verb_info(k, i)[3];
       w = strsub({@$string:explode(w[1..min(80, length(w))]), "?"}[1], "*", "");
       d = a[1] == "this" ? " " + o.name | (a[1] == "any" ? " ANYTHING" | "");
       d2 = a[3] == "this" ? " " + o.name | (a[3] == "any" ? " ANYTHING" | "");
-      q = a[2] in {"none", "any"} ? "" | " " + $string:explode(a[2], "/")[a[2] in {"at/to", "on top of/on/onto/upon"} ? 2 | 1];
+      forms = $string:explode(a[2], "/");
+      for p in ({"to", "on", "from"})
+        forms = p in forms ? {p} | forms;
+      endfor
+      q = a[2] in {"none", "any"} ? "" | " " + forms[1];
       lines = {@lines, tostr("  ", w, d, q, d2)};
     endif
   endfor

@@ -526,7 +526,7 @@ except e (ANY)
 endtry
 .
 
-// @eject NAME: out of a room of one's own
+// @eject NAME: out of a room of one's own; @eject EXIT: an exit that somebody else made there
 @program $builder:@eject any any any rd wiz
 if (player != this)
   return $builder:refuse(verb);
@@ -537,6 +537,14 @@ endif
 here = player.location;
 if (!valid(here) || !$controls(player, here))
   player:tell("This place isn't yours.");
+elseif (dobj == #-3 && $isa(here, $room) && valid(e = $match:among($string:unquoted(argstr), here.exits)))
+  // it is its owner's still, who can recycle it
+  if (e.owner == player)
+    player:tell("That exit is yours: @recycle ", argstr);
+  else
+    here.exits = setremove(here.exits, e);
+    player:tell("The exit ", e.name, " is gone from here.");
+  endif
 elseif (!$match:found(dobj, dobjstr, player))
   return;
 elseif (dobj.location != here || dobj == player)

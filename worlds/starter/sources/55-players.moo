@@ -67,6 +67,7 @@ endif
 if (player != this)
   return;
 endif
+argstr = $string:trim(argstr);
 n = toint(argstr);
 if (argstr && (tostr(n) != argstr || n < 0 || n > 8000 || (n && n < (verb == "@linelength" ? 20 | 5))))
   player:tell("For example: @linelength 60   or: @pagelength 20   (0: not at all)");
@@ -281,7 +282,10 @@ elseif (!i)
 endif
 text = $string:trim(argstr[i..$]);
 o = $match:player(args[1]);
-if (!$match:found_player(o, args[1], player) || !player:may_speak(o, "pages"))
+if (!text)
+  player:tell("Page whom, and what? For example: page ", player.name, " hello");
+  return;
+elseif (!$match:found_player(o, args[1], player) || !player:may_speak(o, "pages"))
   return;
 elseif ((idle = `idle_seconds(o) ! E_INVARG => -1') < 0)
   player:tell(o.name, " isn't connected.", $isa(player, $builder) && $isa(o, $builder) ? tostr(" To leave a letter:  @send ", o.name, " ", text[1..min(30, length(text))], length(text) > 30 ? ".." | "") | "");
@@ -366,7 +370,7 @@ if (player != this)
   return;
 endif
 p = $string:split(args, "from");
-word = p ? p[1] | argstr;
+word = p ? p[1] | $string:trim(argstr);
 kind = "";
 for k in ({"pages", "whispers", "letters", "things", "visits"})
   if (word && index(k, word) == 1)
@@ -449,7 +453,7 @@ if (player != this)
   return;
 endif
 set_task_perms(player);
-if (i = argstr in {"she", "he", "it", "they", "female", "male", "neuter", "plural"})
+if (i = $string:trim(argstr) in {"she", "he", "it", "they", "female", "male", "neuter", "plural"})
   player.gender = {"she", "he", "it", "they"}[(i - 1) % 4 + 1];
   player:tell("You are spoken of as \"", player.gender, "\".");
 else

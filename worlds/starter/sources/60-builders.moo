@@ -326,7 +326,7 @@ if (player != this)
   return $builder:refuse(verb);
 endif
 room = $match:object(argstr, player);
-room = room == #-3 && argstr == "home" ? player.home | room;
+room = room == #-3 && $string:trim(argstr) == "home" ? player.home | room;
 if (!$match:found(room, argstr, player))
   player:tell("@go #N takes you to a room of yours; @audit has the numbers.");
   return;

@@ -274,7 +274,7 @@ endif
 @program $builder:@local any any any rd wiz
 if (player != this)
   return $builder:refuse(verb);
-elseif (argstr in {"on", "off"})
+elseif ((argstr = $string:trim(argstr)) in {"on", "off"})
   this.local_editing = argstr == "on";
 endif
 player:tell("@edit ", this.local_editing ? "sends the text to your client, which has to know #$# edit." | "opens the editor of this world.", " (@local on, @local off)");
@@ -423,7 +423,8 @@ elseif (verb == "@lists")
   player:tell($post.lists ? "@subscribe NAME, @send *NAME TEXT; @newlist NAME; * is yours." | "There are no lists. To make one: @newlist NAME");
   return;
 endif
-name = argstr && argstr[1] == "*" ? argstr[2..$] | argstr;
+name = $string:unquoted(argstr);
+name = name && name[1] == "*" ? name[2..$] | name;
 i = $post:list(name);
 if (verb == "@newlist")
   mine = 0;

@@ -64,6 +64,11 @@ else
 endif
 .
 
+@program $vehicle:look_inside this none this rxd
+{who} = args;
+this.contents ? pass(who) | who:tell("It is empty.");
+.
+
 // Most vehicles have no exits of their own, and `leave` is the way out.
 @program $vehicle:tell_exits this none this rxd
 return this.exits ? pass(@args) | 0;

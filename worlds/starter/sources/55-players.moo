@@ -193,7 +193,7 @@ endif
 
 @program $player:"l*ook" any any any rd
 here = player.location;
-if (!argstr || argstr == "here")
+if (!argstr || argstr in {"here", "around"})
   if (!valid(here))
     player:tell("You are nowhere. Type home.");
     return;

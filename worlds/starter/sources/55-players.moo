@@ -428,7 +428,7 @@ o = $match:object(p[1], player);
 if (!$match:found(o, p[1], player))
   return;
 elseif (!$controls(player, o))
-  player:tell(o.name, " isn't yours.");
+  player:tell($string:subject(o.name), " isn't yours.");
   return;
 elseif (!player:may_speak())
   return;
@@ -438,7 +438,7 @@ i = index(argstr, " as ");
 text = i ? $string:unquoted($string:trim(argstr[i + 4..$])) | p[2];
 try
   o.description = text;
-  player:tell(o == player ? "You are" | o.name + " is", " described.");
+  player:tell(o == player ? "You are" | $string:subject(o.name) + " is", " described.");
 except e (ANY)
   player:tell("That can't be done: ", e[2], ".");
   return;

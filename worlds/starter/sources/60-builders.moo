@@ -9,7 +9,7 @@ player:tell(hint ? hint | "I don't understand that. Type help.");
 // Why O wasn't changed, after the error E: whose it is, or what went wrong.
 @program $builder:why this none this rxd
 {e, o, ?word = "done"} = args;
-return e[1] == E_PERM && !$controls(player, o) ? o.name + " isn't yours." | tostr("That can't be ", word, ": ", e[2], ".");
+return e[1] == E_PERM && !$controls(player, o) ? $string:subject(o.name) + " isn't yours." | tostr("That can't be ", word, ": ", e[2], ".");
 .
 
 @program $builder:@rename any any any rd wiz
@@ -25,7 +25,7 @@ o = $match:object(p[1], player);
 if (!$match:found(o, p[1], player))
   return;
 elseif (!$controls(player, o))
-  player:tell(o.name, " isn't yours.");
+  player:tell($string:subject(o.name), " isn't yours.");
   return;
 elseif (!player:may_speak())
   return;
@@ -193,7 +193,7 @@ elseif (is_player(o))
   player:tell("Players aren't recycled.");
   return;
 elseif (!$controls(player, o))
-  player:tell(o.name, " isn't yours.");
+  player:tell($string:subject(o.name), " isn't yours.");
   return;
 elseif (o <= #3 || o == $login.start)
   player:tell("The world can't be without it.");
@@ -431,7 +431,7 @@ try
   p[1].(p[2]) = value;
   player:tell(p[1].name, ".", p[2], " is ", toliteral(value), " now.");
 except (E_PROPNF)
-  player:tell($string:capital($string:the(p[1].name)), " has no property ", $string:quoted(p[2]), ". What can be set: help building");
+  player:tell($string:subject(p[1].name), " has no property ", $string:quoted(p[2]), ". What can be set: help building");
 except e (ANY)
   player:tell(this:why(e, p[1]));
 endtry
@@ -449,18 +449,18 @@ set_task_perms(player);
 o = $match:object(dobjstr, player);
 key = $match:object(iobjstr, player);
 if ($match:found(o, dobjstr, player) && $match:found(key, iobjstr, player))
-  name = $string:capital($string:the(o.name));
+  name = $string:subject(o.name);
   if (is_player(o))
     player:tell("Players aren't locked.");
     return;
   elseif (!$controls(player, o))
-    player:tell(o.name, " isn't yours.");
+    player:tell($string:subject(o.name), " isn't yours.");
     return;
   elseif (o.f && o <= $login.core_end)
     player:tell(name, " is a kind: all things of it would be locked.");
     return;
   elseif ($isa(key, $room) || $isa(key, $exit))
-    player:tell($string:capital($string:the(key.name)), " is no key: nobody carries it.");
+    player:tell($string:subject(key.name), " is no key: nobody carries it.");
     return;
   endif
   try
@@ -487,12 +487,12 @@ if ($match:found(o, argstr, player))
     player:tell("Players aren't locked.");
     return;
   elseif (!$controls(player, o))
-    player:tell(o.name, " isn't yours.");
+    player:tell($string:subject(o.name), " isn't yours.");
     return;
   endif
   try
     o.key = #-1;
-    player:tell(o.name, " is unlocked.");
+    player:tell($string:subject(o.name), " is unlocked.");
   except e (ANY)
     player:tell("That can't be unlocked: ", e[2], ".");
   endtry
@@ -520,7 +520,7 @@ elseif (!player:may_speak())
 endif
 try
   move(o, to);
-  player:tell(o.name, " is in ", to.name, " now.");
+  player:tell($string:subject(o.name), " is in ", $string:the(to.name), " now.");
 except e (ANY)
   player:tell(this:why(e, o, "moved"));
 endtry
@@ -552,7 +552,7 @@ elseif (dobj.location != here || dobj == player)
 elseif (dobj.wizard)
   player:tell("Wizards can't be sent away.");
 else
-  name = dobj.name;
+  name = $string:subject(dobj.name);
   // to no place whose verbs could keep it here
   dest = is_player(dobj) ? $login.start | #-1;
   if (is_player(dobj) && $isa(home = `dobj.home ! ANY => #-1', $room) && home != here && $recycler:is_safe(home))

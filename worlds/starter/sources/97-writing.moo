@@ -257,7 +257,7 @@ else
   endfor
 endif
 if (typeof(lines) != LIST || (kind == "text" && !$controls(player, o)))
-  player:tell(typeof(lines) == LIST ? o.name + " isn't yours." | "That is no text that you may edit.");
+  player:tell(typeof(lines) == LIST ? $string:subject(o.name) + " isn't yours." | "That is no text that you may edit.");
 elseif (!player:may_speak())
   return;
 elseif (verb == "@write")

@@ -181,7 +181,7 @@ class Exit(Root):
             who.tell("That way leads nowhere any more.")
             return 0
         if not self.unlocked_for(who):
-            who.tell(self.locked_msg if self.locked_msg else "It is locked.")
+            who.tell(Exit.message(self.locked_msg, "It is locked."))
             return 0
         try:
             who.moveto(to, self, keeper)

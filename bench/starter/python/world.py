@@ -222,7 +222,8 @@ class Player(Root):
         if self.pagelength and len(lines) > self.pagelength:
             n = len(lines)
             self.rest = lines[self.pagelength:500]
-            lines = [*lines[:self.pagelength], f"({min(n, 500) - self.pagelength} more lines: type  @more)"]
+            left = min(n, 500) - self.pagelength
+            lines = [*lines[:self.pagelength], f"({left} more {'line' if left == 1 else 'lines'}: type  @more)"]
         for line in lines:
             line = str(line)
             line = " " + line if line.startswith("#$") else line

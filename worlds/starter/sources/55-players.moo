@@ -43,7 +43,7 @@ lines = args[1];
 if (this.pagelength && length(lines) > this.pagelength)
   n = length(lines);
   this.rest = lines[this.pagelength + 1..min(n, 500)];
-  lines = {@lines[1..this.pagelength], tostr("(", length(this.rest), " more lines: type  @more)")};
+  lines = {@lines[1..this.pagelength], tostr("(", length(this.rest), length(this.rest) == 1 ? " more line" | " more lines", ": type  @more)")};
 endif
 for l in (lines)
   l = tostr(l);

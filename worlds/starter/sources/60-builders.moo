@@ -80,6 +80,9 @@ if (is_player(o))
   $match:enter(o);
 endif
 player:tell(o == player ? "You are" | "It is", " called ", $string:join(names, ", "), " (", o, ") now.");
+if ($isa(o, $exit))
+  this:warn_of(names, `o.source ! ANY => #-1');
+endif
 .
 
 // @create PARENT named NAME,OTHER NAME
@@ -317,7 +320,27 @@ except x (ANY)
   raise(x[1], x[2]);
 endtry
 this:tell("You have made the exit ", names[1], " (", e, ") from ", from.name, " to ", to.name, ".");
+this:warn_of(names, from);
 return e;
+.
+
+// Warns who makes an exit in ROOM of those of its names that run a command when they are typed.
+@program $builder:warn_of this none this rxd
+{names, room} = args;
+for n in (names)
+  {word, @more} = $string:explode(n);
+  found = 0;
+  for k in ({this, room})
+    while (valid(k) && !found)
+      a = `verb_args(k, word) ! E_VERBNF, E_PERM => {"this", "none", "this"}';
+      found = !("this" in a) && (!more || a[1] == "any");
+      k = parent(k);
+    endwhile
+  endfor
+  if (found)
+    this:tell($string:quoted(word), " is a command: type  go ", n, "  to walk there.");
+  endif
+endfor
 .
 
 // @go ROOM: to a room of one's own, or home

@@ -235,11 +235,11 @@ endif
 set_task_perms(player);
 here = player.location;
 p = $string:split(args, "to");
-if (!argstr || (p && !(p[1] && p[2])) || (verb == "@link" && !p))
+to = p ? p[2] | $string:join(args);
+if (!to || (p && !p[1]) || (verb == "@link" && !p))
   player:tell("For example: @dig The Attic   or: @dig up,u|down,d to The Attic   or: @link up,u to #12");
   return;
 endif
-to = p ? p[2] | $string:join(args);
 room = #-3;
 if (verb == "@link" || to[1] == "#" || to[1] == "$")
   room = to == "here" ? here | $match:object(to, player);

@@ -1,16 +1,16 @@
 #!/usr/bin/env python3
-"""Every program of a database that is refused, a line each with its place.
+"""Prints every program of a database that is refused, a line each with its place.
 
     python3 refused.py [--moo COMMAND] DB [MENDED]
 
-`moo check` tells the first fault of a database. Where that is a program's, this asks it of the programs from there on, some
-hundred at a time in small databases of their own, empties those that are refused in a copy (their lines stay as empty ones,
-so that each line keeps its number), and asks it of the copy. It prints each refused program as `moo check` would tell it if
-it were the first, in order; then `N programs refused`, or the fault that ends the copy and is none of a program: nothing
-behind that is told. MENDED is given the text with the refused programs empty. DB is never written.
+`moo check` reports the first fault of a database. If that is a program's, this script asks it about the programs from there on,
+some hundred at a time, in small databases of their own. In a copy it empties those that are refused (their lines stay as empty
+ones, so that each line keeps its number), and asks it about the copy. It prints each refused program as `moo check` would if it
+were the first, in order. Then comes `N programs refused`, or a fault of the copy that is no program's: nothing after that is
+reported. MENDED gets the text with the refused programs empty. DB is never written.
 
-The exit status is 0 where nothing is refused, 1 where something is, 3 where DB can't be read, 4 where memory was wanting, and
-2 for words that ask for nothing or name no program.
+The exit status is 0 if nothing is refused, 1 if something is, 3 if DB can't be read, 4 if memory ran out, and 2 for a command
+line that asks for nothing or names no program.
 """
 
 import argparse

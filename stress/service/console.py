@@ -1,6 +1,6 @@
 #!/usr/bin/env python3
 """The console and signals: console.py MOO. Lines on standard input are the operator's own, without a password; the launcher's signals type
-`shutdown` and `checkpoint`, and a second signal kills. Whoever connects through the network gets no such rights."""
+`shutdown` and `checkpoint`, and a signal two seconds later kills. Whoever connects through the network gets no such rights."""
 import signal
 from service import *
 

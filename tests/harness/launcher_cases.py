@@ -61,6 +61,12 @@ class Folder:
         (self.kit / "rt").write_text(f"#!/bin/sh\n{commands}\n")
         (self.kit / "rt").chmod(stat.S_IRWXU)
 
+    def set_clock(self, text):
+        """Makes this program the command `date`."""
+        (self.tools / "date").unlink()
+        (self.tools / "date").write_text(text)
+        (self.tools / "date").chmod(stat.S_IRWXU)
+
     def sum(self):
         return subprocess.run([self.top / "release/sum"], stdout=subprocess.PIPE, text=True, check=True).stdout
 
@@ -235,6 +241,24 @@ exec sleep 20
 """
 
 
+# A program that keeps what is typed on the console. It sends its parent a signal in each of three seconds, once the one before was taken.
+STUBBORN = """#!/bin/sh
+cat < "$2.console" > "$2.typed" &
+for second in 100 101 102; do
+    echo "$second" > "$2.second"
+    kill -s TERM "$PPID"
+    until [ -s "$2.typed" ] && [ "$(tail -n 1 "$2.asked")" = "$second" ] || [ "$((tries += 1))" -gt 1000 ]; do sleep 0.01; done
+done
+exec sleep 20
+"""
+
+# A command `date` for that program: it prints the second, and keeps that it was asked.
+CLOCK = """#!/bin/sh
+cat a.db.second
+cat a.db.second >> a.db.asked
+"""
+
+
 def dead_process():
     """Returns the number of a process that has ended."""
     process = subprocess.Popen(["true"])
@@ -251,6 +275,16 @@ def open_console(folder):
 def a_signal_ends_half_a_line_first(folder):
     folder.release(READER)
     yield folder.run("serve", "a.db", "0", folder=folder.top), 0, "<who>\n<hello>\n<checkpoint>\n<>\n<shutdown>\n"
+
+
+def a_signal_of_the_same_moment_kills_nothing(folder):
+    """Some programs send a signal twice. One that comes two seconds later kills the server, which was asked once for a shutdown."""
+    folder.release(STUBBORN)
+    folder.write("a.db.asked", "")
+    folder.set_clock(CLOCK)
+    yield Result(folder.run("serve", "a.db", "0", folder=folder.top).status, b""), 128 + signal.SIGKILL, ""
+    yield Result(0, (folder.top / "a.db.typed").read_bytes()), 0, "\nshutdown\n"
+    yield Result(0, (folder.top / "a.db.asked").read_bytes()), 0, "100\n101\n102\n"
 
 
 def a_signal_types_nothing_for_another_server(folder):
@@ -394,6 +428,7 @@ CASES = [
     an_installed_program_needs_no_repository,
     a_server_has_limits_and_a_console,
     a_signal_ends_half_a_line_first,
+    a_signal_of_the_same_moment_kills_nothing,
     a_signal_types_nothing_for_another_server,
     a_pipe_that_was_left_is_used_again,
     options_may_come_before_the_database,

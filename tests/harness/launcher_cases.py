@@ -354,7 +354,7 @@ def a_world_that_everybody_can_read_is_warned_of(folder):
 
 def what_is_typed_for_a_console_without_a_server_is_refused(folder):
     folder.release()
-    yield (folder.run("console", "a.db"), 2, "moo: a.db.console is no pipe: the server of this database was not started by moo serve\n")
+    yield (folder.run("console", "a.db"), 2, "moo: a.db.console is no pipe: no server that moo serve began under this name runs\n")
 
 
 def a_console_of_a_server_that_was_killed_is_refused(folder):

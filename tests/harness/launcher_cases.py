@@ -341,6 +341,15 @@ def a_server_without_a_pipe_has_no_console(folder):
            f"released serve {world} 0 --rounds 3 --login-seconds 300 --most-unconnected 1000 --telnet --must-save --log-logins 10\n")
 
 
+def a_file_in_the_place_of_the_pipe_is_named(folder):
+    """A line that is written to the pipe while no server runs makes such a file."""
+    folder.release()
+    folder.write("a.db.console", "checkpoint\n")
+    yield (folder.run("serve", "a.db", "0", "--rounds", "3", folder=folder.top), 0,
+           "moo: there is no console, since a.db.console is no pipe of this user: a signal ends the server at once\n"
+           "released serve a.db 0 --rounds 3 --login-seconds 300 --most-unconnected 1000 --telnet --must-save --log-logins 10\n")
+
+
 def a_world_that_everybody_can_read_is_warned_of(folder):
     folder.release()
     folder.write("a.db", "")
@@ -434,6 +443,7 @@ CASES = [
     options_may_come_before_the_database,
     each_option_may_come_before_the_database,
     a_server_without_a_pipe_has_no_console,
+    a_file_in_the_place_of_the_pipe_is_named,
     a_world_that_everybody_can_read_is_warned_of,
     what_is_typed_for_a_console_without_a_server_is_refused,
     a_console_of_a_server_that_was_killed_is_refused,

@@ -213,8 +213,8 @@ def a_server_has_limits_and_a_console(folder):
     folder.release()
     world = folder.top / "a.db"
     limits = "--login-seconds 300 --most-unconnected 1000 --telnet --must-save --log-logins 10"
-    yield folder.run("serve", str(world), "0"), 0, f"released serve {world} 0 --rounds 18446744073709551615 {limits} --console\n"
-    yield folder.run("serve", str(world), "0", "--rounds", "3"), 0, f"released serve {world} 0 --rounds 3 {limits} --console\n"
+    yield folder.run("serve", str(world), "0"), 0, f"released serve --rounds 18446744073709551615 {limits} --console {world} 0\n"
+    yield folder.run("serve", str(world), "0", "--rounds", "3"), 0, f"released serve {limits} --console {world} 0 --rounds 3\n"
     given = ["--rounds", "3", "--login-seconds", "0", "--most-unconnected=5", "--telnet", "--must-save", "--log-logins=0", "--console"]
     yield folder.run("serve", str(world), "0", *given), 0, f"released serve {world} 0 {' '.join(given)}\n"
     yield Result(0, "".join(path.name for path in folder.top.glob("a.db*")).encode()), 0, ""
@@ -222,7 +222,7 @@ def a_server_has_limits_and_a_console(folder):
 
 # A program that says what it reads on the console, up to a shutdown. It says half a line there and then sends its parent signals.
 READER = """#!/bin/sh
-printf 'who\nhello' > "$2.console"
+printf 'who\nhello' > a.db.console
 kill -s USR1 "$PPID"
 while read -r line; do
     echo "<$line>"
@@ -243,11 +243,11 @@ exec sleep 20
 
 # A program that keeps what is typed on the console. It sends its parent a signal in each of three seconds, once the one before was taken.
 STUBBORN = """#!/bin/sh
-cat < "$2.console" > "$2.typed" &
+cat < a.db.console > a.db.typed &
 for second in 100 101 102; do
-    echo "$second" > "$2.second"
+    echo "$second" > a.db.second
     kill -s TERM "$PPID"
-    until [ -s "$2.typed" ] && [ "$(tail -n 1 "$2.asked")" = "$second" ] || [ "$((tries += 1))" -gt 1000 ]; do sleep 0.01; done
+    until [ -s a.db.typed ] && [ "$(tail -n 1 a.db.asked)" = "$second" ] || [ "$((tries += 1))" -gt 1000 ]; do sleep 0.01; done
 done
 exec sleep 20
 """
@@ -318,11 +318,18 @@ def options_may_come_before_the_database(folder):
     warned = "moo: everybody on this machine can read a.db, and the passwords in it: chmod o-r a.db\n"
     for given in (["--web", "24080"], ["--web=24080"], ["--web", "24080", "--must-save", "--host", "::1"], ["--telnet"]):
         added = [word for word in ("--telnet", "--must-save") if word not in given]
-        wanted = ["serve", *given, "a.db", "0", "--rounds", "18446744073709551615", "--login-seconds", "300", "--most-unconnected", "1000",
-                  *added, "--log-logins", "10", "--console"]
+        wanted = ["serve", "--rounds", "18446744073709551615", "--login-seconds", "300", "--most-unconnected", "1000", *added,
+                  "--log-logins", "10", "--console", *given, "a.db", "0"]
         yield folder.run("serve", *given, "a.db", "0", folder=folder.top), 0, f"{warned}{' '.join(wanted)}\n"
     yield folder.run("serve", "--web", "24080", folder=folder.top), 0, "no console\nserve --web 24080\n"
     yield folder.run("serve", "--must-save", "--web", folder=folder.top), 0, "no console\nserve --must-save --web\n"
+
+
+def what_follows_two_hyphens_is_no_option(folder):
+    folder.release('#!/bin/sh\n[ -p "$pipe" ] || echo "no console"\necho "$@"\n')
+    added = "--rounds 18446744073709551615 --login-seconds 300 --most-unconnected 1000 --telnet --must-save --log-logins 10 --console"
+    for name in "a.db", "-a.db", "--console":
+        yield folder.run("serve", "--", name, "0", folder=folder.top, pipe=f"./{name}.console"), 0, f"serve {added} -- {name} 0\n"
 
 
 def each_option_may_come_before_the_database(folder):
@@ -338,7 +345,7 @@ def a_server_without_a_pipe_has_no_console(folder):
     world = folder.top / "none" / "a.db"
     yield (folder.run("serve", str(world), "0", "--rounds", "3"), 0,
            f"moo: there is no console, since {world}.console cannot be made: a signal ends the server at once\n"
-           f"released serve {world} 0 --rounds 3 --login-seconds 300 --most-unconnected 1000 --telnet --must-save --log-logins 10\n")
+           f"released serve --login-seconds 300 --most-unconnected 1000 --telnet --must-save --log-logins 10 {world} 0 --rounds 3\n")
 
 
 def a_file_in_the_place_of_the_pipe_is_named(folder):
@@ -347,7 +354,7 @@ def a_file_in_the_place_of_the_pipe_is_named(folder):
     folder.write("a.db.console", "checkpoint\n")
     yield (folder.run("serve", "a.db", "0", "--rounds", "3", folder=folder.top), 0,
            "moo: there is no console, since a.db.console is no pipe of this user: a signal ends the server at once\n"
-           "released serve a.db 0 --rounds 3 --login-seconds 300 --most-unconnected 1000 --telnet --must-save --log-logins 10\n")
+           "released serve --login-seconds 300 --most-unconnected 1000 --telnet --must-save --log-logins 10 a.db 0 --rounds 3\n")
 
 
 def a_world_that_everybody_can_read_is_warned_of(folder):
@@ -380,7 +387,7 @@ def a_console_of_a_server_that_was_killed_is_refused(folder):
 def a_closed_standard_input_is_empty(folder):
     folder.release()
     yield (folder.run("-c", "exec ./moo serve a.db 0 --rounds 3 <&-", command=folder.tools / "sh", folder=folder.top), 0,
-           "released serve a.db 0 --rounds 3 --login-seconds 300 --most-unconnected 1000 --telnet --must-save --log-logins 10 --console\n")
+           "released serve --login-seconds 300 --most-unconnected 1000 --telnet --must-save --log-logins 10 --console a.db 0 --rounds 3\n")
     yield Result(0, "".join(path.name for path in folder.top.glob("a.db*")).encode()), 0, ""
 
 
@@ -441,6 +448,7 @@ CASES = [
     a_signal_types_nothing_for_another_server,
     a_pipe_that_was_left_is_used_again,
     options_may_come_before_the_database,
+    what_follows_two_hyphens_is_no_option,
     each_option_may_come_before_the_database,
     a_server_without_a_pipe_has_no_console,
     a_file_in_the_place_of_the_pipe_is_named,

@@ -54,6 +54,13 @@ for number in (signal.SIGINT, signal.SIGTERM):
     checks.check(f"{number.name}: the pipe is gone", not os.path.exists(server.path + ".console"))
 
 server = Launched()
+has_work(server, "SENT TWICE")
+server.process.send_signal(signal.SIGTERM)
+time.sleep(0.1)
+server.process.send_signal(signal.SIGTERM)
+checks.check("a second signal at once kills nothing", server.status() == 0 and b"SENT TWICE" in server.text(), server.log())
+
+server = Launched()
 for count, number in enumerate((signal.SIGHUP, signal.SIGUSR1, signal.SIGUSR2), 1):
     server.process.send_signal(number)
     checks.check(f"{number.name}: a checkpoint", server.waits_for("checkpoint done", count), server.log())

@@ -34,6 +34,7 @@ ROWS = [
     (["check", "--all", "world.db"], None, "/dev/full", "", [f"standard output: {FULL}"], 3),
     (["script", "world.db"], b"open 0\nline 0 3\n", "/dev/full", "", [f"standard output: {FULL}"], 3),
     (["script", "world.db"], "folder.db", None, DEVICE, [f"standard input: {FOLDER}"], 3),
+    (["script", "world.db"], "closed", None, DEVICE, [f"standard input: {CLOSED}"], 3),
     (["expr"], b"1\n", "/dev/full", "", [f"standard output: {FULL}"], 3),
     (["expr"], "folder.db", None, DEVICE, [f"standard input: {FOLDER}"], 3),
     (["expr"], "closed", None, DEVICE, [f"standard input: {CLOSED}"], 3),

@@ -1,9 +1,9 @@
 #!/usr/bin/env python3
-"""A full disk at a shutdown: full.py MOO. It needs root, for a small file system in memory.
+"""A full disk at a shutdown, and at a start: full.py MOO. It needs root, for a small file system in memory.
 
 The wizard's `@shutdown` is refused after three tries, and the world goes on. `@shutdown!` ends it. Without the option --must-save the status is
 then 0, and the log says what isn't saved. With it the status is 3, and the output's last line says why. The database stays as the last
-checkpoint that was done left it."""
+checkpoint that was done left it. A server that starts on a full disk has the lock, without its process number."""
 from service import *
 
 moo = program()
@@ -40,6 +40,18 @@ def shut_down(folder, *options):
     return status, last
 
 
+def start_two(folder):
+    """Starts two servers over one database of a file system that is full."""
+    path = os.path.join(folder, "world.db")
+    shutil.copy(STARTER, path)
+    fill(folder)
+    first, second = Server(moo, path=path), Server(moo, path=path)
+    checks.check("a server starts on a full disk", first.port is not None and "no lock" not in first.log(), first.log())
+    checks.check("a second one is refused", second.line == b"refused: Device\n" and second.status() == 3, second.log())
+    checks.check("the log has no process number", "another process serves this database" in second.log(), second.log())
+    first.kill()
+
+
 if not is_root():
     checks.skip("a full disk", "it needs root")
     checks.end()
@@ -51,6 +63,13 @@ for options, status, last in ([], 0, b""), (["--must-save"], 3, b"refused: Devic
     try:
         found = shut_down(folder, *options)
         checks.check(f"the status with {options} is {status}", found == (status, last), found)
+    finally:
+        subprocess.run(["umount", "-l", folder])
+
+folder = tempfile.mkdtemp(prefix="service-full-")
+if subprocess.run(["mount", "-t", "tmpfs", "-o", "size=2m", "tmpfs", folder]).returncode == 0:
+    try:
+        start_two(folder)
     finally:
         subprocess.run(["umount", "-l", folder])
 

@@ -13,6 +13,7 @@ use moo_cli_io::{Device, ExitReason, log_error, open};
 use moo_cli_script::run_script;
 use moo_server::MooApplication;
 use std::io::BufReader;
+use std::os::fd::AsFd;
 use std::process::ExitCode;
 use std::{env, io};
 
@@ -81,6 +82,7 @@ fn run_work(rt: &HostRuntime, work: Work) -> io::Result<u8> {
         Work::CheckAll(path) => Ok(run_check_all(alloc, &mut open(rt, path)?, &mut output)),
         Work::Copy(path) => Ok(run_copy(alloc, &mut open(rt, path)?, &mut output)),
         Work::Script(path) => {
+            find_input(rt)?;
             let mut file = open(rt, path)?;
             let mut input = BufReader::new(alloc, Device::new(rt, INPUT, rt.reader()))?;
             Ok(run_script::<MooApplication, _, _, _, _>(
@@ -92,5 +94,16 @@ fn run_work(rt: &HostRuntime, work: Work) -> io::Result<u8> {
             ))
         }
         Work::Serve(service) => serve(rt, service),
+    }
+}
+
+// Fails if standard input is closed. The database would get its descriptor, and be read as the script.
+fn find_input(rt: &HostRuntime) -> io::Result<()> {
+    match rt.stdin().as_fd().try_clone_to_owned() {
+        Ok(_) => Ok(()),
+        Err(error) => {
+            log_error(rt, INPUT, &error);
+            Err(error)
+        }
     }
 }

@@ -1,4 +1,5 @@
-//! The command `moo check --all`, over a reader and a writer. It reports every program of a database that is refused.
+//! The commands `moo check`, `moo check --all` and `moo copy`, over a reader and a writer. The first reports why a database is
+//! refused, the second every program of it that is, and the third writes a database that it has read.
 //! An internal crate of `moo`.
 #![tactic(auto)]
 

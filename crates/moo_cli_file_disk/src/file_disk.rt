@@ -53,6 +53,8 @@ pub struct FileDisk<R: Files> {
     kept: Option<R::File>,
     /// The spare, open for writing from `create_spare` to `rename`.
     writing: Option<R::File>,
+    /// Main, open from the first read to the one that reaches its end, so that all bytes are of one file.
+    reading: Option<R::File>,
     /// The number of bytes written to the spare since it was created.
     bytes: u64,
     last: Last,
@@ -106,6 +108,7 @@ impl<R: Files + Drop> FileDisk<R> {
             names,
             kept,
             writing: None,
+            reading: None,
             bytes: 0,
             last: Last::Went,
             failures: 0,
@@ -188,10 +191,21 @@ impl<R: Files> FileDisk<R> {
         Ok(file)
     }
 
-    fn read_from(&self, at: u64, buffer: &mut [u8]) -> io::Result<usize> {
-        let mut file = File::open(&self.files, self.main.as_str())?;
+    // Reads from the file that was main when the reading began. Another program may have put a file in its place since.
+    fn read_from(&mut self, at: u64, buffer: &mut [u8]) -> io::Result<usize>
+        ensures writing { self.new.writing ≡ self.old.writing }
+        ensures failures { self.new.failures ≡ self.old.failures }
+    {
+        let mut file = match self.reading.take() {
+            Some(file) => file,
+            None => File::open(&self.files, self.main.as_str())?,
+        };
         file.seek(SeekFrom::Start(at))?;
-        file.read(buffer)
+        let count = file.read(buffer)?;
+        if count > 0 {
+            self.reading = Some(file);
+        }
+        Ok(count)
     }
 
     // The sync of a folder makes the names in it stable. A folder opens for reading as a file does.
@@ -285,6 +299,7 @@ impl<R: Files> Disk for FileDisk<R> {
     fn rename(&mut self) -> Result<(), DiskFault> {
         let renamed = self.replace_main();
         self.writing = None;
+        self.reading = None;
         self.keep_descriptor();
         self.counted(Place::Spare, renamed)
     }

@@ -3,6 +3,7 @@ use std::alloc::Global;
 use std::fs::{File, OpenOptions, TryLockError};
 use std::io::{ErrorKind, Read, Write};
 use std::os::unix::fs::{MetadataExt, OpenOptionsExt};
+use std::path::Path;
 use std::rt::Files;
 use std::{fs, io};
 
@@ -31,8 +32,9 @@ pub enum LockFault {
 }
 
 impl Lock {
-    /// Takes the lock on the database at this path, and writes the number of this process to the lock's file. Resolves
-    /// symbolic links first, so that two paths of one database have one lock.
+    /// Takes the lock on the database at this path, and writes the number of this process to the lock's file. If the
+    /// number can't be written, as on a full disk, the lock holds without it. Resolves symbolic links first, so that two
+    /// paths of one database have one lock.
     pub fn take<R: Files<File = File>>(
         alloc: Global,
         files: &R,
@@ -51,10 +53,8 @@ impl Lock {
             Err(TryLockError::WouldBlock) => return Err(LockFault::Held(name, holder(&mut file))),
             Err(TryLockError::Error(error)) => return Err(LockFault::Failed(name, error)),
         }
-        match write_number(&mut file) {
-            Ok(()) => Ok(Lock { file }),
-            Err(error) => Err(LockFault::Failed(name, error)),
-        }
+        let _ = write_number(&mut file);
+        Ok(Lock { file })
     }
 }
 
@@ -69,6 +69,9 @@ fn lock_name<R: Files>(alloc: Global, files: &R, path: &str) -> io::Result<Strin
 
 // Opens a lock's file, or creates it. Refuses a symbolic link, since its file may be anybody's.
 fn open_lock<R: Files<File = File>>(files: &R, name: &str) -> io::Result<File> {
+    if Path::new(name).is_symlink(files) {
+        return is_link();
+    }
     let file = OpenOptions::new()
         .read(true)
         .write(true)
@@ -78,9 +81,14 @@ fn open_lock<R: Files<File = File>>(files: &R, name: &str) -> io::Result<File> {
     let opened = file.metadata()?;
     let named = fs::symlink_metadata(files, name)?;
     if opened.dev() != named.dev() || opened.ino() != named.ino() {
-        return Err(io::Error::new(ErrorKind::Other, "this file is a link"));
+        return is_link();
     }
     Ok(file)
+}
+
+// Returns the error of a lock's file that is a link.
+fn is_link<T>() -> io::Result<T> {
+    Err(io::Error::new(ErrorKind::Other, "this file is a link"))
 }
 
 // Returns the process number in a lock's file, if it has one.

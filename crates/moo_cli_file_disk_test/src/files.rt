@@ -68,6 +68,26 @@ fn a_spare_is_never_main(rt: HostRuntime) -> Result<(), Fail> {
     Ok(fs::remove_file(&rt, "linked.db")?)
 }
 
+// Reads two bytes of main.
+fn reads(disk: &mut FileDisk<HostRuntime>, at: u64, text: [u8; 2]) -> Result<(), Fail> {
+    let mut buffer = [0u8; 2];
+    let count = disk.read_main(at, &mut buffer)?;
+    holds(count == 2 && buffer == text, "another file is read")
+}
+
+#[test]
+fn all_bytes_are_of_the_file_that_was_main(rt: HostRuntime) -> Result<(), Fail> {
+    fs::write(&rt, "begun.db", "text")?;
+    fs::write(&rt, "later.db", "other")?;
+    let mut disk = opened(&rt, "begun.db")?;
+    reads(&mut disk, 0, *b"te")?;
+    fs::rename(&rt, "later.db", "begun.db")?;
+    reads(&mut disk, 2, *b"xt")?;
+    holds(disk.read_main(4, &mut [0u8; 2])? == 0, "there is no end")?;
+    reads(&mut disk, 0, *b"ot")?;
+    Ok(fs::remove_file(&rt, "begun.db")?)
+}
+
 #[test]
 fn a_link_stays_a_link(rt: HostRuntime) -> Result<(), Fail> {
     fs::write(&rt, "real.db", "text")?;

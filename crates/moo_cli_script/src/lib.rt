@@ -1,4 +1,5 @@
-//! The texts of a script of events: the lines of its input, and the printed form of the lines that are sent.
+//! The command `moo script`, over a reader and a writer: it reads events, gives them to a server, and prints what comes of
+//! them.
 //! An internal crate of `moo`.
 #![tactic(auto)]
 

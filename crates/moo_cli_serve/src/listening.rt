@@ -7,7 +7,7 @@ use log::{Log, info};
 use moo_cli_sockets::{Sockets, SocketsFault};
 use moo_cli_telnet::Telnet;
 use std::alloc::Global;
-use std::net::{IpAddr, Net};
+use std::net::{IpAddr, Ipv4Addr, Ipv6Addr, Net, SocketAddr};
 
 /// The port for browsers, and who may connect there.
 #[derive(Clone, Copy, Debug)]
@@ -18,8 +18,8 @@ pub struct Web<'a> {
     pub origins: &'a [&'a str],
 }
 
-/// Listens on a port of an address, and for browsers on another if they are served. Logs the address of the page. No connection has
-/// a socket yet. Fails if an address is not available, or if memory runs out.
+/// Listens on a port of an address, and for browsers on another if they are served. Logs the address of the page, which is this
+/// machine's own if the server listens on all. No connection has a socket yet. Fails if an address is not available, or if memory runs out.
 pub fn listen<R: Net + Log>(
     rt: &R,
     alloc: Global,
@@ -36,7 +36,17 @@ pub fn listen<R: Net + Log>(
     let Some(web) = web else {
         return Ok(sockets);
     };
-    let address = sockets.open_web(rt, host, web.port, web.origins)?;
+    let address = page_address(sockets.open_web(rt, host, web.port, web.origins)?);
     info!(rt; target: "moo::serve", "the page for browsers is http://{address}/");
     Ok(sockets)
+}
+
+// Returns where a browser of this machine finds the page of a listener at this address. `0.0.0.0` and `::` are names of no host.
+fn page_address(address: SocketAddr) -> SocketAddr {
+    let ip = match address.ip() {
+        IpAddr::V4(ip) if ip.is_unspecified() => IpAddr::V4(Ipv4Addr::LOCALHOST),
+        IpAddr::V6(ip) if ip.is_unspecified() => IpAddr::V6(Ipv6Addr::LOCALHOST),
+        ip => ip,
+    };
+    SocketAddr::from((ip, address.port()))
 }

@@ -1,5 +1,5 @@
-//! The output that waits to be taken from a server: the bytes for each connection, and the lines of the log. The
-//! output of an event waits once the event is kept (docs/reference/commands.md).
+//! The connections of a server, and the output that waits to be taken from it: the bytes for each connection, and the
+//! lines of the log. The output of an event waits once the event is kept (docs/reference/commands.md).
 //! An internal crate of `moo_session`.
 #![tactic(auto)]
 

@@ -1,6 +1,7 @@
 """A model of objects, properties, verbs and rights, as docs/reference/language.md says.
 
-Objects have no verbs that can be executed, and nobody has a quota. #3 is a wizard. The other objects are #4 and those after it."""
+The programs of all verbs are empty, so each verb that is called returns 0, and nobody has a quota. #3 is a wizard. The other objects are #4 and
+those after it."""
 
 from values import Obj, Raised, folded, is_true
 

@@ -20,7 +20,7 @@ use std::{env, io};
 /// The exit status of a command line that asks for nothing that the program does.
 const USAGE: u8 = 2;
 
-/// What the streams are called where they fail.
+/// The names of the streams in messages about their faults.
 const INPUT: &str = "standard input";
 
 const OUTPUT: &str = "standard output";

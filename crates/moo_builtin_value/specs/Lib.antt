@@ -1,4 +1,4 @@
--- The results of the functions on strings, and those from and to strings,.
+-- The results of the functions on strings, and those from and to strings.
 pub mod TextAnswers
 pub mod Numerals
 pub mod Spelling

@@ -53,7 +53,8 @@ pub struct FileDisk<R: Files> {
     kept: Option<R::File>,
     /// The spare, open for writing from `create_spare` to `rename`.
     writing: Option<R::File>,
-    /// Main, open from the first read to the one that reaches its end, so that all bytes are of one file.
+    /// Main, open from the first read to the one that reaches its end, so that all bytes are of one file. A fault and
+    /// a rename close it too.
     reading: Option<R::File>,
     /// The number of bytes written to the spare since it was created.
     bytes: u64,

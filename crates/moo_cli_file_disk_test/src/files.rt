@@ -9,7 +9,7 @@ fn opened(rt: &HostRuntime, path: &str) -> Result<FileDisk<HostRuntime>, Fail> {
     Ok(FileDisk::open(rt.alloc(), rt.clone()?, path)?)
 }
 
-// Fails with this message where something isn't so.
+// Fails with this message if something isn't so.
 fn holds(is_so: bool, message: &'static str) -> Result<(), Fail> {
     if is_so {
         return Ok(());
@@ -17,13 +17,13 @@ fn holds(is_so: bool, message: &'static str) -> Result<(), Fail> {
     Err(Fail::new(message))
 }
 
-// Fails where the file has another text.
+// Fails if the file has another text.
 fn has(rt: &HostRuntime, path: &str, text: &str) -> Result<(), Fail> {
     let found = fs::read_to_string(rt, path)?;
     holds(found.as_str() == text, "a file has another text")
 }
 
-// Fails where others than its owner may read or write the file.
+// Fails if others than its owner may read or write the file.
 fn is_private(rt: &HostRuntime, path: &str) -> Result<(), Fail> {
     let mode = fs::metadata(rt, path)?.permissions().mode();
     holds(mode & 0o777 == 0o600, "others may read a file")

@@ -78,12 +78,12 @@ module _ {S Application : Type 0} (l : Layer S Application Saved) where
 
   pub text_printed : (first now : ServerCore S) (c : ℕ) (old mid new : Option (List ℕ)) (bytes : List ℕ) → IsPrintedTo first now c → bytes ≡ (waiting_of l now).sent c
       → Appends old mid (printed_below c (waiting_of l first).sent) → Appends mid new (sent_lines c bytes) → Appends old new (printed_below (c + 1) (waiting_of l first).sent)
-  text_printed first now c old mid new bytes printed is before behind =
+  text_printed first now c old mid new bytes printed is before following =
       let next : suc c ≡ c + 1 = omega arith in
       let all : bytes ≡ (waiting_of l first).sent c = is ∙ printed.others c (omega arith) in
       subst (λ (n : ℕ). Appends old new (printed_below n (waiting_of l first).sent)) next
       (Appends-trans old mid new (printed_below c (waiting_of l first).sent) (sent_lines c ((waiting_of l first).sent c)) before
-      (subst (λ (bs : List ℕ). Appends mid new (sent_lines c bs)) all behind))
+      (subst (λ (bs : List ℕ). Appends mid new (sent_lines c bs)) all following))
 
   -- then the log is taken
   pub hands_out : (old new : Script S) (mid : ServerCore S) (h : Output) → IsPrintedTo old.server mid old.top → Hands l h mid new.server → (waiting_of l new.server).sent ≡ (waiting_of l mid).sent

@@ -22,7 +22,7 @@ grown first now after held part more line taken takes is =
     subst (λ (l : List ℕ). Consumes first after l) (sym (append_assoc held part more) ∙ ap (λ (l : List ℕ). l ++ more) (sym is)) (Consumes-trans first now after held (part ++ more) taken takes)
 
 no_end : (held part line : List ℕ) → All (λ b. b ≢ 10) held → All (λ b. b ≢ 10) part → line ≡ held ++ part → All (λ b. b ≢ 10) line
-no_end held part line before behind is = subst (λ (l : List ℕ). All (λ b. b ≢ 10) l) (sym is) (All-append (λ b. b ≢ 10) held part before behind)
+no_end held part line before following is = subst (λ (l : List ℕ). All (λ b. b ≢ 10) l) (sym is) (All-append (λ b. b ≢ 10) held part before following)
 
 -- with the LF after it
 pub takes_ended : (first now : Option (List ℕ)) (line : List ℕ) → Consumes first now (line ++ codes "\n") → All (λ b. b ≢ 10) line → TakesLine first now line

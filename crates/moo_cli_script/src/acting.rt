@@ -69,7 +69,7 @@ impl<S: StartApplication> Script<S> {
     fn top_behind(&self, event: &Event) -> u32
         requires { self.now.top ≤ 65536 }
         ensures most { result ≤ 65536 }
-        ensures behind { result ≡ top_behind (seen event.now) self.now.top }
+        ensures following { result ≡ top_behind (seen event.now) self.now.top }
     {
         match event {
             Event::Open(c) => self.top.max(u32::from(*c) + 1),

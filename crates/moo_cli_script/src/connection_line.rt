@@ -5,7 +5,7 @@ ghost use Rattle.moo_cli_script.specs.Kinds.{IsOfConnection};
 
 use crate::address::addressed;
 use crate::hex::bytes_of_hex;
-use crate::number::{behind, number_behind};
+use crate::number::{following, number_behind};
 use crate::script_line::ScriptLine;
 use std::alloc::{AllocError, Global};
 
@@ -48,7 +48,7 @@ fn connection_behind(line: &[u8], word: &[u8]) -> Option<u16>
 fn addressed_behind<'a>(line: &'a [u8], word: &[u8]) -> Option<(u16, &'a [u8])>
     ensures { MatchOption result ((rest : List ℕ) (c : ℕ) (text : List ℕ) → line.now ≡ word.now ++ rest → ¬ IsAddressed rest c text) (λ found. (rest : List ℕ) × (line.now ≡ word.now ++ rest) × IsAddressed rest found.0 found.1.now) }
 {
-    let Some(argument) = behind(line, word) else {
+    let Some(argument) = following(line, word) else {
         return None;
     };
     addressed(argument)

@@ -3,7 +3,7 @@ ghost use Rattle.std.specs.Prelude.{◌≡◌, ◌≤◌, ℕ, Bool, List, ◌++
 ghost use Rattle.moo_cli_script.specs.ScriptLines.{Step, failing, Argues, Asks, IsNumber, most_count, step};
 ghost use Rattle.moo_cli_script.specs.Kinds.{IsOfConnection};
 
-use crate::number::{behind, is_same, number, number_behind};
+use crate::number::{following, is_same, number, number_behind};
 use crate::script_line::ScriptLine;
 
 /// Parses a line that is no event of a connection. Returns `None` if it has no such form.
@@ -35,7 +35,7 @@ pub fn read_disk_line(line: &[u8]) -> Option<ScriptLine<'static>>
 fn failure(line: &[u8]) -> Option<(u64, bool)>
     ensures { MatchOption result ((k : ℕ) (effect : Bool) (rest : List ℕ) → line.now ≡ codes "fail " ++ rest → ¬ Argues (failing k effect) rest) (λ found. (rest : List ℕ) × (line.now ≡ codes "fail " ++ rest) × Argues (failing found.0 found.1) rest) }
 {
-    let Some(argument) = behind(line, b"fail ") else {
+    let Some(argument) = following(line, b"fail ") else {
         return None;
     };
     if let Some(call) = counted(argument) {

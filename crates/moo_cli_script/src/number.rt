@@ -49,14 +49,14 @@ fn appended(value: u64, digit: u8, most: u64) -> Option<u64>
 pub fn number_behind(line: &[u8], word: &[u8], most: u64) -> Option<u64>
     ensures { MatchOption result ((rest : List ℕ) (n : ℕ) → line.now ≡ word.now ++ rest → ¬ IsNumber most rest n) (λ n. (rest : List ℕ) × (line.now ≡ word.now ++ rest) × IsNumber most rest n) }
 {
-    let Some(rest) = behind(line, word) else {
+    let Some(rest) = following(line, word) else {
         return None;
     };
     number(rest, most)
 }
 
 /// Returns what follows a word at the start of the line.
-pub fn behind<'a>(line: &'a [u8], word: &[u8]) -> Option<&'a [u8]>
+pub fn following<'a>(line: &'a [u8], word: &[u8]) -> Option<&'a [u8]>
     ensures { MatchOption result ((rest : List ℕ) → ¬ (line.now ≡ word.now ++ rest)) (λ rest. line.now ≡ word.now ++ rest.now) }
 {
     if line.len() < word.len() {

@@ -24,9 +24,9 @@ pub fn print_sent<O: Write>(
     ensures counted { watch.new.reads ≡ watch.old.reads }
 {
     let mut rest = sent;
-    while let Some((line, behind)) = first_line(rest) {
+    while let Some((line, following)) = first_line(rest) {
         print_line(c, line, output, watch)?;
-        rest = behind;
+        rest = following;
     }
     Ok(())
 }

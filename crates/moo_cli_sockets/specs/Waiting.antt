@@ -12,7 +12,7 @@ front_of w = drop w.gone w.going.items
 
 -- the bytes that wait, in the order in which they are written
 abbrev pub bytes_of : Waiting → List ℕ
-bytes_of w = front_of w ++ w.behind.items
+bytes_of w = front_of w ++ w.following.items
 
 -- the bytes that wait for a socket
 abbrev pub waits_of : Socket → List ℕ

@@ -15,7 +15,7 @@ impl Waiting {
         Waiting {
             going: Vec::new(alloc),
             gone: 0,
-            behind: Vec::new(alloc),
+            following: Vec::new(alloc),
         }
     }
 
@@ -30,7 +30,7 @@ impl Waiting {
     pub fn count(&self) -> usize
         ensures { result ≡ length (bytes_of self.now) }
     {
-        (self.going.len() - self.gone).saturating_add(self.behind.len())
+        (self.going.len() - self.gone).saturating_add(self.following.len())
     }
 
     /// Appends output to what waits. Doesn't copy it if nothing is gathered. Fails only if memory runs out.
@@ -39,11 +39,11 @@ impl Waiting {
         ensures err { OnErr result (bytes_of self.new ≡ bytes_of self.old) }
         ensures front { (self.new.going ≡ self.old.going) × (self.new.gone ≡ self.old.gone) }
     {
-        if self.behind.is_empty() {
-            self.behind = output;
+        if self.following.is_empty() {
+            self.following = output;
             return Ok(());
         }
-        self.behind.extend_from_slice(&output)
+        self.following.extend_from_slice(&output)
     }
 
     /// If all of the front was written, makes the gathered bytes the new front.
@@ -54,7 +54,7 @@ impl Waiting {
         if self.gone == self.going.len() {
             self.gone = 0;
             self.going.clear();
-            mem::swap(&mut self.going, &mut self.behind);
+            mem::swap(&mut self.going, &mut self.following);
         }
     }
 

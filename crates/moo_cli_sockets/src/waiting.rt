@@ -8,6 +8,6 @@ pub struct Waiting {
     pub(crate) going: Vec<u8>,
     /// The number of bytes of `going` that were written.
     pub(crate) gone: usize,
-    pub(crate) behind: Vec<u8>,
+    pub(crate) following: Vec<u8>,
     ghost in_range: { gone ≤ vec_len going },
 }

@@ -168,18 +168,18 @@ listing_begins line from at is inside = record {
   stops = no_blank_at line (drop from line) at is;
 }
 
-pub word_listed : (line : List ℕ) (from at behind next : ℕ) (words : List (List ℕ)) (word : List ℕ) → IsListing line from at words → at < length line
-    → Word false (drop at line) word (drop behind line) → drop next line ≡ unindented (drop behind line) → next ≤ length line
+pub word_listed : (line : List ℕ) (from at following next : ℕ) (words : List (List ℕ)) (word : List ℕ) → IsListing line from at words → at < length line
+    → Word false (drop at line) word (drop following line) → drop next line ≡ unindented (drop following line) → next ≤ length line
     → IsListing line from next (words ++ word ∷ [])
-word_listed line from at behind next words word listing here read is inside =
+word_listed line from at following next words word listing here read is inside =
     let start : BeginsWord (drop at line) = rw (drop_more line at 0 here) (begins (listing.stops here)) in
     record {
       lists = λ ws h.
           rw (append_assoc words (word ∷ []) ws) (
-          listing.lists (word ∷ ws) (one_more start read (words_unindented (drop behind line) ws (subst (λ (ts : List ℕ). Words ts ws) is h)))
+          listing.lists (word ∷ ws) (one_more start read (words_unindented (drop following line) ws (subst (λ (ts : List ℕ). Words ts ws) is h)))
           );
       inside = inside;
-      stops = no_blank_at line (drop behind line) next is;
+      stops = no_blank_at line (drop following line) next is;
     }
 
 pub all_listed : (line : List ℕ) (from at : ℕ) (words : List (List ℕ)) → IsListing line from at words → length line ≤ at → Words (drop from line) words

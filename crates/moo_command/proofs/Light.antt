@@ -57,7 +57,7 @@ unindented_fits (b ∷ bs) =
     ]
 
 pub typed_is_light : (line verb rest : List ℕ) (args : List (List ℕ)) → IsTyped line verb rest args → list_weight (map (λ w. string w) args) ≤ length line + 2
-typed_is_light line verb rest args t = omega (arith, words_are_light t.behind args t.others, word_fits t.first, unindented_fits line)
+typed_is_light line verb rest args t = omega (arith, words_are_light t.following args t.others, word_fits t.first, unindented_fits line)
 
 -- the words of a string are light enough to be joined
 pub light_enough : (line : List ℕ) (args : List (List ℕ)) → IsString line → list_weight (map (λ w. string w) args) ≤ length line + 2 → list_weight (map (λ w. string w) args) ≤ weight_limit + 1

@@ -37,7 +37,7 @@ with_parts verb rest args x y z l m n = record { verb = verb; args = args; argst
 
 -- the command of words that are divided
 pub same_command : (w : World) (player : ℤ) (verb rest : List ℕ) (args : List (List ℕ)) (s : Division) (direct between indirect : List ℕ) (dobj prep iobj : ℤ)
-    → direct ≡ joined (take s.at args) → between ≡ joined (slice_range args s.at s.behind) → indirect ≡ joined (drop s.behind args)
+    → direct ≡ joined (take s.at args) → between ≡ joined (slice_range args s.at s.following) → indirect ≡ joined (drop s.following args)
     → dobj ≡ matched w player direct → prep ≡ number_or_none s.preposition → iobj ≡ matched w player indirect → Splits args (parts_of args s)
     → IsCommandOf w player verb rest args (
     record {
@@ -58,7 +58,7 @@ same_command w player verb rest args s direct between indirect dobj prep iobj d 
     same =
         ap (λ x. with_parts verb rest args x between indirect dobj prep iobj) d
         ∙ ap (λ x. with_parts verb rest args (joined (take s.at args)) x indirect dobj prep iobj) b
-        ∙ ap (λ x. with_parts verb rest args (joined (take s.at args)) (joined (slice_range args s.at s.behind)) x dobj prep iobj) i
-        ∙ ap (λ x. with_parts verb rest args (joined (take s.at args)) (joined (slice_range args s.at s.behind)) (joined (drop s.behind args)) x prep iobj) (o ∙ ap (matched w player) d)
-        ∙ ap (λ x. with_parts verb rest args (joined (take s.at args)) (joined (slice_range args s.at s.behind)) (joined (drop s.behind args)) (matched w player (joined (take s.at args))) x iobj) p
-        ∙ ap (with_parts verb rest args (joined (take s.at args)) (joined (slice_range args s.at s.behind)) (joined (drop s.behind args)) (matched w player (joined (take s.at args))) (number_or_none s.preposition)) (q ∙ ap (matched w player) i)
+        ∙ ap (λ x. with_parts verb rest args (joined (take s.at args)) (joined (slice_range args s.at s.following)) x dobj prep iobj) i
+        ∙ ap (λ x. with_parts verb rest args (joined (take s.at args)) (joined (slice_range args s.at s.following)) (joined (drop s.following args)) x prep iobj) (o ∙ ap (matched w player) d)
+        ∙ ap (λ x. with_parts verb rest args (joined (take s.at args)) (joined (slice_range args s.at s.following)) (joined (drop s.following args)) (matched w player (joined (take s.at args))) x iobj) p
+        ∙ ap (with_parts verb rest args (joined (take s.at args)) (joined (slice_range args s.at s.following)) (joined (drop s.following args)) (matched w player (joined (take s.at args))) (number_or_none s.preposition)) (q ∙ ap (matched w player) i)

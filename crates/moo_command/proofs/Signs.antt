@@ -80,7 +80,7 @@ typed_at_sign b bs verb rest args is kept others =
     let whole : verb ++ blank ∷ bs ≡ with_verb (b ∷ bs) = sym (ap (λ o. option_map_or (λ v. v ++ blank ∷ bs) o (b ∷ bs)) is) in
     subst (λ (line : List ℕ). IsTyped line verb rest args) whole (
     record {
-      behind = blank ∷ bs;
+      following = blank ∷ bs;
       begins = subst BeginsWord (sym (v.leads bs)) (v.starts bs);
       first = subst (λ (ts : List ℕ). Word false ts verb (blank ∷ bs)) (sym (v.leads bs)) (v.reads bs);
       kept = kept;
@@ -124,9 +124,9 @@ unsigned_typed line at verb rest args passed none t =
     let same : unindented line ≡ expanded line = sym (unsigned (unindented line) (sym (ap verb_leading passed) ∙ none)) in
     let twice : unindented line ≡ unindented (expanded line) = sym (unindented_twice line) ∙ ap unindented same in
     record {
-      behind = t.behind;
+      following = t.following;
       begins = subst BeginsWord twice t.begins;
-      first = subst (λ (ts : List ℕ). Word false ts verb t.behind) twice t.first;
+      first = subst (λ (ts : List ℕ). Word false ts verb t.following) twice t.first;
       kept = t.kept;
       others = t.others;
     }

@@ -51,22 +51,22 @@ is_preposition words i p n before is =
 
 -- the parts of a division at a preposition
 pub splits_at : (words : List (List ℕ)) (i : ℕ) (p : Preposition) (n : ℕ) (s : Division) → NoneBefore words i → form_among form_table (drop i words) ≡ Some (p, n)
-    → s.preposition ≡ Some p → s.at ≡ i → s.behind ≡ i + n → Splits words (parts_of words s)
-splits_at words i p n s before is preposition place behind =
+    → s.preposition ≡ Some p → s.at ≡ i → s.following ≡ i + n → Splits words (parts_of words s)
+splits_at words i p n s before is preposition place following =
     subst (Splits words) (same (form_found (drop i words) p n is).form (form_found (drop i words) p n is).long) (at (is_preposition words i p n before is))
   where
     same : (form : List (List ℕ)) → length form ≡ n → parts_at words i p form ≡ parts_of words s
     same form long =
         let cut : (i + n) - i ≡ n = omega arith in
-        rw (preposition, place, behind, cut, long) refl
+        rw (preposition, place, following, cut, long) refl
 
-pub splits_nowhere : (words : List (List ℕ)) (s : Division) → NoneBefore words (length words) → s.preposition ≡ None → s.at ≡ length words → s.behind ≡ length words
+pub splits_nowhere : (words : List (List ℕ)) (s : Division) → NoneBefore words (length words) → s.preposition ≡ None → s.at ≡ length words → s.following ≡ length words
     → Splits words (parts_of words s)
-splits_nowhere words s before none place behind =
+splits_nowhere words s before none place following =
     let all : take (length words) words ≡ words = take_all (length words) words (omega arith) in
     let rest : drop (length words) words ≡ [] = drop_all (length words) words (omega arith) in
     let cut : length words - length words ≡ 0 = omega arith in
-    let same : parts_without words ≡ parts_of words s = rw (none, place, behind, all, rest, cut) refl in
+    let same : parts_without words ≡ parts_of words s = rw (none, place, following, all, rest, cut) refl in
     subst (Splits words) same (nowhere (λ i p form stands. elim (cases i) [
       | inl inside ↦ form_nowhere (drop i words) p form (before i inside) stands.own stands.begins
       | inr past ↦ form_nowhere (drop i words) p form (ap (form_among form_table) (drop_all i words past) ∙ nothing_begins) stands.own stands.begins

@@ -9,8 +9,8 @@ unindented (b ∷ bs) = if b == blank then unindented bs else b ∷ bs
 
 -- the first word of a line, the rest as it was typed without leading blanks, and the words of the rest
 pub record IsTyped (line verb rest : List ℕ) (args : List (List ℕ)) : Type 0 where
-  pub behind : List ℕ
+  pub following : List ℕ
   pub begins : BeginsWord (unindented line)
-  pub first : Word false (unindented line) verb behind
-  pub kept : rest ≡ unindented behind
-  pub others : Words behind args
+  pub first : Word false (unindented line) verb following
+  pub kept : rest ≡ unindented following
+  pub others : Words following args

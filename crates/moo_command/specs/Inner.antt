@@ -49,8 +49,8 @@ abbrev pub parts_of : List (List ℕ) → Division → Parts
 parts_of words s = record {
   direct = take s.at words;
   preposition = s.preposition;
-  between = slice_range words s.at s.behind;
-  indirect = drop s.behind words;
+  between = slice_range words s.at s.following;
+  indirect = drop s.following words;
 }
 
 -- the verb that a leading sign is short for

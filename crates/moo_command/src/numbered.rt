@@ -13,11 +13,11 @@ use moo_world::{MOST, World};
 pub(crate) fn numbered(world: &World, text: &[u8]) -> Option<i32>
     ensures { result ≡ option_map (valid_or_none world.now) (typed_number text.now) }
 {
-    let (first, behind) = text.split_first()?;
+    let (first, following) = text.split_first()?;
     if *first != b'#' {
         return None;
     }
-    signed(world, behind)
+    signed(world, following)
 }
 
 /// Parses digits, perhaps after a minus, as an object's number.
@@ -25,9 +25,9 @@ fn signed(world: &World, text: &[u8]) -> Option<i32>
     ensures { result ≡ option_map (valid_or_none world.now) (signed text.now) }
 {
     world.is_well_formed();
-    let (first, behind) = text.split_first()?;
+    let (first, following) = text.split_first()?;
     if *first == b'-' {
-        return below_zero(world, behind);
+        return below_zero(world, following);
     }
     if !are_digits(text) {
         return None;

@@ -71,7 +71,7 @@ fn expanded(alloc: Global, typed: Typed) -> Result<Typed, AllocError>
 fn verb_leading(text: &[u8]) -> Option<&'static [u8]>
     ensures value { option_map (λ verb. verb.now) result ≡ verb_leading text.now }
     ensures string { IfSome result (λ verb. IsString verb.now) }
-    ensures behind { IfSome result (λ verb. 0 < length text.now) }
+    ensures following { IfSome result (λ verb. 0 < length text.now) }
 {
     let sign = text.first()?;
     verb_of_sign(*sign)
@@ -120,11 +120,11 @@ fn command(alloc: Global, world: &World, player: i32, typed: Typed) -> Result<Co
     let Division {
         preposition,
         at,
-        behind,
+        following,
     } = split(&args);
     let dobjstr = joined(alloc, &args[..at])?;
-    let prepstr = joined(alloc, &args[at..behind])?;
-    let iobjstr = joined(alloc, &args[behind..])?;
+    let prepstr = joined(alloc, &args[at..following])?;
+    let iobjstr = joined(alloc, &args[following..])?;
     Ok(Command {
         verb,
         argstr: rest,

@@ -30,9 +30,9 @@ pub(crate) fn read_words(alloc: Global, line: &[u8], from: usize) -> Result<Vec<
     let mut words = Vec::new(alloc);
     let mut at = skip_blanks(line, from);
     while at < line.len() {
-        let (word, behind) = read_word(alloc, line, at)?;
+        let (word, following) = read_word(alloc, line, at)?;
         words.push(word)?;
-        at = skip_blanks(line, behind);
+        at = skip_blanks(line, following);
     }
     Ok(words)
 }
@@ -66,21 +66,21 @@ pub(crate) fn read_word(
 {
     let mut word = Vec::new(alloc);
     let mut grouped = false;
-    let mut behind = at;
-    while behind < line.len() && goes_on(grouped, line[behind]) {
-        let byte = line[behind];
-        behind += 1;
+    let mut following = at;
+    while following < line.len() && goes_on(grouped, line[following]) {
+        let byte = line[following];
+        following += 1;
         if byte == QUOTE {
             grouped = !grouped;
         } else if byte != BACKSLASH {
             word.push(byte)?;
-        } else if behind < line.len() {
-            word.push(line[behind])?;
-            behind += 1;
+        } else if following < line.len() {
+            word.push(line[following])?;
+            following += 1;
         }
     }
     let word = MooStr::from_text(alloc, word)?;
-    Ok((word, behind))
+    Ok((word, following))
 }
 
 /// Returns whether a byte is part of the word, rather than its end.

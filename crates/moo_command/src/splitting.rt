@@ -9,33 +9,33 @@ use moo_value::MooStr;
 use moo_world_object::Preposition;
 use std::alloc::{AllocError, Global};
 
-/// The position of a preposition among words: the words before `at` precede it, and those from `behind` on follow it.
+/// The position of a preposition among words: the words before `at` precede it, and those from `following` on follow it.
 #[derive(Clone, Copy)]
 pub(crate) struct Division {
     pub preposition: Option<Preposition>,
     pub at: usize,
-    pub behind: usize,
+    pub following: usize,
 }
 
 /// Returns the preposition that splits these words: the longest of those that begin leftmost.
 pub(crate) fn split(words: &[MooStr]) -> Division
     ensures parts { Splits words.now (parts_of words.now result) }
-    ensures order { result.at ≤ result.behind }
-    ensures inside { result.behind ≤ length words.now }
+    ensures order { result.at ≤ result.following }
+    ensures inside { result.following ≤ length words.now }
 {
     for at in 0..words.len() {
         if let Some((preposition, length)) = preposition_at(&words[at..]) {
             return Division {
                 preposition: Some(preposition),
                 at,
-                behind: at + length,
+                following: at + length,
             };
         }
     }
     Division {
         preposition: None,
         at: words.len(),
-        behind: words.len(),
+        following: words.len(),
     }
 }
 

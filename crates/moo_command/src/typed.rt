@@ -28,28 +28,28 @@ pub fn read_typed(alloc: Global, line: &MooStr) -> Result<Option<Typed>, AllocEr
     if at == bytes.len() {
         return Ok(None);
     }
-    let (verb, behind) = read_word(alloc, bytes, at)?;
-    let typed = typed_behind(alloc, verb, line, behind)?;
+    let (verb, following) = read_word(alloc, bytes, at)?;
+    let typed = typed_behind(alloc, verb, line, following)?;
     Ok(Some(typed))
 }
 
-/// Splits the line from offset `behind` on, after this verb. Fails only if memory runs out.
+/// Splits the line from offset `following` on, after this verb. Fails only if memory runs out.
 pub fn typed_behind(
     alloc: Global,
     verb: MooStr,
     line: &MooStr,
-    behind: usize,
+    following: usize,
 ) -> Result<Typed, AllocError>
-    requires { behind ≤ length line.now }
+    requires { following ≤ length line.now }
     ensures line { IfOk result (λ t. t.line ≡ line.now) }
     ensures verb { IfOk result (λ t. t.verb ≡ verb) }
-    ensures rest { IfOk result (λ t. t.rest ≡ unindented (drop behind line.now)) }
-    ensures args { IfOk result (λ t. Words (drop behind line.now) t.args.items) }
+    ensures rest { IfOk result (λ t. t.rest ≡ unindented (drop following line.now)) }
+    ensures args { IfOk result (λ t. Words (drop following line.now) t.args.items) }
 {
     let bytes = line.as_bytes();
-    let at = skip_blanks(bytes, behind);
+    let at = skip_blanks(bytes, following);
     let rest = line.part(alloc, at, bytes.len())?;
-    let args = read_words(alloc, bytes, behind)?;
+    let args = read_words(alloc, bytes, following)?;
     let line = line.try_clone()?;
     Ok(Typed {
         line,

@@ -9,7 +9,7 @@ fn push_fed(text: &mut Vec<u8>, reader: &mut LineReader, piece: &[u8]) -> Result
     push_joined(text, &lines)
 }
 
-// Feeds a piece, once more where it was refused.
+// Feeds a piece, once more if it was refused.
 fn push_fed_again(
     text: &mut Vec<u8>,
     reader: &mut LineReader,
@@ -21,7 +21,7 @@ fn push_fed_again(
     }
 }
 
-/// The lines of a stream in three pieces, each of which is fed once more where it was refused.
+/// The lines of a stream in three pieces, each of which is fed once more if it was refused.
 pub fn push_three_pieces(text: &mut Vec<u8>, alloc: Global) -> Result<(), AllocError> {
     let mut reader = LineReader::new(alloc);
     for piece in [b"one\r".as_slice(), b"\ntwo\nth", b"ree\n\n"] {

@@ -1,4 +1,4 @@
-// Calls that grow, where memory is short. Each is made for its answer; where one allocation fails, as
+// Calls that grow, if memory is short. Each is made for its answer; if one allocation fails, as
 // `rt try --test --fail-alloc N` lets the Nth, at most one of them is refused, and the others answer as ever. A reader is
 // then as it was: the piece, fed once more, gives the same lines.
 use crate::answers::{Call, Rows, is_answered};

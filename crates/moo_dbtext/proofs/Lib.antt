@@ -1,5 +1,5 @@
 pub mod Spelling
-pub mod Behinds
+pub mod NextNumbers
 pub mod Rows
 pub mod Counts
 pub mod Whole

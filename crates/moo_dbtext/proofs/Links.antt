@@ -17,7 +17,7 @@ use Rattle.moo_dbtext_object.specs.Objects.{verb_bits, IsVerbBits, IsPreposition
 use Rattle.moo_dbtext_restore.specs.Links.{place_number}
 use Rattle.moo_dbtext_restore.specs.Recorded.{first_in, next_below, link_in}
 use Rattle.moo_dbtext_restore.specs.declared.link.Link.{Link}
-use Rattle.moo_dbtext.proofs.Behinds.{above_inside, first_inside, next_inside}
+use Rattle.moo_dbtext.proofs.NextNumbers.{above_inside, first_inside, next_inside}
 
 bit_low : (b : Bool) (w : ℕ) → bit b w ≤ w
 bit_low true w = omega arith

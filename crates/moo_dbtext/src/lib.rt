@@ -1,10 +1,10 @@
 //! Reads and writes saved worlds as database texts.
 #![tactic(auto)]
 
-mod behind;
 mod dump_laws;
 pub mod laws;
 mod link;
+mod nexts;
 mod object;
 mod program;
 mod round_trip_laws;

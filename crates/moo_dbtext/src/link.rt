@@ -5,7 +5,7 @@ ghost use Rattle.std.specs.Option.{ForSome};
 ghost use Rattle.moo_world_table.specs.World.{most};
 ghost use Rattle.moo_dbtext_restore.specs.Links.{place_number};
 ghost use Rattle.moo_dbtext_restore.specs.Recorded.{link_in};
-ghost use Rattle.moo_dbtext.specs.Behind.{AreNexts};
+ghost use Rattle.moo_dbtext.specs.Nexts.{AreNexts};
 
 use moo_dbtext_restore::Link;
 use moo_world_tree::Forest;

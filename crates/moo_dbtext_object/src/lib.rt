@@ -1,4 +1,4 @@
-//! Values as lines of a database text, and numbers and strings that take one line each.
+//! Objects and values as lines of a database text, and numbers and strings that take one line each.
 //! An internal crate of `moo_dbtext`.
 #![tactic(auto)]
 

@@ -48,7 +48,7 @@ one_first : (P : ℕ → Type 0) (n x y : ℕ) → IsFirst P n (Some x) → IsFi
 one_first P n x y h k = elim (cases_lt x y) [
   | inl before ↦ absurd (first_of_two P n x y h k before)
   | inr not_before ↦ elim (cases_lt y x) [
-    | inl behind ↦ absurd (first_of_two P n y x k h behind)
+    | inl following ↦ absurd (first_of_two P n y x k h following)
     | inr not_behind ↦ omega arith
   ]
 ]

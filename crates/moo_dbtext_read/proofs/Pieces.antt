@@ -62,17 +62,17 @@ begins_on bytes more players objects h = record {
 }
 
 module _ (p : ProgramReader) (bytes : List ℕ) (d : Dump) (read : HasRead p bytes) (well : IsWell p) (past : has_objects (place_of p).section ≡ true) (text : text_of d ≡ (place_of p).text) where
-  behind : IsBehind p bytes
-  behind = read_well p bytes well read
+  following : IsBehind p bytes
+  following = read_well p bytes well read
 
-  alike : outline_read behind.at.state.progress ≡ outline_read (place_of p)
-  alike = behind.at.alike.progress.rest
+  alike : outline_read following.at.state.progress ≡ outline_read (place_of p)
+  alike = following.at.alike.progress.rest
 
   begins : BeginsWithObjects bytes (text_of d).players (text_of d).objects
   begins =
       subst (λ (ps : List ℤ). BeginsWithObjects bytes ps (text_of d).objects) (ap (λ (r : Progress). r.text.players) alike ∙ sym (ap (λ (t : Text). t.players) text))
-      (subst (BeginsWithObjects bytes behind.at.state.progress.text.players) (ap (λ (r : Progress). r.text.objects) alike ∙ sym (ap (λ (t : Text). t.objects) text))
-      (objects_begin bytes behind.at.state behind.at.leads (ap (λ (r : Progress). has_objects r.section) alike ∙ past)))
+      (subst (BeginsWithObjects bytes following.at.state.progress.text.players) (ap (λ (r : Progress). r.text.objects) alike ∙ sym (ap (λ (t : Text). t.objects) text))
+      (objects_begin bytes following.at.state following.at.leads (ap (λ (r : Progress). has_objects r.section) alike ∙ past)))
 
   early_refused : (e : DbFault) → IsTextUntold (text_of d).players (text_of d).objects e → IsRefusedFrom bytes e
   early_refused e (inl memory) = λ more. without_memory (bytes ++ more) e memory

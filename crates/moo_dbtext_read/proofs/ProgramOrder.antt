@@ -110,7 +110,7 @@ one_program : (bytes : List ℕ) (d e : DbFault) (p : IsToldProgram bytes d) (q 
 one_program bytes d e p q = elim (cases_lt (dot_of bytes d p) (dot_of bytes e q)) [
   | inl before ↦ absurd (later_program bytes d e p q before)
   | inr not_before ↦ elim (cases_lt (dot_of bytes e q) (dot_of bytes d p)) [
-    | inl behind ↦ absurd (later_program bytes e d q p behind)
+    | inl following ↦ absurd (later_program bytes e d q p following)
     | inr not_behind ↦ same_program bytes d e p q (omega arith)
   ]
 ]

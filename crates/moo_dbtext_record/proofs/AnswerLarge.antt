@@ -62,13 +62,13 @@ unfolding taken_on
 taken_here n s (Ok p) bs h at = record { more = 0; line = omega arith; state = next s p; taken = refl; lines = at }
 taken_here n s (Err f) bs h at = absurd h
 
-behind : (n : ℕ) (s : Taken) (r q : Result Progress LineFault) (bs : List ℕ) → Cut r q → Strict r q → ((t : Taken) → taken_on limited t bs ≡ err_taken (told_at n TooLarge) → Stand n t bs)
+following : (n : ℕ) (s : Taken) (r q : Result Progress LineFault) (bs : List ℕ) → Cut r q → Strict r q → ((t : Taken) → taken_on limited t bs ≡ err_taken (told_at n TooLarge) → Stand n t bs)
     → and_then (and_then (told (s.lines + 1) r) (λ p. Ok (next s p))) (λ t. taken_on limited t bs) ≡ err_taken (told_at n TooLarge) → StandBehind n s q bs
-behind n s (Ok p) q bs (inl e) strict rest h =
+following n s (Ok p) q bs (inl e) strict rest h =
     let t = rest (next s p) h in
     subst (λ (x : Result Progress LineFault). StandBehind n s x bs) e (record { more = suc t.more; line = omega (arith, t.line); state = t.state; taken = t.taken; lines = t.lines })
-behind n s (Ok p) q bs (inr e) strict rest h = absurd cc
-behind n s (Err f) q bs cut strict rest h =
+following n s (Ok p) q bs (inr e) strict rest h = absurd cc
+following n s (Err f) q bs cut strict rest h =
     let same = taken_told (told_at (s.lines + 1) f) (told_at n TooLarge) h in
     taken_here n s q bs (strict (ap (λ (d : Told). d.fault) same)) (ap (λ (d : Told). d.line) same)
 
@@ -91,7 +91,7 @@ at_line n s (b ∷ bs) h =
         → cond is (and_then (line_ended limited s s.rest) (λ t. taken_on limited t bs)) (taken_on limited (record s { rest = s.rest ++ b ∷ [] }) bs) ≡ err_taken (told_at n TooLarge) → StandAt n s b bs is
     decide true rest k =
         let x = s.progress.section in
-        let t = behind n s (dump_step limited x s.progress s.rest) (dump_step unlimited x s.progress s.rest) bs (dump_cut x s.progress s.rest) (dump_strict x s.progress s.rest) rest k in
+        let t = following n s (dump_step limited x s.progress s.rest) (dump_step unlimited x s.progress s.rest) bs (dump_cut x s.progress s.rest) (dump_strict x s.progress s.rest) rest k in
         record { more = t.more; line = t.line; state = t.state; taken = t.taken; lines = t.lines }
     decide false rest k =
         let t = rest (record s { rest = s.rest ++ b ∷ [] }) k in

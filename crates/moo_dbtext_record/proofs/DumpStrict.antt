@@ -12,7 +12,7 @@ use Rattle.moo_dbtext_object.proofs.ObjectCut.{object_cut}
 use Rattle.moo_dbtext_object.proofs.ObjectStrict.{object_strict}
 use Rattle.moo_dbtext_record.specs.Programs.{Table, is_open}
 use Rattle.moo_dbtext_record.specs.Texts.{Link, header_front, live_line, recycled_line}
-use Rattle.moo_dbtext_record.specs.Headings.{told_as, parts_of, behind, count_or, number_or, is_read, known_version, version_in, version_behind, version_of, head_of, verb_in, verb_behind, verb_named, open_verb, program_head_of, no_tasks, tasks_in, tasks_of, form_of, connections_in, connection_count_of, pair_in, connection_of}
+use Rattle.moo_dbtext_record.specs.Headings.{told_as, parts_of, following, count_or, number_or, is_read, known_version, version_in, version_behind, version_of, head_of, verb_in, verb_behind, verb_named, open_verb, program_head_of, no_tasks, tasks_in, tasks_of, form_of, connections_in, connection_count_of, pair_in, connection_of}
 use Rattle.moo_dbtext_record.specs.DumpReading.{Progress, after_players, after_connections, after_object_line, after_source, dump_step}
 use Rattle.moo_dbtext_record.specs.declared.dump.Form.{Form}
 use Rattle.moo_dbtext_record.specs.declared.dump.Form.TheVariants as form
@@ -49,7 +49,7 @@ no_connections e = cc
 
 version_never : (line : Line) → NeverLarge (version_of line)
 unfolding version_of
-version_never line = behind_never (behind header_front line)
+version_never line = behind_never (following header_front line)
   where
     known_never : (v : ℕ) → NeverLarge (known_version v)
     known_never v = chosen (is_read v) v (Version v) (λ e. cc)
@@ -77,7 +77,7 @@ head_never n line = decide (bytes_eq line (live_line n)) (bytes_eq line (recycle
 
 program_head_never : (table : Table) (line : Line) → NeverLarge (program_head_of table line)
 unfolding program_head_of verb_named
-program_head_never table line = never_then (verb_behind (behind (codes "#") line)) (open_verb table) (behind_never (behind (codes "#") line)) (λ p. chosen (is_open p.0 p.1 table) p BadProgramLine no_program_line)
+program_head_never table line = never_then (verb_behind (following (codes "#") line)) (open_verb table) (behind_never (following (codes "#") line)) (λ p. chosen (is_open p.0 p.1 table) p BadProgramLine no_program_line)
   where
     in_never : (o : Option (Line × Line)) → NeverLarge (verb_in o)
     in_never None = no_program_line

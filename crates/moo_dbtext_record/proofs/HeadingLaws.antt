@@ -10,7 +10,7 @@ use Rattle.std.proofs.lemmas.Bool.Decides.{Decides-eqb}
 use Rattle.std.proofs.lemmas.List.{at_drop_more, take_more, append-nil, take_rest, drop_all, take-append-drop}
 use Rattle.std.proofs.Math.Seq.{take-append_seam, drop-append_seam}
 use Rattle.moo_dbtext_object.specs.Lines.{Line}
-use Rattle.moo_dbtext_record.specs.Headings.{before, parts_of, behind as rest_behind}
+use Rattle.moo_dbtext_record.specs.Headings.{before, parts_of, following as rest_behind}
 
 -- the parts with more in front
 abbrev pub led : Line → Option (Line × Line) → Option (Line × Line)

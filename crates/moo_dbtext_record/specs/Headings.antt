@@ -18,8 +18,8 @@ parts_of at [] = None
 parts_of at (b ∷ bs) = if b == at then Some ([], bs) else before b (parts_of at bs)
 
 -- what follows a prefix
-unfoldable pub behind : Line → Line → Option Line
-behind front line = if bytes_eq (take (length front) line) front then Some (drop (length front) line) else None
+unfoldable pub following : Line → Line → Option Line
+following front line = if bytes_eq (take (length front) line) front then Some (drop (length front) line) else None
 
 -- any fault, reported as this one
 abbrev pub told_as : {A : Type 0} → LineFault → Result A LineFault → Result A LineFault
@@ -49,7 +49,7 @@ version_behind None = Err BadHeader
 version_behind (Some rest) = version_in (parts_of 32 rest)
 
 unfoldable pub version_of : Line → Result ℕ LineFault
-version_of line = version_behind (behind header_front line)
+version_of line = version_behind (following header_front line)
 
 -- ---- objects and programs
 
@@ -67,7 +67,7 @@ verb_behind None = Err BadProgramLine
 verb_behind (Some rest) = verb_in (parts_of 58 rest)
 
 unfoldable pub verb_named : Line → Result (ℕ × ℕ) LineFault
-verb_named line = verb_behind (behind (codes "#") line)
+verb_named line = verb_behind (following (codes "#") line)
 
 abbrev pub open_verb : Table → ℕ × ℕ → Result (ℕ × ℕ) LineFault
 open_verb table p = if is_open p.0 p.1 table then Ok p else Err BadProgramLine

@@ -5,7 +5,7 @@ ghost use Rattle.moo_dbtext_object.specs.Lines.{Gives, limited};
 ghost use Rattle.moo_dbtext_record.specs.Programs.{row_of};
 ghost use Rattle.std.specs.Prelude.{map, codes};
 ghost use Rattle.moo_dbtext_record.specs.Texts.{link_of};
-ghost use Rattle.moo_dbtext_record.specs.Headings.{parts_of, behind, count_or, number_or, version_of, head_of, verb_named, program_head_of, tasks_of, form_of, connection_count_of, connection_of};
+ghost use Rattle.moo_dbtext_record.specs.Headings.{parts_of, following, count_or, number_or, version_of, head_of, verb_named, program_head_of, tasks_of, form_of, connection_count_of, connection_of};
 
 use crate::dump::{Connection, Form};
 use crate::program_table::{Source, is_open};
@@ -26,7 +26,7 @@ fn parts(line: &[u8], at: u8) -> Option<(&[u8], &[u8])>
 
 /// Returns what follows a prefix of the line.
 fn rest_behind<'a>(front: &[u8], line: &'a [u8]) -> Option<&'a [u8]>
-    ensures { option_map (λ r. r.now) result ≡ behind front.now line.now }
+    ensures { option_map (λ r. r.now) result ≡ following front.now line.now }
 {
     line.strip_prefix(front)
 }

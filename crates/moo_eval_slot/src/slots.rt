@@ -61,7 +61,7 @@ impl Slots {
     }
 
     /// Returns the slot that was noted at a name, if the numbers of the program's name there prove that its spelling is
-    /// the same. Returns `None` otherwise, and for a name that every frame has. The name may still have a slot.
+    /// equal. Returns `None` otherwise, and for a name that every frame has. The name may still have a slot.
     #[inline(always)]
     pub fn known_slot(&self, name: &Name) -> Option<usize>
         ensures there { IfSome result (λ i. position (λ own. bytes_eq (folded own) (folded name.now)) self.now.names ≡ Some i) }

@@ -155,18 +155,18 @@ module _ {S Application : Type 0} (l : Layer S Application Saved) where
         let saved_is : found.0 ≡ run.saved = has.is.opened.only h found.0 (subst (λ (t : List ℕ). l.meaning.Spells t found.0) main_is found.1) in
         let h_new : kind.honest run.new = has.is.honest_still h in
         let stop' : IsStopped kind images life.stop run.new new = subst (λ (d : D). IsStopped kind images life.stop d new) (sym has.new_is) stop in
-        let behind = stopped run (since_done so_far.left (traces_under l.meaning run.entries)) new life.stop has.told.stop h_new stop'
+        let following = stopped run (since_done so_far.left (traces_under l.meaning run.entries)) new life.stop has.told.stop h_new stop'
         (after_life run so_far.left h has.is within) (after_spelled run so_far.left has.is so_far.spelled) in
         record {
           runs = so_far.runs ++ run ∷ [];
-          left = behind.after;
-          lived = lives_push first ((kind.view first).main_text ∷ []) so_far.left behind.after so_far.runs run old new so_far.lived has.old_is left_main
-              (subst (λ (s : Saved). l.meaning.Spells run.main s) saved_is found.1) h has.is behind.goes
+          left = following.after;
+          lived = lives_push first ((kind.view first).main_text ∷ []) so_far.left following.after so_far.runs run old new so_far.lived has.old_is left_main
+              (subst (λ (s : Saved). l.meaning.Spells run.main s) saved_is found.1) h has.is following.goes
               (subst (λ (s : LifeStop). IsStopped kind images s run.new new) (sym has.told.stop) stop');
           told = told_push lives so_far.runs begins life run begin so_far.told has.told;
-          honest_still = behind.honest_still;
-          within = behind.within;
-          spelled = behind.spelled;
+          honest_still = following.honest_still;
+          within = following.within;
+          spelled = following.spelled;
         }
 
     pub so_far_none : (disk : D) (s : Saved) → kind.honest disk → l.meaning.Spells (kind.view disk).main_text s

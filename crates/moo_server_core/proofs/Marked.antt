@@ -274,12 +274,12 @@ module _ {S Application : Type 0} (l : Layer S Application Saved) where
   mark_is_prefix start end returned entries c run spelled at = of_mark at.last.mark refl
     where
       -- the mark isn't before one whose next report in `returned` says done
-      holds : (front behind : List (Entry Saved)) (e : Entry Saved) → returned ≡ front ++ e ∷ behind → e.mark ≢ None → IsDoneNext (traces_under l.meaning behind)
+      holds : (front following : List (Entry Saved)) (e : Entry Saved) → returned ≡ front ++ e ∷ following → e.mark ≢ None → IsDoneNext (traces_under l.meaning following)
           → length front ≤ length at.prefix
-      holds front behind e is some next =
-          let place = place_at (traces_under l.meaning front) (traces_under l.meaning behind) (trace_of l.meaning.text_of e) 0 0 0 (omega arith) (omega arith) (mapped e.mark some) next in
-          let same : place_done (traces_under l.meaning returned) ≡ place_done (traces_under l.meaning front ++ trace_of l.meaning.text_of e ∷ traces_under l.meaning behind) =
-          ap (λ (es : List (Entry Saved)). place_done (traces_under l.meaning es)) is ∙ ap place_done (traces-append l front (e ∷ behind)) in
+      holds front following e is some next =
+          let place = place_at (traces_under l.meaning front) (traces_under l.meaning following) (trace_of l.meaning.text_of e) 0 0 0 (omega arith) (omega arith) (mapped e.mark some) next in
+          let same : place_done (traces_under l.meaning returned) ≡ place_done (traces_under l.meaning front ++ trace_of l.meaning.text_of e ∷ traces_under l.meaning following) =
+          ap (λ (es : List (Entry Saved)). place_done (traces_under l.meaning es)) is ∙ ap place_done (traces-append l front (e ∷ following)) in
           omega (arith, place, same, at.enough, traces_length front)
 
       parts : (mid : State Application) × Run l.meaning start (at.prefix ++ at.last ∷ []) mid × Run l.meaning mid at.rest end

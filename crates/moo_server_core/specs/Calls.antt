@@ -145,8 +145,8 @@ module _ {S Application : Type 0} (l : Layer S Application Saved) where
     pub run : Run l.meaning start (prefix ++ last ∷ []) state
     pub world : saved ≡ l.meaning.saved_of state.sessions
     -- it holds each event up to a mark whose checkpoint was reported done in a call that has returned
-    pub enough : (front behind : List (Entry Saved)) (e : Entry Saved) → returned ≡ front ++ e ∷ behind → e.mark ≢ None
-        → IsDoneNext (traces_under l.meaning behind) → length front ≤ length prefix
+    pub enough : (front following : List (Entry Saved)) (e : Entry Saved) → returned ≡ front ++ e ∷ following → e.mark ≢ None
+        → IsDoneNext (traces_under l.meaning following) → length front ≤ length prefix
 
   -- A text that spells, within the limits, the saved world after such a prefix, where the calls of `entries` have returned. If no report
   -- in them was done, it may spell the world that was read at the start, which is `first`.

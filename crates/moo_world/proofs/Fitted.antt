@@ -91,13 +91,13 @@ clear_cell o k a same is = ap (λ r. unwrap_or r (cleared o.owner a)) (ap (cell_
 row_fitted : (y : ℕ) (o : Object) (above : List Cell) → All (λ (c : Cell). eqb (key_of c).0 y ≡ false) above → IsFitted y o above (fitted_row y o above)
 row_fitted y o above apart = record {
   own = λ k e. found_before k (own_cells y o.cells) (map (fitted_cell o) above) (among_fitted o k above ∙ ap (option_map (fitted_cell o)) (elsewhere_none y k above apart e)) ∙ own_found y k o.cells e;
-  kept = λ k a c ne is had. behind k ne ∙ ap (option_map (fitted_cell o)) is ∙ ap (λ d. Some d) (found_cell o k a c (found_key k above a is) had);
-  clear = λ k a ne is none. behind k ne ∙ ap (option_map (fitted_cell o)) is ∙ ap (λ d. Some d) (clear_cell o k a (found_key k above a is) none);
-  lost = λ k ne none. behind k ne ∙ ap (option_map (fitted_cell o)) none;
+  kept = λ k a c ne is had. following k ne ∙ ap (option_map (fitted_cell o)) is ∙ ap (λ d. Some d) (found_cell o k a c (found_key k above a is) had);
+  clear = λ k a ne is none. following k ne ∙ ap (option_map (fitted_cell o)) is ∙ ap (λ d. Some d) (clear_cell o k a (found_key k above a is) none);
+  lost = λ k ne none. following k ne ∙ ap (option_map (fitted_cell o)) none;
 }
   where
-    behind : (k : Key) → k.0 ≢ y → cell_at (fitted_row y o above) k ≡ option_map (fitted_cell o) (cell_at above k)
-    behind k ne = found_behind k (own_cells y o.cells) (map (fitted_cell o) above) (own_other y k o.cells ne) ∙ among_fitted o k above
+    following : (k : Key) → k.0 ≢ y → cell_at (fitted_row y o above) k ≡ option_map (fitted_cell o) (cell_at above k)
+    following k ne = found_behind k (own_cells y o.cells) (map (fitted_cell o) above) (own_other y k o.cells ne) ∙ among_fitted o k above
 
 module _ (objects : List (Option Object)) (tree : List Links) (forest : IsForest tree) (free : IsFreeTree objects tree) where
   -- the cells of the parent are those fitted along the ancestors

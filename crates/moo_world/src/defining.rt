@@ -113,8 +113,8 @@ impl World {
         requires walk { IsWalkDown self.old.inheritance x walk.now }
         ensures { Changes result self.old self.new None (after_define self.old x name cell) }
     {
-        let behind = cells_of(&self.objects, self.inheritance.above(x)).len();
-        define_along(&mut self.objects, walk, name, cell, behind)?;
+        let following = cells_of(&self.objects, self.inheritance.above(x)).len();
+        define_along(&mut self.objects, walk, name, cell, following)?;
         Ok(())
     }
 }

@@ -62,14 +62,14 @@ no_star_last names front h is =
     let last : get_or names (length front) 0 ≡ 42 = ap (λ w. get_or w (length front) 0) is ∙ get_or_at front 42 [] 0 (length front) refl in
     false≢true (sym (h (length front) within) ∙ ap is_star last)
 
-nothing_more : (names name behind : List ℕ) → length names ≤ length name → folded names ≡ folded name ++ behind → folded names ≡ folded name
+nothing_more : (names name following : List ℕ) → length names ≤ length name → folded names ≡ folded name ++ following → folded names ≡ folded name
 nothing_more names name [] long is = is ∙ append-nil (folded name)
 nothing_more names name (b ∷ bs) long is = absurd (omega (arith, long, ap length is, length-append (folded name) (b ∷ bs), length-map names to_ascii_lowercase, length-map name to_ascii_lowercase))
 
 fits_same : (names name : List ℕ) → ((k : ℕ) → k < length names → is_star (get_or names k 0) ≡ false) → Fits names name → folded names ≡ folded name
-fits_same names name h (inl ((behind, is), long)) =
+fits_same names name h (inl ((following, is), long)) =
     let bare : base names ≡ names = base_plain names h in
-    nothing_more names name behind (omega (arith, long, least_plain names h)) (ap folded (sym bare) ∙ is)
+    nothing_more names name following (omega (arith, long, least_plain names h)) (ap folded (sym bare) ∙ is)
 fits_same names name h (inr ((front, is), begins)) = absurd (no_star_last names front h is)
 
 same_fits : (names name : List ℕ) → base names ≡ names → folded names ≡ folded name → fits names name ≡ true

@@ -65,8 +65,8 @@ base_at pattern i h plain =
     ∙ ap (λ t. base (take i pattern) ++ cond (not t) (get_or pattern i 0 ∷ base (drop (i + 1) pattern)) (base (drop (i + 1) pattern))) plain
 
 begins_short : (front whole : List ℕ) → Begins front whole → length front ≤ length whole
-begins_short front whole (behind, is) =
-    omega (arith, ap length is, length-append (folded front) behind, length-map front to_ascii_lowercase, length-map whole to_ascii_lowercase)
+begins_short front whole (following, is) =
+    omega (arith, ap length is, length-append (folded front) following, length-map front to_ascii_lowercase, length-map whole to_ascii_lowercase)
 
 least_at_most : (pattern : List ℕ) → least pattern ≤ length (base pattern)
 least_at_most [] = omega arith
@@ -94,11 +94,11 @@ name_ends pattern name i matched m h plain ends =
     )
 
 same_at : (front whole : List ℕ) (k : ℕ) → Begins front whole → k < length front → to_ascii_lowercase (get_or front k 0) ≡ to_ascii_lowercase (get_or whole k 0)
-same_at front whole k (behind, is) h =
+same_at front whole k (following, is) h =
     let inside : k < length (folded front) = omega (arith, length-map front to_ascii_lowercase) in
-    let inside' : k < length whole = omega (arith, begins_short front whole (behind, is)) in
+    let inside' : k < length whole = omega (arith, begins_short front whole (following, is)) in
     sym (get_or-map to_ascii_lowercase front k 0 0 h)
-    ∙ sym (get_or_append_left (folded front) behind 0 k inside)
+    ∙ sym (get_or_append_left (folded front) following 0 k inside)
     ∙ ap (λ w. get_or w k 0) (sym is)
     ∙ get_or-map to_ascii_lowercase whole k 0 0 inside'
 

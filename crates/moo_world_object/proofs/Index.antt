@@ -78,7 +78,7 @@ star_low b off = elim (cases_Bool (eqb b 42)) [
 
 first_of_fit : (pattern name : List ℕ) → is_star (first_letter pattern) ≡ false → Fits pattern name → first_letter name ≡ first_letter pattern
 first_of_fit [] [] plain fit = refl
-first_of_fit [] (n ∷ ns) plain (inl ((behind, is), long)) = absurd (cc)
+first_of_fit [] (n ∷ ns) plain (inl ((following, is), long)) = absurd (cc)
 first_of_fit [] (n ∷ ns) plain (inr ((front, is), begins)) = absurd (omega (arith, ap length is, length-append front (42 ∷ [])))
 first_of_fit (b ∷ bs) name plain fit = begins_so b bs name (star_low b plain) fit
 
@@ -119,9 +119,9 @@ listed_alike index a b i same listed =
 pub prefix_of_base : (pattern name : List ℕ) → ends_in_star pattern ≡ false → fits pattern name ≡ true →
     (least pattern ≤ length name) × (length name ≤ length (base pattern)) × (folded (take (length name) (base pattern)) ≡ folded name)
 prefix_of_base pattern name closed fit = elim ((fits_is pattern name).0 fit) [
-  | inl ((behind, is), long) ↦
-      let many : length (base pattern) ≡ length name + length behind = omega (arith, ap length is, length-append (folded name) behind, length-map name to_ascii_lowercase, length-map (base pattern) to_ascii_lowercase) in
-      (long, omega (arith, many), map-take (length name) (base pattern) ∙ ap (take (length name)) is ∙ ap (λ n. take n (folded name ++ behind)) (sym (length-map name to_ascii_lowercase)) ∙ take-front (folded name) behind)
+  | inl ((following, is), long) ↦
+      let many : length (base pattern) ≡ length name + length following = omega (arith, ap length is, length-append (folded name) following, length-map name to_ascii_lowercase, length-map (base pattern) to_ascii_lowercase) in
+      (long, omega (arith, many), map-take (length name) (base pattern) ∙ ap (take (length name)) is ∙ ap (λ n. take n (folded name ++ following)) (sym (length-map name to_ascii_lowercase)) ∙ take-front (folded name) following)
   | inr (star, begins) ↦ absurd (false≢true (sym closed ∙ (ends_in_star_is pattern).1 star))
 ]
   where

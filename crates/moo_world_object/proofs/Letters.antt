@@ -16,20 +16,20 @@ use Rattle.moo_world_object.proofs.Patterns.{fits_is}
 
 -- a name that fits a pattern begins with its letter, where that is no star
 pub begins_so : (b : ℕ) (bs name : List ℕ) → is_star b ≡ false → Fits (b ∷ bs) name → first_letter name ≡ to_ascii_lowercase b
-begins_so b bs [] plain (inl ((behind, is), long)) =
+begins_so b bs [] plain (inl ((following, is), long)) =
     let some : least (b ∷ bs) ≡ 1 + least bs = (rw plain refl) in
     absurd (omega (arith, some, long))
-begins_so b bs (n ∷ ns) plain (inl ((behind, is), long)) =
+begins_so b bs (n ∷ ns) plain (inl ((following, is), long)) =
     let whole : folded (base (b ∷ bs)) ≡ to_ascii_lowercase b ∷ folded (base bs) = (rw plain refl) in
-    let same : to_ascii_lowercase b ∷ folded (base bs) ≡ to_ascii_lowercase n ∷ (folded ns ++ behind) = sym whole ∙ is in
+    let same : to_ascii_lowercase b ∷ folded (base bs) ≡ to_ascii_lowercase n ∷ (folded ns ++ following) = sym whole ∙ is in
     cc
-begins_so b bs [] plain (inr (star, (behind, is))) =
+begins_so b bs [] plain (inr (star, (following, is))) =
     let whole : folded (base (b ∷ bs)) ≡ to_ascii_lowercase b ∷ folded (base bs) = (rw plain refl) in
-    let none : [] ≡ to_ascii_lowercase b ∷ (folded (base bs) ++ behind) = is ∙ ap (λ front. front ++ behind) whole in
+    let none : [] ≡ to_ascii_lowercase b ∷ (folded (base bs) ++ following) = is ∙ ap (λ front. front ++ following) whole in
     absurd (cc)
-begins_so b bs (n ∷ ns) plain (inr (star, (behind, is))) =
+begins_so b bs (n ∷ ns) plain (inr (star, (following, is))) =
     let whole : folded (base (b ∷ bs)) ≡ to_ascii_lowercase b ∷ folded (base bs) = (rw plain refl) in
-    let same : to_ascii_lowercase n ∷ folded ns ≡ to_ascii_lowercase b ∷ (folded (base bs) ++ behind) = is ∙ ap (λ front. front ++ behind) whole in
+    let same : to_ascii_lowercase n ∷ folded ns ≡ to_ascii_lowercase b ∷ (folded (base bs) ++ following) = is ∙ ap (λ front. front ++ following) whole in
     cc
 
 -- a name that fits one of some words that all begin with a letter begins with it

@@ -11,7 +11,7 @@ use Rattle.moo_world_object.specs.Patterns.{base, least, begins, ends_in_star, f
 begins_is : (front whole : List ℕ) → Decides (begins front whole) (Begins front whole)
 begins_is front whole =
     let both = starts_is Decides-eqb (folded whole) (folded front) (begins front whole) refl in
-    (λ yes. (drop (length (folded front)) (folded whole), both.0 yes), λ (behind, is). both.1 behind is)
+    (λ yes. (drop (length (folded front)) (folded whole), both.0 yes), λ (following, is). both.1 following is)
 
 pub ends_in_star_is : (pattern : List ℕ) → Decides (ends_in_star pattern) (EndsInStar pattern)
 ends_in_star_is pattern =

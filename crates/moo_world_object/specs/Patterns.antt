@@ -27,7 +27,7 @@ fits pattern name = (begins name (base pattern) && nat_le (least pattern) (lengt
 
 -- the rule of patterns as relations: `front` is a prefix of `whole`
 abbrev pub Begins : List ℕ → List ℕ → Type 0
-Begins front whole = (behind : List ℕ) × (folded whole ≡ folded front ++ behind)
+Begins front whole = (following : List ℕ) × (folded whole ≡ folded front ++ following)
 
 abbrev pub EndsInStar : List ℕ → Type 0
 EndsInStar pattern = (front : List ℕ) × (pattern ≡ front ++ 42 ∷ [])

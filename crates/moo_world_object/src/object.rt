@@ -154,13 +154,18 @@ impl Object {
         self.flags = flags;
     }
 
-    /// Appends a definition, and inserts its cell before the last `behind` cells. Out of memory nothing changes.
-    pub fn define(&mut self, name: MooStr, cell: PropCell, behind: usize) -> Result<(), AllocError>
-        ensures ok { OnOk result (self.new ≡ record self.old { defined = self.old.defined ++ name ∷ []; cells = put_before behind cell self.old.cells }) }
+    /// Appends a definition, and inserts its cell before the last `following` cells. Out of memory nothing changes.
+    pub fn define(
+        &mut self,
+        name: MooStr,
+        cell: PropCell,
+        following: usize,
+    ) -> Result<(), AllocError>
+        ensures ok { OnOk result (self.new ≡ record self.old { defined = self.old.defined ++ name ∷ []; cells = put_before following cell self.old.cells }) }
         ensures err { OnErr result (self.new ≡ self.old) }
     {
         self.defined.push(name)?;
-        if let Err(fault) = self.cells.insert(cell, behind) {
+        if let Err(fault) = self.cells.insert(cell, following) {
             let _name = self.defined.pop();
             return Err(fault);
         }

@@ -62,21 +62,21 @@ impl Row {
         &self.cells
     }
 
-    /// Inserts a cell before the last `behind` cells. Out of memory nothing changes.
-    pub fn insert(&mut self, cell: PropCell, behind: usize) -> Result<(), AllocError>
-        ensures ok { OnOk result (self.new ≡ put_before behind cell self.old) }
+    /// Inserts a cell before the last `following` cells. Out of memory nothing changes.
+    pub fn insert(&mut self, cell: PropCell, following: usize) -> Result<(), AllocError>
+        ensures ok { OnOk result (self.new ≡ put_before following cell self.old) }
         ensures err { OnErr result (self.new ≡ self.old) }
     {
-        let place = self.cells.len().saturating_sub(behind);
+        let place = self.cells.len().saturating_sub(following);
         self.cells.insert(place, cell)?;
         Ok(())
     }
 
-    /// Removes the cell before the last `behind` cells.
-    pub fn remove(&mut self, behind: usize)
-        ensures { self.new ≡ taken_before behind self.old }
+    /// Removes the cell before the last `following` cells.
+    pub fn remove(&mut self, following: usize)
+        ensures { self.new ≡ taken_before following self.old }
     {
-        let place = self.cells.len().saturating_sub(behind).saturating_sub(1);
+        let place = self.cells.len().saturating_sub(following).saturating_sub(1);
         if place < self.cells.len() {
             let _cell = self.cells.remove(place);
         }

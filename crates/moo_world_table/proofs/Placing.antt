@@ -104,12 +104,12 @@ record Placed (k : ℕ) (c : Cell) (old new : List Cell) : Type 0 where
   back : List Cell
   old_is : old ≡ front ++ back
   new_is : new ≡ front ++ c ∷ back
-  behind : length back ≡ k
+  following : length back ≡ k
 
 placed : (k : ℕ) (c : Cell) (old new : List Cell) → Placed k c old new → new ≡ put_before k c old
 placed k c old new p =
     let n = length-append p.front p.back in
-    let place : length (p.front ++ p.back) - k ≡ length p.front = omega (arith, n, p.behind) in
+    let place : length (p.front ++ p.back) - k ≡ length p.front = omega (arith, n, p.following) in
     p.new_is ∙ sym (
     ap (put_before k c) p.old_is ∙ ap (λ i. insert (p.front ++ p.back) i c) place ∙
     ap (λ xs. xs ++ c ∷ drop (length p.front) (p.front ++ p.back)) (take_at p.front p.back (length p.front) refl) ∙
@@ -147,7 +147,7 @@ own_placed x (Some o) name cell above valid own apart = record {
       ap (λ cs. own_cells x (o.cells ++ cell ∷ []) ++ cs) (fitted_as_before o name cell above (subst (λ (n : ℕ). All (λ (c : Cell). eqb c.definer n ≡ false) above) (sym own) apart)) ∙
       ap (λ cs. cs ++ map (fitted_cell o) above) (filter-append (λ (c : Cell). eqb c.definer x) o.cells (cell ∷ []) ∙ ap (λ cs. own_cells x o.cells ++ cs) mine) ∙
       append_assoc (own_cells x o.cells) (cell ∷ []) (map (fitted_cell o) above);
-  behind = length-map above (fitted_cell o);
+  following = length-map above (fitted_cell o);
 }
   where
     mine : own_cells x (cell ∷ []) ≡ cell ∷ []
@@ -163,7 +163,7 @@ below_placed z o k c above above' none p = record {
       ap (fitted_row z o) p.new_is ∙ ap (λ cs. own_cells z o.cells ++ cs) (map-append (fitted_cell o) p.front (c ∷ p.back)) ∙
       ap (λ d. own_cells z o.cells ++ (map (fitted_cell o) p.front ++ d ∷ map (fitted_cell o) p.back)) (ap (λ r. unwrap_or r (cleared o.owner c)) none) ∙
       sym (append_assoc (own_cells z o.cells) (map (fitted_cell o) p.front) (cleared o.owner c ∷ map (fitted_cell o) p.back));
-  behind = length-map p.back (fitted_cell o) ∙ p.behind;
+  following = length-map p.back (fitted_cell o) ∙ p.following;
 }
 
 own_then_cells : (name : List ℕ) (k : ℕ) (cell : Cell) (o : Option Object) → with_own_cell k name cell o ≡ with_cells (with_definition name cell o) (put_before k cell (unwrap_or o nothing).cells)

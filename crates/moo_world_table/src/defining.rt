@@ -63,24 +63,24 @@ pub fn full_in(slot: &Option<Object>) -> bool
 }
 
 /// Adds a definition with its cell to the first object of a walk, and a clear cell for it to each other one. In each
-/// row the cell comes before the `behind` cells that the first object inherits. If memory runs out, nothing changes.
+/// row the cell comes before the `following` cells that the first object inherits. If memory runs out, nothing changes.
 pub fn define_along(
     objects: &mut Vec<Option<Object>>,
     walk: &[Step],
     name: MooStr,
     cell: PropCell,
-    behind: usize,
+    following: usize,
 ) -> Result<(), AllocError>
     requires { (k : ℕ) → k < length walk.now → (step_at walk.now k).node < vec_len objects.old }
-    ensures ok { OnOk result (objects.new.items ≡ defined_along behind name cell objects.old.items (met walk.now)) }
+    ensures ok { OnOk result (objects.new.items ≡ defined_along following name cell objects.old.items (met walk.now)) }
     ensures err { OnErr result (objects.new.items ≡ objects.old.items) }
 {
     let Some((first, below)) = walk.split_first() else {
         return Ok(());
     };
-    add_clear_along(objects, below, &cell, behind)?;
-    if let Err(fault) = define_in(&mut objects[first.node], name, cell, behind) {
-        take_along(objects, below, behind);
+    add_clear_along(objects, below, &cell, following)?;
+    if let Err(fault) = define_in(&mut objects[first.node], name, cell, following) {
+        take_along(objects, below, following);
         return Err(fault);
     }
     Ok(())
@@ -91,13 +91,13 @@ fn define_in(
     slot: &mut Option<Object>,
     name: MooStr,
     cell: PropCell,
-    behind: usize,
+    following: usize,
 ) -> Result<(), AllocError>
-    ensures ok { OnOk result (slot.new ≡ with_own_cell behind name cell slot.old) }
+    ensures ok { OnOk result (slot.new ≡ with_own_cell following name cell slot.old) }
     ensures err { OnErr result (slot.new ≡ slot.old) }
 {
     match slot {
-        Some(object) => object.define(name, cell, behind),
+        Some(object) => object.define(name, cell, following),
         None => Ok(()),
     }
 }
@@ -107,49 +107,53 @@ fn add_clear_along(
     objects: &mut Vec<Option<Object>>,
     walk: &[Step],
     cell: &PropCell,
-    behind: usize,
+    following: usize,
 ) -> Result<(), AllocError>
     requires { (k : ℕ) → k < length walk.now → (step_at walk.now k).node < vec_len objects.old }
-    ensures ok { OnOk result (objects.new.items ≡ changed_along (with_clear_cell behind cell.now) objects.old.items (met walk.now)) }
+    ensures ok { OnOk result (objects.new.items ≡ changed_along (with_clear_cell following cell.now) objects.old.items (met walk.now)) }
     ensures err { OnErr result (objects.new.items ≡ objects.old.items) }
     ensures many { vec_len objects.new ≡ vec_len objects.old }
 {
     for i in 0..walk.len() {
-        if let Err(fault) = add_clear_in(&mut objects[walk[i].node], cell, behind) {
-            take_along(objects, &walk[..i], behind);
+        if let Err(fault) = add_clear_in(&mut objects[walk[i].node], cell, following) {
+            take_along(objects, &walk[..i], following);
             return Err(fault);
         }
     }
     Ok(())
 }
 
-fn add_clear_in(slot: &mut Option<Object>, cell: &PropCell, behind: usize) -> Result<(), AllocError>
-    ensures ok { OnOk result (slot.new ≡ with_clear_cell behind cell.now slot.old) }
+fn add_clear_in(
+    slot: &mut Option<Object>,
+    cell: &PropCell,
+    following: usize,
+) -> Result<(), AllocError>
+    ensures ok { OnOk result (slot.new ≡ with_clear_cell following cell.now slot.old) }
     ensures err { OnErr result (slot.new ≡ slot.old) }
 {
     match slot {
-        Some(object) => object.add_clear(cell, behind),
+        Some(object) => object.add_clear(cell, following),
         None => Ok(()),
     }
 }
 
 // Removes the cells that were added along a walk.
-fn take_along(objects: &mut Vec<Option<Object>>, walk: &[Step], behind: usize)
+fn take_along(objects: &mut Vec<Option<Object>>, walk: &[Step], following: usize)
     requires { (k : ℕ) → k < length walk.now → (step_at walk.now k).node < vec_len objects.old }
-    ensures back { (cell : Cell) (before : List (Option Contents)) → objects.old.items ≡ changed_along (with_clear_cell behind cell) before (met walk.now) → objects.new.items ≡ before }
+    ensures back { (cell : Cell) (before : List (Option Contents)) → objects.old.items ≡ changed_along (with_clear_cell following cell) before (met walk.now) → objects.new.items ≡ before }
     ensures many { vec_len objects.new ≡ vec_len objects.old }
 {
     let mut left = walk.len();
     while left > 0 {
         left -= 1;
-        take_in(&mut objects[walk[left].node], behind);
+        take_in(&mut objects[walk[left].node], following);
     }
 }
 
-fn take_in(slot: &mut Option<Object>, behind: usize)
-    ensures { slot.new ≡ without_cell_before behind slot.old }
+fn take_in(slot: &mut Option<Object>, following: usize)
+    ensures { slot.new ≡ without_cell_before following slot.old }
 {
     if let Some(object) = slot {
-        object.remove_cell(behind);
+        object.remove_cell(following);
     }
 }

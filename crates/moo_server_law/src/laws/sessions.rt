@@ -11,7 +11,7 @@ pub fn at_most_one_result()
     moo_eval::laws::at_most_one_result();
 }
 
-/// What comes of an event where some texts alone are told a fault, none of which has two, is the one result that the
+/// What comes of an event if some texts alone are told a fault, none of which has two, is the one result that the
 /// program may come to, with nothing chosen.
 #[tactic(none)]
 pub fn one_result_of_single_faults()

@@ -126,21 +126,21 @@ impl Object {
         self.cells.set_info(definer, name, owner, perms);
     }
 
-    /// Inserts a clear cell with the definition of another cell before the last `behind` cells. Out of memory nothing
+    /// Inserts a clear cell with the definition of another cell before the last `following` cells. Out of memory nothing
     /// changes.
-    pub fn add_clear(&mut self, other: &PropCell, behind: usize) -> Result<(), AllocError>
-        ensures ok { OnOk result (self.new ≡ record self.old { cells = put_before behind (cleared self.old.owner other.now) self.old.cells }) }
+    pub fn add_clear(&mut self, other: &PropCell, following: usize) -> Result<(), AllocError>
+        ensures ok { OnOk result (self.new ≡ record self.old { cells = put_before following (cleared self.old.owner other.now) self.old.cells }) }
         ensures err { OnErr result (self.new ≡ self.old) }
     {
         let cell = other.cleared(self.owner)?;
-        self.cells.insert(cell, behind)
+        self.cells.insert(cell, following)
     }
 
-    /// Removes the cell before the last `behind` cells.
-    pub fn remove_cell(&mut self, behind: usize)
-        ensures { self.new ≡ record self.old { cells = taken_before behind self.old.cells } }
+    /// Removes the cell before the last `following` cells.
+    pub fn remove_cell(&mut self, following: usize)
+        ensures { self.new ≡ record self.old { cells = taken_before following self.old.cells } }
     {
-        self.cells.remove(behind);
+        self.cells.remove(following);
     }
 
     /// Renames the cell of a definition: the first one, if there are more.

@@ -16,10 +16,10 @@ loop-script-init g c = record {
 pub loop-script-preserved : goal.loop-script-preserved
 loop-script-preserved g c =
     let before = g.I.Read.remaining c.loop-script.input in
-    let behind = g.I.Read.remaining c.next_line.new.input in
-    let takes = at_some c.in_ok-line.field-0 c.in-Some.line _ (λ line. TakesLine before behind line.items) c.in-Some.is c.in_ok-line.ensures.line in
+    let following = g.I.Read.remaining c.next_line.new.input in
+    let takes = at_some c.in_ok-line.field-0 c.in-Some.line _ (λ line. TakesLine before following line.items) c.in-Some.is c.in_ok-line.ensures.line in
     let on = went_on g.S.Application.layer c.args.script c.loop-script.script c.in-Goes.next c.loop-script.number c.in-Some.line.items c.as_slice.result.now c.in_ok-next.field-0
-    (g.I.Read.remaining c.args.input.now) before behind (g.O.Write.contents c.args.output.now) (g.O.Write.contents c.loop-script.output) (g.O.Write.contents c.play_line.new.output)
+    (g.I.Read.remaining c.args.input.now) before following (g.O.Write.contents c.args.output.now) (g.O.Write.contents c.loop-script.output) (g.O.Write.contents c.play_line.new.output)
     c.loop-script.invariant.played takes c.as_slice.ensures.value c.in-Goes.is c.in_ok-next.ensures.next in
     record {
       fits = on.0;
@@ -30,10 +30,10 @@ loop-script-preserved g c =
 pub returns-in-Stops-clause-plays : goal.returns-in-Stops-clause-plays
 returns-in-Stops-clause-plays g c =
     let before = g.I.Read.remaining c.loop-script.input in
-    let behind = g.I.Read.remaining c.next_line.new.input in
-    let takes = at_some c.in_ok-line.field-0 c.in-Some.line _ (λ line. TakesLine before behind line.items) c.in-Some.is c.in_ok-line.ensures.line in
+    let following = g.I.Read.remaining c.next_line.new.input in
+    let takes = at_some c.in_ok-line.field-0 c.in-Some.line _ (λ line. TakesLine before following line.items) c.in-Some.is c.in_ok-line.ensures.line in
     IfOk-weaker c.report_stop.result _ _ (λ status told. ended_at g.S.Application.layer c.args.script c.loop-script.script c.loop-script.number c.in-Some.line.items c.as_slice.result.now
-    c.in-Stops.stop c.in_ok-next.field-0 (g.I.Read.remaining c.args.input.now) before behind (g.O.Write.contents c.args.output.now) (g.O.Write.contents c.loop-script.output)
+    c.in-Stops.stop c.in_ok-next.field-0 (g.I.Read.remaining c.args.input.now) before following (g.O.Write.contents c.args.output.now) (g.O.Write.contents c.loop-script.output)
     (g.O.Write.contents c.play_line.new.output) (g.O.Write.contents c.report_stop.new.output) status c.loop-script.invariant.played takes c.as_slice.ensures.value c.in-Stops.is
     c.in_ok-next.ensures.next told) c.report_stop.ensures.reported
 

@@ -13,7 +13,7 @@ loop-line-preserved g c =
         done ++ line,
         Appends-trans (g.O.Write.contents c.args.output.now) (g.O.Write.contents c.loop-line.output) (g.O.Write.contents c.print_line.new.output) done line
             c.loop-line.invariant.printed.1 c.in_ok-print_line.ensures.text,
-        sent_joined c.args.c c.args.sent.now done c.loop-line.rest.now c.in-Some.line.now c.in-Some.behind.now c.loop-line.invariant.printed.2 c.in-Some.ensures.0,
+        sent_joined c.args.c c.args.sent.now done c.loop-line.rest.now c.in-Some.line.now c.in-Some.following.now c.loop-line.invariant.printed.2 c.in-Some.ensures.0,
       );
       counted = c.print_line.ensures.counted ∙ c.loop-line.invariant.counted;
     }

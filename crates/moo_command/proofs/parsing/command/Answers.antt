@@ -17,31 +17,31 @@ joined-requires c =
 
 pub joined-requires-2 : goal.joined-requires-2
 joined-requires-2 c =
-    subst (λ (ws : List (List ℕ)). length (joined (slice_range ws c.split-preposition.result.at c.split-preposition.result.behind)) < weight_limit) (sym c.deref-3.ensures.value) (
-    range_fits c.split-preposition.result.at c.split-preposition.result.behind c.args.typed.args.items c.requires
+    subst (λ (ws : List (List ℕ)). length (joined (slice_range ws c.split-preposition.result.at c.split-preposition.result.following)) < weight_limit) (sym c.deref-3.ensures.value) (
+    range_fits c.split-preposition.result.at c.split-preposition.result.following c.args.typed.args.items c.requires
     )
 
 pub joined-requires-3 : goal.joined-requires-3
 joined-requires-3 c =
-    subst (λ (ws : List (List ℕ)). length (joined (slice_range ws c.split-preposition.result.behind (length ws))) < weight_limit) (sym c.deref-4.ensures.value) (
-    range_fits c.split-preposition.result.behind (length c.args.typed.args.items) c.args.typed.args.items c.requires
+    subst (λ (ws : List (List ℕ)). length (joined (slice_range ws c.split-preposition.result.following (length ws))) < weight_limit) (sym c.deref-4.ensures.value) (
+    range_fits c.split-preposition.result.following (length c.args.typed.args.items) c.args.typed.args.items c.requires
     )
 
 pub returns : goal.returns
 returns c =
     let args : List (List ℕ) = c.args.typed.args.items in
     let at : ℕ = c.split-preposition.result.at in
-    let behind : ℕ = c.split-preposition.result.behind in
+    let following : ℕ = c.split-preposition.result.following in
     let player_fits : SFits w32 c.args.player = search rules in
     let player : to_z w32 (of_z w32 c.args.player) ≡ c.args.player = to_z-of_z w32 c.args.player player_fits in
     let direct_fits : SFits w32 c.match_object.result = search rules in
     let between_fits : SFits w32 c.number_or_none.result = search rules in
     let indirect_fits : SFits w32 c.match_object-2.result = search rules in
-    let inside : behind ≤ length args = subst (λ (ws : List (List ℕ)). behind ≤ length ws) c.deref.ensures.value c.split-preposition.ensures.inside in
+    let inside : following ≤ length args = subst (λ (ws : List (List ℕ)). following ≤ length ws) c.deref.ensures.value c.split-preposition.ensures.inside in
     same_command c.args.world.now c.args.player c.args.typed.verb c.args.typed.rest args c.split-preposition.result _ _ _ _ _ _
     (c.in_ok-dobjstr.ensures ∙ ap (λ (ws : List (List ℕ)). joined (take at ws)) c.deref-2.ensures.value)
-    (c.in_ok-prepstr.ensures ∙ ap (λ (ws : List (List ℕ)). joined (slice_range ws at behind)) c.deref-3.ensures.value)
-    (c.in_ok-iobjstr.ensures ∙ ap (λ (ws : List (List ℕ)). joined (slice_range ws behind (length ws))) c.deref-4.ensures.value ∙ ap joined (rest_whole args behind inside))
+    (c.in_ok-prepstr.ensures ∙ ap (λ (ws : List (List ℕ)). joined (slice_range ws at following)) c.deref-3.ensures.value)
+    (c.in_ok-iobjstr.ensures ∙ ap (λ (ws : List (List ℕ)). joined (slice_range ws following (length ws))) c.deref-4.ensures.value ∙ ap joined (rest_whole args following inside))
     (to_z-of_z w32 c.match_object.result direct_fits ∙ c.match_object.ensures ∙ ap (matched c.args.world.now (to_z w32 (of_z w32 c.args.player))) c.as_bytes.ensures.value
     ∙ ap (λ o. matched c.args.world.now o c.in_ok-dobjstr.dobjstr) player)
     (to_z-of_z w32 c.number_or_none.result between_fits ∙ c.number_or_none.ensures)

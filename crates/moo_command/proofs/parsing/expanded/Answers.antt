@@ -32,7 +32,7 @@ returns-clause-split c =
     let bytes : List ℕ = c.as_bytes-bytes.result.now in
     let at : ℕ = c.skip_blanks-at.result in
     let whole = rest_whole bytes at c.skip_blanks-at.ensures.inside in
-    let inside : at < length bytes = omega (arith, c.in-Some.ensures.behind, ap length whole, length-drop at bytes) in
+    let inside : at < length bytes = omega (arith, c.in-Some.ensures.following, ap length whole, length-drop at bytes) in
     let leads : verb_leading (drop at bytes) ≡ Some c.in-Some.verb.now = sym (ap verb_leading whole) ∙ sym c.in-Some.ensures.value in
     all_then c.typed_behind.result _ _ _ _ (λ t verb kept others.
     subst (λ (v : List ℕ). IsTyped (expanded c.args.typed.line) v t.rest t.args.items) (sym (verb ∙ c.in_ok-verb.ensures)) (

@@ -10,7 +10,7 @@ loop-at-init c =
 pub loop-at-preserved : goal.loop-at-preserved
 loop-at-preserved c =
     rw c.in_ok-push.ensures.items (
-    word_listed c.args.line.now c.args.«from» c.loop-at.at c.in_ok-word.behind c.skip_blanks-at-in-loop-at.result c.loop-at.words.items c.in_ok-word.word
+    word_listed c.args.line.now c.args.«from» c.loop-at.at c.in_ok-word.following c.skip_blanks-at-in-loop-at.result c.loop-at.words.items c.in_ok-word.word
     c.loop-at.invariant c.loop-at-test.true c.in_ok-word.ensures.word c.skip_blanks-at-in-loop-at.ensures.rest c.skip_blanks-at-in-loop-at.ensures.inside
     )
 

@@ -22,15 +22,15 @@ returns-clause-some c =
     let same : bytes ≡ c.args.line.now = c.as_bytes-bytes.ensures.value in
     let inside : at < length bytes = omega (arith, c.skip_blanks-at.ensures.inside, c.if-at-bytes.false) in
     let starts : BeginsWord (unindented bytes) = word_starts bytes at c.skip_blanks-at.ensures.rest inside in
-    let first : Word false (unindented bytes) c.in_ok-typed.typed.verb (drop c.in_ok-verb.behind bytes) =
+    let first : Word false (unindented bytes) c.in_ok-typed.typed.verb (drop c.in_ok-verb.following bytes) =
     rw c.in_ok-typed.ensures.verb (
-    subst (λ (ts : List ℕ). Word false ts c.in_ok-verb.verb (drop c.in_ok-verb.behind bytes)) c.skip_blanks-at.ensures.rest c.in_ok-verb.ensures.word
+    subst (λ (ts : List ℕ). Word false ts c.in_ok-verb.verb (drop c.in_ok-verb.following bytes)) c.skip_blanks-at.ensures.rest c.in_ok-verb.ensures.word
     )
     in
     record {
-      behind = drop c.in_ok-verb.behind c.args.line.now;
+      following = drop c.in_ok-verb.following c.args.line.now;
       begins = subst (λ (ts : List ℕ). BeginsWord (unindented ts)) same starts;
-      first = subst (λ (ts : List ℕ). Word false (unindented ts) c.in_ok-typed.typed.verb (drop c.in_ok-verb.behind ts)) same first;
+      first = subst (λ (ts : List ℕ). Word false (unindented ts) c.in_ok-typed.typed.verb (drop c.in_ok-verb.following ts)) same first;
       kept = c.in_ok-typed.ensures.rest;
       others = c.in_ok-typed.ensures.args;
     }

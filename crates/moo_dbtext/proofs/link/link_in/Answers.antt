@@ -1,7 +1,7 @@
 use Rattle.std.proofs.Common.{ap, sym, ◌∙◌, arith}
 use Rattle.std.specs.List.{slice_get}
 use Rattle.moo_world_tree.specs.Forest.{above_of, below_of}
-use Rattle.moo_dbtext.proofs.Behinds.{first_inside, next_inside, first_got}
+use Rattle.moo_dbtext.proofs.NextNumbers.{first_inside, next_inside, first_got}
 use Rattle.moo_dbtext.proofs.link.link_in.Goals as goal
 
 pub place_number-requires-2 : goal.place_number-requires-2

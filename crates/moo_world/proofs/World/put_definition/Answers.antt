@@ -24,8 +24,8 @@ invariant_of-self-2 c =
     let valid = subst (λ v. IsSome (object_of v.objects c.args.x)) (sym c.self.view_is) c.requires.object in
     let d = subst (λ v. IsDefinable v c.args.x c.args.name c.args.cell) (sym c.self.view_is) c.requires.allowed in
     let wd = subst (λ v. IsWalkDown v.inheritance c.args.x c.args.walk.now) (sym c.self.view_is) c.requires.walk in
-    let behind : length c.cells_of-behind.result.now ≡ length (cells_of w.objects (above_of w.inheritance c.args.x)) = ap length (c.cells_of-behind.ensures ∙ ap (cells_of c.deref.result.now) c.above.ensures.value ∙ ap (λ os. cells_of os (above_of w.inheritance c.args.x)) c.deref.ensures.value) in
-    let put = c.in_ok-define_along.ensures.ok ∙ ap (λ k. defined_along k c.args.name c.args.cell w.objects (met c.args.walk.now)) behind ∙ defined_is w c.args.x c.args.name c.args.cell c.self.invariant.formed valid d c.args.walk.now wd in
+    let following : length c.cells_of-following.result.now ≡ length (cells_of w.objects (above_of w.inheritance c.args.x)) = ap length (c.cells_of-following.ensures ∙ ap (cells_of c.deref.result.now) c.above.ensures.value ∙ ap (λ os. cells_of os (above_of w.inheritance c.args.x)) c.deref.ensures.value) in
+    let put = c.in_ok-define_along.ensures.ok ∙ ap (λ k. defined_along k c.args.name c.args.cell w.objects (met c.args.walk.now)) following ∙ defined_is w c.args.x c.args.name c.args.cell c.self.invariant.formed valid d c.args.walk.now wd in
     rw put (record { formed = defined_well_formed w c.args.x c.args.name c.args.cell c.self.invariant.formed valid d; counted = c.self.invariant.counted ∙ sym (programs_defined w.objects w.inheritance c.args.x c.args.name c.args.cell (valid_within w.objects c.args.x valid)) })
 
 pub returns : goal.returns
@@ -34,6 +34,6 @@ returns c =
     let valid = subst (λ v. IsSome (object_of v.objects c.args.x)) (sym c.self.view_is) c.requires.object in
     let d = subst (λ v. IsDefinable v c.args.x c.args.name c.args.cell) (sym c.self.view_is) c.requires.allowed in
     let wd = subst (λ v. IsWalkDown v.inheritance c.args.x c.args.walk.now) (sym c.self.view_is) c.requires.walk in
-    let behind : length c.cells_of-behind.result.now ≡ length (cells_of w.objects (above_of w.inheritance c.args.x)) = ap length (c.cells_of-behind.ensures ∙ ap (cells_of c.deref.result.now) c.above.ensures.value ∙ ap (λ os. cells_of os (above_of w.inheritance c.args.x)) c.deref.ensures.value) in
-    let put = c.in_ok-define_along.ensures.ok ∙ ap (λ k. defined_along k c.args.name c.args.cell w.objects (met c.args.walk.now)) behind ∙ defined_is w c.args.x c.args.name c.args.cell c.self.invariant.formed valid d c.args.walk.now wd in
+    let following : length c.cells_of-following.result.now ≡ length (cells_of w.objects (above_of w.inheritance c.args.x)) = ap length (c.cells_of-following.ensures ∙ ap (cells_of c.deref.result.now) c.above.ensures.value ∙ ap (λ os. cells_of os (above_of w.inheritance c.args.x)) c.deref.ensures.value) in
+    let put = c.in_ok-define_along.ensures.ok ∙ ap (λ k. defined_along k c.args.name c.args.cell w.objects (met c.args.walk.now)) following ∙ defined_is w c.args.x c.args.name c.args.cell c.self.invariant.formed valid d c.args.walk.now wd in
     (refl, (rw put (ap (λ v. after_define v c.args.x c.args.name c.args.cell) c.self.view_is)))

@@ -19,7 +19,7 @@ loop-i-preserved c =
     let i = c.loop-i.i in
     let inside = c.requires i c.loop-i-test.true in
     record {
-      done = step_along (with_clear_cell c.args.behind c.args.cell.now) c.args.objects.now.items c.loop-i.objects.items c.args.walk.now i c.index_mut.result.now c.add_clear_in.new.slot c.loop-i-test.true
+      done = step_along (with_clear_cell c.args.following c.args.cell.now) c.args.objects.now.items c.loop-i.objects.items c.args.walk.now i c.index_mut.result.now c.add_clear_in.new.slot c.loop-i-test.true
           (omega (arith, inside, c.loop-i.invariant.many, c.loop-i.objects.ok.0)) c.loop-i.invariant.done c.index_mut.ensures.value c.in_default.ensures.ok;
       many = c.loop-i.invariant.many;
     }

@@ -6,6 +6,6 @@ use Rattle.moo_world_table.proofs.defining.add_clear_along.Given as goal
 
 abbrev pub invariant-loop-i : goal.invariant-loop-i
 invariant-loop-i l = record {
-  done : l.objects.items ≡ changed_along (with_clear_cell l.behind l.cell) l.initial.objects.items (met (take l.i l.walk));
+  done : l.objects.items ≡ changed_along (with_clear_cell l.following l.cell) l.initial.objects.items (met (take l.i l.walk));
   many : vec_len l.objects ≡ vec_len l.initial.objects;
 }

@@ -8,8 +8,8 @@ use Rattle.moo_world_table.proofs.defining.take_along.Given as goal
 
 abbrev pub invariant-loop-left : goal.invariant-loop-left
 invariant-loop-left l = record {
-  back : (cell : Cell) (before : List (Option Object)) → l.initial.objects.items ≡ changed_along (with_clear_cell l.behind cell) before (met l.walk) →
-      l.objects.items ≡ changed_along (with_clear_cell l.behind cell) before (met (take l.left l.walk));
+  back : (cell : Cell) (before : List (Option Object)) → l.initial.objects.items ≡ changed_along (with_clear_cell l.following cell) before (met l.walk) →
+      l.objects.items ≡ changed_along (with_clear_cell l.following cell) before (met (take l.left l.walk));
   few : l.left ≤ length l.walk;
   many : vec_len l.objects ≡ vec_len l.initial.objects;
 }

@@ -5,7 +5,7 @@ use Rattle.moo_cli_script.proofs.script.Script.take.Goals as goal
 pub returns-in-Ok-clause-takes : goal.returns-in-Ok-clause-takes
 returns-in-Ok-clause-takes g c =
     taken g.S.Application.layer c.args.event c.args.self.now _ c.run.result c.in-Ok.field-0 (c.args.event ∷ []) c.run.ensures.ran refl c.in-Ok.is c.in-Ok.ensures.all.0 c.in-Ok.ensures.all.1
-    c.in-Ok.ensures.still c.top_behind-top.ensures.behind
+    c.in-Ok.ensures.still c.top_behind-top.ensures.following
 
 pub returns-in-Ok-clause-fits : goal.returns-in-Ok-clause-fits
 returns-in-Ok-clause-fits g c =

@@ -11,5 +11,5 @@ returns-in_err-self-clause-taken c = λ bytes h.
 
 pub returns-clause-taken : goal.returns-clause-taken
 returns-clause-taken c = λ bytes h.
-    let behind = read_well c.args.self.now bytes c.in_ok-self.was h in
-    read_kept c.feed_lines-self.result c.feed_lines-self.new.sink _ (fed_whole ReadsOn reads_join reads_stop c.args.self.now c.feed_lines-self.new.sink c.args.piece.now c.feed_lines-self.result c.feed_lines-self.ensures bytes behind)
+    let following = read_well c.args.self.now bytes c.in_ok-self.was h in
+    read_kept c.feed_lines-self.result c.feed_lines-self.new.sink _ (fed_whole ReadsOn reads_join reads_stop c.args.self.now c.feed_lines-self.new.sink c.args.piece.now c.feed_lines-self.result c.feed_lines-self.ensures bytes following)

@@ -9,5 +9,5 @@ returns-in_err-self-clause-taken c = λ bytes h.
 
 pub returns-clause-taken : goal.returns-clause-taken
 returns-clause-taken c = λ bytes h.
-    let behind = read_well c.args.self.now bytes c.in_ok-self.was h in
-    read_kept c.take_line-self.result c.take_line-self.new.self _ (c.take_line-self.ensures bytes behind)
+    let following = read_well c.args.self.now bytes c.in_ok-self.was h in
+    read_kept c.take_line-self.result c.take_line-self.new.self _ (c.take_line-self.ensures bytes following)

@@ -1,8 +1,8 @@
 use Rattle.std.proofs.Common.{◌++◌, ◌∷◌, ◌<◌, [], refl, sym, ◌∙◌, ap, subst, append_assoc, append-nil, length, arith}
 use Rattle.std.specs.List.{All}
 use Rattle.std.proofs.lemmas.List.{length-set}
-use Rattle.moo_dbtext.proofs.Behinds.{among, put_one}
-use Rattle.moo_dbtext.proofs.behind.put_behind.Goals as goal
+use Rattle.moo_dbtext.proofs.NextNumbers.{among, put_one}
+use Rattle.moo_dbtext.proofs.nexts.put_next.Goals as goal
 
 pub loop-x-init : goal.loop-x-init
 loop-x-init c = ([], append-nil c.args.list, refl, refl, λ y. refl)
@@ -18,6 +18,6 @@ loop-x-preserved c =
       x ∷ done,
       whole,
       refl,
-      length-set at.next x at.behind ∙ at.invariant.3,
-      put_one at.next c.args.next.now at.behind x done (omega (arith, low, at.invariant.3)) at.invariant.2 at.invariant.4,
+      length-set at.next x at.following ∙ at.invariant.3,
+      put_one at.next c.args.next.now at.following x done (omega (arith, low, at.invariant.3)) at.invariant.2 at.invariant.4,
     )

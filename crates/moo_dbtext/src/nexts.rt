@@ -2,7 +2,7 @@
 
 ghost use Rattle.std.specs.Prelude.{◌≡◌, ◌<◌, ℕ, length, IfOk, None, slice_index_or};
 ghost use Rattle.std.specs.List.{All};
-ghost use Rattle.moo_dbtext.specs.Behind.{next_or, AreNexts};
+ghost use Rattle.moo_dbtext.specs.Nexts.{next_or, AreNexts};
 
 use moo_world_tree::{Below, Forest};
 use std::alloc::{AllocError, Global};
@@ -23,19 +23,19 @@ fn put_nexts(tree: &Forest, next: &mut [Option<usize>])
 {
     tree.is_forest();
     for x in 0..tree.len() {
-        put_behind(tree.below(x), next);
+        put_next(tree.below(x), next);
     }
 }
 
 // Stores for each number of a list the next one.
-fn put_behind(list: Below<'_>, next: &mut [Option<usize>])
+fn put_next(list: Below<'_>, next: &mut [Option<usize>])
     requires { All (λ y. y < length next.old) list }
     ensures { (y : ℕ) → slice_index_or next.new y None ≡ next_or list.entry (slice_index_or next.old y None) y }
 {
     let mut left = list;
-    let mut behind = None;
+    let mut following = None;
     while let Some(x) = left.take_last() {
-        next[x] = behind;
-        behind = Some(x);
+        next[x] = following;
+        following = Some(x);
     }
 }

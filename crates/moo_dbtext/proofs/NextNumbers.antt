@@ -7,7 +7,7 @@ use Rattle.std.proofs.lemmas.List.Elements.{All-head, All-tail}
 use Rattle.moo_world_tree.specs.Forest.{Links, alone, above_of, below_of, times_below, IsForest}
 use Rattle.moo_world_tree.proofs.Counting.{count-cons}
 use Rattle.moo_dbtext_restore.specs.Recorded.{first_in, next_in, next_below}
-use Rattle.moo_dbtext.specs.Behind.{next_or}
+use Rattle.moo_dbtext.specs.Nexts.{next_or}
 
 -- the number after y in the list of the number above it, if that is below n
 abbrev pub next_until : List Links → ℕ → Option ℕ → ℕ → Option ℕ
@@ -150,11 +150,11 @@ among n [] done x all = All-head (λ y. y < n) x done all
 among n (z ∷ left) done x all = among n left done x (All-tail (λ y. y < n) z (left ++ x ∷ done) all)
 
 -- the numbers after those of one list more are stored
-pub put_one : (next old : List (Option ℕ)) (behind : Option ℕ) (x : ℕ) (done : List ℕ) → x < length next → behind ≡ first_in done →
-    ((y : ℕ) → get_or next y None ≡ next_or done (get_or old y None) y) → (y : ℕ) → get_or (set next x behind) y None ≡ next_or (x ∷ done) (get_or old y None) y
-put_one next old behind x done low is each y = ⊎_elim
-    (λ e. rw e (ap (λ k. get_or (set next x behind) k None) (sym (eqb-true x y e)) ∙ get_or-set_same next x behind None low ∙ is))
-    (λ e. rw e (get_or-set_other next x y behind None (λ same. eqb-false x y e (sym same)) ∙ each y))
+pub put_one : (next old : List (Option ℕ)) (following : Option ℕ) (x : ℕ) (done : List ℕ) → x < length next → following ≡ first_in done →
+    ((y : ℕ) → get_or next y None ≡ next_or done (get_or old y None) y) → (y : ℕ) → get_or (set next x following) y None ≡ next_or (x ∷ done) (get_or old y None) y
+put_one next old following x done low is each y = ⊎_elim
+    (λ e. rw e (ap (λ k. get_or (set next x following) k None) (sym (eqb-true x y e)) ∙ get_or-set_same next x following None low ∙ is))
+    (λ e. rw e (get_or-set_other next x y following None (λ same. eqb-false x y e (sym same)) ∙ each y))
     (cases_Bool (eqb x y))
 
 pub first_got : (ys : List ℕ) → slice_get ys 0 ≡ first_in ys

@@ -35,7 +35,7 @@ pub keeps_still : {D : Type 0} (kind : DiskKind D) (disk : D) → Keeps kind dis
 keeps_still kind disk = record {
   main = λ h. record { text = refl; crash = gains_none NoText (kind.view disk) };
   spare = λ h. record { text = refl; stable = λ s. s };
-  stands = λ s. s;
+  has_spare = λ s. s;
   honest = (λ h. h, λ h. h);
 }
 
@@ -43,7 +43,7 @@ pub keeps_then : {D : Type 0} (kind : DiskKind D) (old mid new : D) → Keeps ki
 keeps_then kind old mid new h k = record {
   main = λ is. main_then (kind.view old) (kind.view mid) (kind.view new) (h.main is) (k.main (h.honest.0 is));
   spare = λ is. record { text = (k.spare (h.honest.0 is)).text ∙ (h.spare is).text; stable = λ s. (k.spare (h.honest.0 is)).stable ((h.spare is).stable s) };
-  stands = λ s. k.stands (h.stands s);
+  has_spare = λ s. k.has_spare (h.has_spare s);
   honest = (λ is. k.honest.0 (h.honest.0 is), λ is. h.honest.1 (k.honest.1 is));
 }
 

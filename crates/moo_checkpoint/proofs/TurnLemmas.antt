@@ -23,16 +23,16 @@ fresh_turns checkpoint fresh =
 
 -- a disk that shows what another one does, continues if that one does
 pub continues_like : {D E : Type 0} (kind : DiskKind D) (kind' : DiskKind E) (checkpoint : Checkpoint) (disk : D) (disk' : E)
-    → kind'.view disk' ≡ kind.view disk → (kind'.honest disk' → kind.honest disk) → (kind.stands disk → kind'.stands disk')
+    → kind'.view disk' ≡ kind.view disk → (kind'.honest disk' → kind.honest disk) → (kind.has_spare disk → kind'.has_spare disk')
     → Continues kind checkpoint disk → Continues kind' checkpoint disk'
 unfolding Continues
-continues_like kind kind' checkpoint disk disk' same honest stands = like checkpoint.stage
+continues_like kind kind' checkpoint disk disk' same honest has_spare = like checkpoint.stage
   where
     like : (stage : Stage) → IsReady kind stage checkpoint.text.items checkpoint.written disk
         → IsReady kind' stage checkpoint.text.items checkpoint.written disk'
     like Create ready = tt
-    like Fill ready = (stands ready.0, λ h. ap (λ (v : DiskView). v.spare) same ∙ ready.1 (honest h))
-    like Rename ready = (stands ready.0, λ h. ap (λ (v : DiskView). v.spare) same ∙ ready.1 (honest h), λ h. ap (λ (v : DiskView). v.stable) same ∙ ready.2 (honest h))
+    like Fill ready = (has_spare ready.0, λ h. ap (λ (v : DiskView). v.spare) same ∙ ready.1 (honest h))
+    like Rename ready = (has_spare ready.0, λ h. ap (λ (v : DiskView). v.spare) same ∙ ready.1 (honest h), λ h. ap (λ (v : DiskView). v.stable) same ∙ ready.2 (honest h))
     like SyncNames ready = λ h. ap (λ (v : DiskView). v.main_text) same ∙ ready (honest h)
 
 pub record Comes {D : Type 0} (kind : DiskKind D) (old new : Checkpoint) (before after : D) (n : ℕ) : Type 0 where

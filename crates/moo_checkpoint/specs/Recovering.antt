@@ -13,7 +13,7 @@ use Rattle.moo_checkpoint.specs.declared.open_fault.OpenFault.TheVariants.{Devic
 pub record Keeps {D : Type 0} (kind : DiskKind D) (old new : D) : Type 0 where
   pub main : kind.honest old → KeepsMain (kind.view old) (kind.view new)
   pub spare : kind.honest old → KeepsSpare (kind.view old) (kind.view new)
-  pub stands : kind.stands old → kind.stands new
+  pub has_spare : kind.has_spare old → kind.has_spare new
   pub honest : kind.honest old ↔ kind.honest new
 
 -- If the device of an honest disk is reported, the count of failures has risen. If anything else is reported, it

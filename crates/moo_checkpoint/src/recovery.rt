@@ -129,7 +129,7 @@ pub fn recover<D: Disk>(alloc: Global, disk: &mut D) -> Result<Saved, OpenFault>
     ensures few { D.kind.honest disk.old → ReadsBelow D.kind 65536 (length (D.kind.view disk.old).main_text + 1) disk.old disk.new }
     ensures main { D.kind.honest disk.old → KeepsMain (D.kind.view disk.old) (D.kind.view disk.new) }
     ensures spare { D.kind.honest disk.old → KeepsSpare (D.kind.view disk.old) (D.kind.view disk.new) }
-    ensures stands { D.kind.stands disk.old → D.kind.stands disk.new }
+    ensures has_spare { D.kind.has_spare disk.old → D.kind.has_spare disk.new }
     ensures honest { D.kind.honest disk.old ↔ D.kind.honest disk.new }
 {
     recover_all(alloc, disk)

@@ -15,7 +15,7 @@ impl Disk for Boastful {
     ghost kind = { record {
       view = λ _. record { main_text = []; spare = None; stable = false; may_leave = λ _. ⊥; clock = 0; left_since = λ _ _. ⊥ };
       honest = λ _. ⊥;
-      stands = λ _. Unit {0};
+      has_spare = λ _. Unit {0};
       failures = λ _. 0;
       made = λ _ _ _. Unit {0};
     } };

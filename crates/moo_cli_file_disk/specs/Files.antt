@@ -37,7 +37,7 @@ abbrev pub file_kind : {F File Dir : Type 0} → DiskKind (FileDisk F File Dir)
 file_kind = record {
   view = λ disk. no_view;
   honest = λ disk. ⊥;
-  stands = λ disk. IsSome disk.writing;
+  has_spare = λ disk. IsSome disk.writing;
   failures = λ disk. disk.failures;
   made = λ call old new. CountsLast (has_failed new) old.failures new.failures;
 }

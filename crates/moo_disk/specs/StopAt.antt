@@ -42,7 +42,7 @@ abbrev pub stopping_kind : DiskKind StopAt
 stopping_kind = record {
   view = view_of;
   honest = λ stopping. Unit {0};
-  stands = λ stopping. IsSome (view_of stopping).spare;
+  has_spare = λ stopping. IsSome (view_of stopping).spare;
   failures = failures_of;
   made = λ call old new. left_of new ≡ left_of old - 1;
 }

@@ -43,6 +43,6 @@ pub fn a_failing_disk_keeps_what_it_had<D: Disk>()
         → KeepsSpare ((failing_kind D.kind).view old) ((failing_kind D.kind).view new) }
     ensures honest { (old new : FailAt D) → inner_of new ≡ inner_of old
         → (failing_kind D.kind).honest old ↔ (failing_kind D.kind).honest new }
-    ensures stands { (old new : FailAt D) → inner_of new ≡ inner_of old
-        → (failing_kind D.kind).stands old ↔ (failing_kind D.kind).stands new }
+    ensures has_spare { (old new : FailAt D) → inner_of new ≡ inner_of old
+        → (failing_kind D.kind).has_spare old ↔ (failing_kind D.kind).has_spare new }
 {}

@@ -113,7 +113,7 @@ impl Disk for StopAt {
     ghost kind = { stopping_kind };
 
     fn create_spare(&mut self) -> Result<(), DiskFault>
-        ensures stands { OnOk result (IsSome (view_of self.new).spare) }
+        ensures has_spare { OnOk result (IsSome (view_of self.new).spare) }
         ensures created { OnOk result ((view_of self.new).spare ≡ Some []) }
         ensures main { KeepsMain (view_of self.old) (view_of self.new) }
         ensures fault { Counts (failures_of self.old) (failures_of self.new) result }
@@ -129,7 +129,7 @@ impl Disk for StopAt {
     }
 
     fn append(&mut self, bytes: &[u8]) -> Result<(), DiskFault>
-        ensures stands { IsSome (view_of self.old).spare → IsSome (view_of self.new).spare }
+        ensures has_spare { IsSome (view_of self.old).spare → IsSome (view_of self.new).spare }
         ensures grown { OnOk result ((view_of self.new).spare
             ≡ option_map (λ text. text ++ bytes.now) (view_of self.old).spare) }
         ensures main { KeepsMain (view_of self.old) (view_of self.new) }
@@ -154,7 +154,7 @@ impl Disk for StopAt {
     }
 
     fn sync_spare(&mut self) -> Result<(), DiskFault>
-        ensures stands { IsSome (view_of self.old).spare → IsSome (view_of self.new).spare }
+        ensures has_spare { IsSome (view_of self.old).spare → IsSome (view_of self.new).spare }
         ensures stable { OnOk result ((view_of self.new).stable ≡ true) }
         ensures spare { (view_of self.new).spare ≡ (view_of self.old).spare }
         ensures main { KeepsMain (view_of self.old) (view_of self.new) }

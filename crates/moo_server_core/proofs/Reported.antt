@@ -20,10 +20,10 @@ on_ok_map (Err e) f p = p
 
 -- a disk that shows what another one does goes on if that one does
 pub follows_like : {D E : Type 0} (kind : DiskKind D) (kind' : DiskKind E) (writing : Option Open) (disk : D) (disk' : E)
-    → kind'.view disk' ≡ kind.view disk → (kind'.honest disk' → kind.honest disk) → (kind.stands disk → kind'.stands disk')
+    → kind'.view disk' ≡ kind.view disk → (kind'.honest disk' → kind.honest disk) → (kind.has_spare disk → kind'.has_spare disk')
     → OpenFollows kind writing disk → OpenFollows kind' writing disk'
-follows_like kind kind' None disk disk' same honest stands follows = tt
-follows_like kind kind' (Some o) disk disk' same honest stands follows = continues_like kind kind' o.checkpoint disk disk' same honest stands follows
+follows_like kind kind' None disk disk' same honest has_spare follows = tt
+follows_like kind kind' (Some o) disk disk' same honest has_spare follows = continues_like kind kind' o.checkpoint disk disk' same honest has_spare follows
 
 some_is : {r s : Report} → Some r ≡ Some s → r ≡ s
 some_is is = cc

@@ -37,7 +37,7 @@ abbrev pub lent : {D E : Type 0} → DiskKind D → DiskKind E → DiskKind (Len
 lent kind kind' = record {
   view = lent_view kind.view kind'.view;
   honest = lent_fact kind.honest kind'.honest;
-  stands = lent_fact kind.stands kind'.stands;
+  has_spare = lent_fact kind.has_spare kind'.has_spare;
   failures = lent_count kind.failures kind'.failures;
   made = lent_made kind.made kind'.made;
 }

@@ -18,6 +18,6 @@ pub returns-clause-honest : goal.returns-clause-honest
 returns-clause-honest g c = λ old new same.
     (λ is. subst g.D.Disk.kind.honest (sym same) is, λ is. subst g.D.Disk.kind.honest same is)
 
-pub returns-clause-stands : goal.returns-clause-stands
-returns-clause-stands g c = λ old new same.
-    (λ is. subst g.D.Disk.kind.stands (sym same) is, λ is. subst g.D.Disk.kind.stands same is)
+pub returns-clause-has_spare : goal.returns-clause-has_spare
+returns-clause-has_spare g c = λ old new same.
+    (λ is. subst g.D.Disk.kind.has_spare (sym same) is, λ is. subst g.D.Disk.kind.has_spare same is)

@@ -4,7 +4,7 @@ use moo_checkpoint::recover;
 use moo_disk::{Disk, DiskFault};
 use std::test::Fail;
 
-/// A disk that tells of more bytes than were asked for, and promises nothing.
+/// A disk that reports more bytes than were asked for, and promises nothing.
 #[derive(Drop)]
 struct Boastful;
 

@@ -35,7 +35,7 @@ pub(crate) fn with_line(
     Ok(out)
 }
 
-/// The text of what was read, or the line that tells why nothing was.
+/// The text of what was read, or the line that says why nothing was.
 pub(crate) fn read_as(alloc: Global, answer: Result<Saved, DbFault>) -> Result<Vec<u8>, Fail> {
     match answer {
         Ok(saved) => Ok(write_db(alloc, &saved)?),
@@ -43,7 +43,7 @@ pub(crate) fn read_as(alloc: Global, answer: Result<Saved, DbFault>) -> Result<V
     }
 }
 
-/// The text of what was recovered, or what is told in its place.
+/// The text of what was recovered, or what is reported in its place.
 pub(crate) fn recovered_as(
     alloc: Global,
     answer: Result<Saved, OpenFault>,

@@ -4,7 +4,7 @@ use moo_disk::{CrashDisk, Disk, MemoryDisk, Place, StopAt};
 use std::alloc::Global;
 use std::test::Fail;
 
-/// Each word is put over main, without a sync of the names: behind `+` as a spare that is synced, behind `-` as one that is
+/// Each word is put over main, without a sync of the names: after `+` as a spare that is synced, after `-` as one that is
 /// synced before its text comes. `!` syncs the names.
 fn put_all(disk: &mut MemoryDisk, words: &str) -> Result<(), Fail> {
     for word in words.split_whitespace() {
@@ -41,7 +41,7 @@ fn left<D: CrashDisk + Drop>(disk: D, i: usize) -> Option<D> {
     disk.crash(i).ok()
 }
 
-/// Puts the i-th text that a crash may leave behind the others, with `|` behind it; answers whether there is one.
+/// Appends the i-th text that a crash may leave, and `|`; answers whether there is one.
 fn push_image(images: &mut Vec<u8>, disk: MemoryDisk, i: usize) -> Result<bool, Fail> {
     let Some(left) = left(disk, i) else {
         return Ok(false);
@@ -51,7 +51,7 @@ fn push_image(images: &mut Vec<u8>, disk: MemoryDisk, i: usize) -> Result<bool, 
     Ok(left.image_count() == 1)
 }
 
-/// The texts that a crash may leave, each with `|` behind it.
+/// The texts that a crash may leave, each with `|` after it.
 fn images(alloc: Global, words: &str) -> Result<Vec<u8>, Fail> {
     let mut images = Vec::new(alloc);
     for i in 0..9 {

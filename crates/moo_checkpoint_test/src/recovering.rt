@@ -10,7 +10,7 @@ fn disk_with(alloc: Global, text: &[u8]) -> Result<MemoryDisk, Fail> {
     Ok(MemoryDisk::new(alloc, copy_of(alloc, text)?))
 }
 
-/// Each row replaces a line of the first database, and says what is told of the disk that holds it.
+/// Each row replaces a line of the first database, and says what is reported of the disk that holds it.
 const REFUSED: [(usize, &[u8], &str); 6] = [
     (
         1,

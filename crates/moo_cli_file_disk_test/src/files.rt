@@ -109,7 +109,7 @@ fn a_spare_may_be_read_by_whom_main_may(rt: HostRuntime) -> Result<(), Fail> {
     Ok(fs::remove_file(&rt, "secret.db")?)
 }
 
-// The first two calls fail, and the first is told by the file's name.
+// The first two calls fail, and the first is reported with the file's name.
 fn are_counted_and_told(disk: &mut FileDisk<HostRuntime>) -> Result<(), Fail> {
     let mut buffer = [0u8; 8];
     let is_refused = disk.read_main(0, &mut buffer).is_err();

@@ -19,7 +19,7 @@ kept_appends (Some x) (Some y) keeps = keeps ∙ sym (append-nil x)
 pub not_grown : (watch : Watch) (known : Option (List ℕ)) → HasGrown watch known known
 not_grown watch known = inr ([], Appends-nil known)
 
--- behind what was printed
+-- after what was printed
 pub grown_silent : (watch : Watch) (old mid new : Option (List ℕ)) (own : List ℕ) → Appends old mid own → IsSilent watch mid new → HasGrown watch old new
 grown_silent watch old mid new own grows (inl failed) = inl failed
 grown_silent watch old mid new own grows (inr keeps) = inr (own ++ [], Appends-trans old mid new own [] grows (kept_appends mid new keeps))

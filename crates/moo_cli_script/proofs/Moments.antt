@@ -1,4 +1,4 @@
--- The moment at which a server stands behind an event.
+-- The moment of a server after an event.
 use Rattle.std.proofs.Common.{◌≡◌, List, [], ◌∷◌, map, Option, Some, None, true, false, refl, ◌∙◌, ap, subst}
 use Rattle.std.specs.Prelude.{◌&&◌, not, MatchBool, Ok}
 use Rattle.moo_disk.specs.Disk.{DiskKind}

@@ -148,7 +148,7 @@ module _ {S Application : Type 0} (l : Layer S Application Saved) where
     Appends-trans old mid new played.own text played.grown grows,
   )
 
-  -- ---- by what comes behind a line
+  -- ---- by what comes after a line
 
   pub went_on : (start now next : Script S) (count : ℕ) (line given : List ℕ) (n : Next S) (first rest after old mid new : Option (List ℕ))
       → HasPlayed start now count first rest old mid → TakesLine rest after line → given ≡ line → n ≡ Goes next → IsNext l now given mid new n

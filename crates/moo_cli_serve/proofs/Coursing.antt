@@ -266,7 +266,7 @@ module _ {S Application : Type 0} (l : Layer S Application Saved) where
               ∙ ap (λ (es : List (Entry Saved)). (waiting_of l before).logged ++ (out_of es).logged) (sym both.1);
         }
 
-    -- what waits behind one event
+    -- what waits after one event
     sent_one : (c : ℕ) (waits : List ℕ) (event : seen.Event) (entries : List (Entry Saved)) → map (λ entry. entry.event) entries ≡ event ∷ []
         → sent_after c waits entries ≡ (if hangs_up c event then [] else waits ++ (out_of entries).sent c)
     sent_one c waits event [] is = absurd (omega (arith, ap (λ (es : List seen.Event). length es) is))

@@ -24,7 +24,7 @@ prints_more old mid new before after first last (inl failed) remembers more = in
 prints_more old mid new before after first last (inr grows) remembers (inl failed) = inl failed
 prints_more old mid new before after first last (inr grows) remembers (inr more) = inr (Appends-trans old mid new first last grows more)
 
--- a fault is told as itself, or as memory
+-- a fault is reported as itself, or as memory
 pub fails_told : {S Application : Type 0} (l : Layer S Application Saved) (F File Dir : Type 0) (limits : Limits) (rounds : ℕ) (fault told : ServeFault) → IsToldAs fault told
     → FailsFile l F File Dir limits rounds fault → FailsFile l F File Dir limits rounds told
 fails_told l F File Dir limits rounds fault told (inl same) fails = subst (λ (f : ServeFault). FailsFile l F File Dir limits rounds f) (sym same) fails

@@ -45,7 +45,7 @@ module _ {S Application D : Type 0} (l : Layer S Application Saved) (kind : Disk
   not_started the.Memory disk left unbegun = absurd unbegun
 
 module _ {S Application D : Type 0} (l : Layer S Application Saved) (kind : DiskKind D) where
-  -- a server that goes on behind a round wasn't closed before it
+  -- a server that goes on after a round wasn't closed before it
   pub turned : (found : Round) (old new : Serving S D) → (found ≡ round.Over → ⊥) → ((found ≡ round.Over) ↔ IsClosed new.server)
       → (IsClosed old.server × (new ≡ old)) ⊎ Turns l kind old new → Turns l kind old new
   turned found old new differs over (inl closed) = absurd (differs (over.1 (subst (λ (s : Serving S D). IsClosed s.server) (sym closed.1) closed.0)))
@@ -65,7 +65,7 @@ module _ {S Application D : Type 0} (l : Layer S Application Saved) (kind : Disk
   pub made_more : (n : ℕ) (old mid new : Serving S D) → Makes l kind n old mid → Steps l kind mid new → Makes l kind (n + 1) old new
   made_more n old mid new makes steps = rw add-one (mid, makes, steps)
 
-  -- it is closed behind so many rounds, or behind one more
+  -- it is closed after so many rounds, or after one more
   pub served_over : (n rounds : ℕ) (old mid new : Serving S D) → n < rounds → Makes l kind n old mid → IsClosed new.server
       → (new ≡ mid) ⊎ Steps l kind mid new → IsServed l kind rounds old new
   served_over n rounds old mid new less makes closed (inl same) = record {

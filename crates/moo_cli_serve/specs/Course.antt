@@ -59,14 +59,14 @@ abbrev pub hangs_up : ℕ → seen.Event → Bool
 hangs_up c (seen.Hangup k) = eqb k c
 hangs_up c event = false
 
--- What waits for number c in the server behind these: what an event sends goes behind what waited, and where c hung up in it, all is
+-- What waits for number c in the server after these events. What an event sends comes after what waited. If c hung up in it, all is
 -- dropped.
 abbrev pub sent_after : ℕ → List ℕ → List (Entry Saved) → List ℕ
 sent_after c waits [] = waits
 sent_after c waits (entry ∷ entries) = sent_after c (if hangs_up c entry.event then [] else waits ++ entry.out.sent c) entries
 
 -- A server was given these events, in calls of one each. Nothing is lost of what they sent, but what waited for those who hung up; and their
--- lines for the log wait behind those that waited.
+-- lines for the log wait after those that waited.
 pub record Given {S Application D : Type 0} (l : Layer S Application Saved) (kind : DiskKind D) (before : ServerCore S) (old : D) (events : List Event) (after : ServerCore S) (new : D) : Type 0 where
   pub course : Course l kind before old events after new
   pub sent : (c : ℕ) → (waiting_of l after).sent c ≡ sent_after c ((waiting_of l before).sent c) course.entries

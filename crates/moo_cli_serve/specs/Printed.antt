@@ -58,6 +58,6 @@ line_of (the.Output error) = codes "refused: Device\n"
 line_of (the.Refused cause) = cause_line cause
 line_of the.Memory = codes "refused: Memory\n"
 
--- A fault is told as itself, or as memory, which ran out for the line of a database that is refused.
+-- A fault is reported as itself, or as memory, which ran out for the line of a database that is refused.
 abbrev pub IsToldAs : ServeFault → ServeFault → Type 0
 IsToldAs fault told = (told ≡ fault) ⊎ (told ≡ the.Memory)

@@ -31,7 +31,7 @@ module _ {S Application D : Type 0} (l : Layer S Application Saved) (kind : Disk
 abbrev pub end_status : Bool → Bool → ℕ
 end_status must saved = if must && not saved then 3 else 0
 
--- There is no disk: the file's name leads to none, or memory was wanting for it.
+-- There is no disk: the file's name leads to none, or memory ran out for it.
 abbrev pub NoDisk : ServeFault → Type 0
 NoDisk fault = (fault ≡ the.Open opening.Device) ⊎ (fault ≡ the.Memory)
 

@@ -20,8 +20,8 @@ use Rattle.moo_cli_serve.specs.Writing.{Writes}
 use Rattle.moo_cli_serve.specs.declared.console.Console.{Console}
 use Rattle.moo_cli_serve.specs.declared.serving.Serving.{Serving}
 
--- The clock's moment is told; none is where the clock tells none, or one before the last. `before` is the last moment told, and `now`
--- is then.
+-- The server is given the clock's moment. It is given none if the clock has none, or one before the last. `before` is the last moment
+-- that was given, and `now` is the last after this.
 abbrev pub IsTold : Option ℕ → ℕ → ℕ → List Event → Type 0
 IsTold None before now events = (events ≡ []) × (now ≡ before)
 IsTold (Some moment) before now events =

@@ -60,7 +60,7 @@ module _ {S Application D : Type 0} (l : Layer S Application Saved) (kind : Disk
     pub opened : Opened l kind server disk left saved moment
     pub spare : kind.honest disk → KeepsSpare (kind.view disk) (kind.view left)
 
-  -- A server was begun over a disk, at the moment that counts as told. No connection has a socket.
+  -- A server was begun over a disk, at this moment of the clock. No connection has a socket.
   pub record Begun (disk : D) (limits : Limits) (start : Serving S D) : Type 0 where
     pub from : IsBegunFrom disk start.moment start.server start.disk
     pub none : (c : ℕ) → held start.clients.sockets.sockets c ≡ None
@@ -111,8 +111,8 @@ module _ {S Application D : Type 0} (l : Layer S Application Saved) (kind : Disk
     pub course : Course l kind start.server start.disk (events_in served.made start end served.makes) end.server end.disk
 
 module _ {D : Type 0} (kind : DiskKind D) where
-  -- Why no server was begun over a disk, which was left so. Where its text is refused, this is what is told of it, and it spells no saved
-  -- world within the limits; where the device is told it has failed. The disk was read, no other call was made, and nothing was written.
+  -- Why no server was begun over a disk, which was left so. If its text is refused, the fault says why, and the text spells no saved
+  -- world within the limits. If the fault is the device's, the device has failed. The disk was read, and no other call was made.
   pub record NotBegun (disk left : D) (fault : OpenFault) : Type 0 where
     pub text : kind.honest disk → (f : DbFault) → fault ≡ opening.Db f → RefusesText (kind.view disk).main_text f × (f.kind ≢ fault_kind.Memory)
     pub none : kind.honest disk → (f : DbFault) → fault ≡ opening.Db f → (saved : Saved) → ¬ SpellsSavedWithin (kind.view disk).main_text saved

@@ -9,7 +9,7 @@ use Rattle.moo_server_core.specs.declared.event.Cause.TheVariants as cause
 use Rattle.moo_cli_serve.specs.declared.fault.ServeFault.{ServeFault}
 use Rattle.moo_cli_serve.specs.declared.fault.ServeFault.TheVariants as the
 
--- 1 where the database is refused, 3 for a device, 4 for memory
+-- 1 if the database is refused, 3 for a device, 4 for memory
 abbrev pub opening_status : OpenFault → ℕ
 opening_status (opening.Db fault) = 1
 opening_status opening.Device = 3

@@ -41,7 +41,8 @@ pub fn listen<R: Net + Log>(
     Ok(sockets)
 }
 
-// Returns where a browser of this machine finds the page of a listener at this address. `0.0.0.0` and `::` are names of no host.
+// Returns the address at which a browser of this machine finds the page of a listener at this address. `0.0.0.0` and `::`
+// are names of no host.
 fn page_address(address: SocketAddr) -> SocketAddr {
     let ip = match address.ip() {
         IpAddr::V4(ip) if ip.is_unspecified() => IpAddr::V4(Ipv4Addr::LOCALHOST),

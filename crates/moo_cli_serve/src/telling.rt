@@ -1,4 +1,4 @@
-//! The lines that a server prints: where it listens, and why it ends.
+//! The lines that a server prints: the addresses on which it listens, and why it ends.
 ghost use Rattle.std.specs.Prelude.{◌≡◌, [], IfErr, IfOk, OnOk};
 ghost use Rattle.std.specs.Io.KnownBytes.{Appends};
 ghost use Rattle.moo_cli_io.specs.Watching.{Remembers};

@@ -78,7 +78,7 @@ pub fn string(alloc: Global, bytes: &[u8]) -> Result<MooStr, AllocError> {
     }
 }
 
-/// Strings, each with a bar behind it.
+/// Strings, each with a bar after it.
 pub fn push_joined(text: &mut Vec<u8>, strings: &[MooStr]) -> Result<(), AllocError> {
     for string in strings {
         push_text(text, string.as_bytes())?;
@@ -86,7 +86,7 @@ pub fn push_joined(text: &mut Vec<u8>, strings: &[MooStr]) -> Result<(), AllocEr
     Ok(())
 }
 
-// The first word, the rest, and the words of the rest, each with a bar behind it.
+// The first word, the rest, and the words of the rest, each with a bar after it.
 fn push_typed(text: &mut Vec<u8>, typed: &Typed) -> Result<(), AllocError> {
     push_text(text, typed.verb.as_bytes())?;
     push_text(text, typed.rest.as_bytes())?;

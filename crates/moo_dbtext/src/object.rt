@@ -12,8 +12,8 @@ ghost use Rattle.moo_dbtext_record.specs.Writing.{no_notes};
 ghost use Rattle.moo_dbtext_restore.specs.Says.{recorded_verb, recorded_cell};
 ghost use Rattle.moo_dbtext_restore.specs.Recorded.{body_with, recorded_at};
 
-use crate::nexts::nexts;
 use crate::link::link_in;
+use crate::nexts::nexts;
 use moo_dbtext_object::{put_count, put_line, put_names, put_number, put_numbers, put_value};
 use moo_dbtext_record::{put_live, put_recycled};
 use moo_dbtext_restore::Link;

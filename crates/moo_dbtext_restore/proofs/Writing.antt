@@ -52,7 +52,7 @@ once_at_most : (u : Option ℕ) (x : ℕ) → times_below u x ≤ 1
 once_at_most None x = omega arith
 once_at_most (Some up) x = ⊎_elim (λ e. rw e (omega arith)) (λ e. rw e (omega arith)) (cases_Bool (eqb x up))
 
--- a tree whose links are those of its nodes, wherever an object stands
+-- a tree whose links are those of its nodes, wherever an object is
 module _ (objects : List (Option Object)) (tree : List Links) (links : List (Option Link)) (joined : IsJoined objects tree) (many : length links ≡ length objects)
     (read : (x : ℕ) → link_at links x ≡ option_map (λ (o : Object). link_in tree x) (object_of objects x)) where
   link_read : (x : ℕ) (o : Option Object) → object_of objects x ≡ o → link_of links x ≡ link_in tree x

@@ -99,7 +99,7 @@ module _ {Application Saved : Type 0} (m : Meaning Application Saved) where
       (is_closing marks.1.course, ap (λ (s : State Application). s.writing) marks.3)
 
 module _ {S Application : Type 0} (l : Layer S Application Saved) {D : Type 0} (kind : DiskKind D) where
-  -- behind a mark, the first events that have so many of `Flush` have its report
+  -- after a mark, the first events that have so many of `Flush` have its report
   pub report_comes : (before after : ServerCore S) (old new : D) (entries front near far : List (Entry Saved)) (e : Entry Saved) (saved : Saved)
       → Lived l kind (with_disk before old) (with_disk after new) entries → entries ≡ (front ++ e ∷ []) ++ (near ++ far) → e.mark ≡ Some saved
       → length (l.meaning.text_of saved) / 65536 + 6 ≤ flushes (traces_under l.meaning near) → HasReport (traces_under l.meaning near)

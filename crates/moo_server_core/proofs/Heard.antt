@@ -75,7 +75,7 @@ pub if_err_map : {T E P Q : Type 0} (r : Result T E) → (P → Q) → IfErr r (
 if_err_map (Ok t) f p = tt
 if_err_map (Err e) f p = f p
 
--- the state behind a report
+-- the state after a report
 abbrev pub ended : {Application : Type 0} → Bool → State Application → State Application
 ended last mid = record mid { course = if last then Closed else mid.course }
 

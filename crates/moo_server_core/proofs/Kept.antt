@@ -21,17 +21,17 @@ module _ {S Application D : Type 0} (l : Layer S Application Saved) (kind : Disk
   abbrev SpellsKept : List (LifeRun S D) → List ℕ → Type 0
   SpellsKept lives c = (saved : Saved) × l.meaning.Spells c saved × IsKeptIn l lives saved
 
-  -- behind a crash main alone is left
+  -- after a crash main alone is left
   abbrev IsAlone : LifeStop → DiskView → Type 0
   IsAlone (Crash i) disk = LeavesOnly disk.main_text disk
   IsAlone ServerOnly disk = Unit {0}
 
-  -- a disk behind these lives, the last of them first
+  -- a disk after these lives, the last of them first
   abbrev IsBehind : List (LifeRun S D) → D → Type 0
   IsBehind [] disk = LeavesOnly (kind.view disk).main_text (kind.view disk)
   IsBehind (last ∷ earlier) disk = IsAlone last.stop (kind.view disk) × ((c : List ℕ) → (kind.view disk).may_leave c → SpellsKept (last ∷ earlier) c)
 
-  -- what a crash leaves behind a life: what it left before, where none of its checkpoints was reported done, or the text of a mark
+  -- what a crash leaves after a life: what it left before, if none of its checkpoints was reported done, or the text of a mark
   left_by : (run : LifeRun S D) → kind.honest run.old → IsLife l kind run → (c : List ℕ) → (kind.view run.new).may_leave c
       → (ReportsNone l run × (kind.view run.old).may_leave c) ⊎ ((saved : Saved) × l.meaning.Spells c saved × IsMarked l run saved)
   left_by run h is c left =

@@ -87,7 +87,7 @@ module _ {S Application : Type 0} (l : Layer S Application Saved) where
     lived_in run is = subst (λ (es : List (Entry Saved)). Lived l kind (with_disk run.start run.opened) (with_disk run.end run.new) es) is.entries
         (lived_of l kind run.start run.end run.opened run.new run.events (done_of run.result) is.runs.ran)
 
-    -- what a crash leaves behind a life
+    -- what a crash leaves after a life
     after_life : (run : LifeRun S D) (texts : Texts) → kind.honest run.old → IsLife l kind run → ((c : List ℕ) → (kind.view run.old).may_leave c → IsOneOf texts c)
         → (c : List ℕ) → (kind.view run.new).may_leave c → IsOneOf (since_done texts (traces_under l.meaning run.entries)) c
     after_life run texts h is within c left =
@@ -111,7 +111,7 @@ module _ {S Application : Type 0} (l : Layer S Application Saved) where
         ⊎_elim (λ was. spelled c was) (λ mark. marks_spelled run.entries c (lived_in run is).spelled mark)
         (one_of_either texts (texts_of_marks (traces_under l.meaning run.entries)) c (no_others texts (traces_under l.meaning run.entries) c one))
 
-    -- the disk behind a life's end, and what may be under its main
+    -- the disk after a life's end, and what may be under its main
     pub record Behind (run : LifeRun S D) (texts : Texts) (new : D) : Type 0 where
       pub after : Texts
       pub goes : IsLeft run.stop texts after

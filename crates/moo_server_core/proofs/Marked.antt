@@ -1,4 +1,4 @@
--- Where marks stand among events, and the worlds that they mark.
+-- The places of marks among events, and the worlds that they mark.
 use Rattle.std.proofs.Common.{◌≡◌, ◌≢◌, inl, inr, ⊎_elim, ℕ, ◌+◌, ◌≤◌, List, [], ◌∷◌, ◌++◌, length, Option, Some, None, Bool, true, false, refl, sym, ◌∙◌, ap, subst, arith, append_assoc}
 use Rattle.std.specs.Prelude.{MatchBool}
 use Rattle.std.specs.Option.{option_map}
@@ -12,7 +12,7 @@ use Rattle.moo_server_core.specs.Calls.{IsPrefix}
 use Rattle.moo_server_core.proofs.Joining.{Texts, one_of_either, last_of-push}
 use Rattle.moo_server_core.proofs.Running.{traces-append}
 
--- ---- the event that a text's mark stands in, counted from 1, and 0 for the start
+-- ---- the event that has a text's mark, counted from 1, and 0 for the start
 
 -- the place of the last mark so far
 abbrev pub place_marked : Option (List ℕ) → ℕ → ℕ → ℕ
@@ -25,7 +25,7 @@ place_reported None at done = done
 place_reported (Some Done) at done = at
 place_reported (Some report) at done = done
 
--- the place of the mark of the last report done, behind so many events, the last mark of which stands at that place
+-- the place of the mark of the last report done, after so many events, whose last mark is at that place
 abbrev pub place_from : ℕ → ℕ → ℕ → List Trace → ℕ
 place_from count at done [] = done
 place_from count at done (trace ∷ traces) =
@@ -90,7 +90,7 @@ place_at (f ∷ front) ts e count at done le within some next =
     let rest = place_at front ts e (count + 1) (place_marked f.mark (count + 1) at) (place_reported f.report at done) (omega (arith, r.1, m.0)) m.1 some next in
     omega (arith, rest)
 
--- ---- where a mark stands
+-- ---- the place of a mark
 
 pub last_is : (texts : Texts) (c : List ℕ) → IsOneOf (last_of texts) c → last_of texts ≡ c ∷ []
 last_is [] c one = absurd one
@@ -120,7 +120,7 @@ module _ {S Application : Type 0} (l : Layer S Application Saved) where
   no_later : (all : List (Entry Saved)) (c : List ℕ) (n m : ℕ) → m ≤ n → IsMarkAt all c n → IsMarkAt all c m
   no_later all c n m le at = record { prefix = at.prefix; last = at.last; rest = at.rest; all_is = at.all_is; marked = at.marked; enough = omega (arith, le, at.enough) }
 
-  -- the texts so far, behind these events
+  -- the texts so far, after these events
   pub record Placed (all : List (Entry Saved)) (texts : Texts) (count at done : ℕ) : Type 0 where
     pub each : (c : List ℕ) → IsOneOf texts c → IsMarkAt all c done
     pub newest : (c : List ℕ) → last_of texts ≡ c ∷ [] → IsMarkAt all c at
@@ -170,7 +170,7 @@ module _ {S Application : Type 0} (l : Layer S Application Saved) where
         enough = omega arith;
       }
 
-  -- each text that counts has its mark at the place of the last report done, or behind
+  -- each text that counts has its mark at the place of the last report done, or after it
   placed_on : (all front es tail : List (Entry Saved)) (texts : Texts) (at done : ℕ) → all ≡ (front ++ es) ++ tail → Placed all texts (length front) at done
       → (c : List ℕ) → IsOneOf (since_done texts (traces_under l.meaning es)) c → IsMarkAt all c (place_from (length front) at done (traces_under l.meaning es))
   placed_on all front [] tail texts at done all_is placed c one = placed.each c one
@@ -222,7 +222,7 @@ module _ {S Application : Type 0} (l : Layer S Application Saved) where
         enough = omega arith;
       }
 
-  -- what counts after some events, and any mark of those behind them
+  -- what counts after some events, and any mark of the events after them
   pub mark_at : (es es' : List (Entry Saved)) (c : List ℕ) → IsOneOf (since_done [] (traces_under l.meaning es) ++ texts_of_marks (traces_under l.meaning es')) c
       → IsMarkAt (es ++ es') c (place_done (traces_under l.meaning es))
   mark_at es es' c one =

@@ -39,7 +39,7 @@ module _ {Application Saved : Type 0} (m n : Meaning Application Saved) (single 
       λ i. record (same.1 i) { course = if last i then Closed else (same.1 i).course } in
       (same.0, r.5 ∙ state ∙ sym r'.5)
 
-  -- the state behind a mark, by the interval
+  -- the state after a mark, by the interval
   abbrev marked : ℕ → State Application → State Application
   marked interval mid = record mid { due = mid.moment + interval; asked = false; writing = Some (is_closing mid.course) }
 
@@ -96,7 +96,7 @@ module _ {Application Saved : Type 0} (m n : Meaning Application Saved) (single 
       let rest = runs_alike es es' run.0 end end' run.2 (subst (λ (s : State Application). Run n s es' end') (sym taken.1) run'.2) others in
       ((λ i. taken.0 i ∷ rest.0 i), rest.1)
 
-  -- the state behind a start, by the interval
+  -- the state after a start, by the interval
   abbrev begun : ℕ → ℕ → Told → Application → State Application
   begun moment interval told sessions = begun_at moment (told.asks || told.shuts) (if told.shuts then Closing else Running) interval sessions
 

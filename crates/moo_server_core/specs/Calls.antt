@@ -148,7 +148,7 @@ module _ {S Application : Type 0} (l : Layer S Application Saved) where
     pub enough : (front following : List (Entry Saved)) (e : Entry Saved) → returned ≡ front ++ e ∷ following → e.mark ≢ None
         → IsDoneNext (traces_under l.meaning following) → length front ≤ length prefix
 
-  -- A text that spells, within the limits, the saved world after such a prefix, where the calls of `entries` have returned. If no report
+  -- A text that spells, within the limits, the saved world after such a prefix, if the calls of `entries` have returned. If no report
   -- in them was done, it may spell the world that was read at the start, which is `first`.
   pub record IsKept (start : State Application) (first : Saved) (entries later : List (Entry Saved)) (c : List ℕ) : Type 0 where
     pub saved : Saved

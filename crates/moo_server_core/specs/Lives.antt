@@ -151,7 +151,7 @@ module _ {S Application : Type 0} (l : Layer S Application Saved) where
         pub leaves : IsLeft life.stop (since_done texts (traces_under l.meaning life.entries)) after
         pub ends : IsStopped kind images life.stop life.new next
 
-      -- Lives, the first of which begins over this disk, where one of these texts is under main; the texts and the disk that they leave.
+      -- Lives, the first of which begins over this disk, with one of these texts under main; the texts and the disk that they leave.
       abbrev pub Lives : D → List (List ℕ) → List (LifeRun S D) → List (List ℕ) → D → Type 0
       Lives disk texts [] left last = (left ≡ texts) × (last ≡ disk)
       Lives disk texts (life ∷ lives) left last =

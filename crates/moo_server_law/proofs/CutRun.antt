@@ -117,7 +117,7 @@ steps_of n piece old mark out new told sessions started happens marks is = recor
   out = is;
 }
 
--- The state behind both, by the flags: before, whether the first or the second shut the server down, and what they asked for.
+-- The state after both, by the flags: before, whether the first or the second shut the server down, and what they asked for.
 heard_twice : (old : State WorldState) (one two whole : Told) (mid new : WorldState) → one.shuts ≡ false → (whole.asks ≡ (one.asks || two.asks)) → whole.shuts ≡ two.shuts → heard old whole new ≡ heard (heard old one mid) two new
 heard_twice old one two whole mid new open' asks shuts = λ i. record old {
   sessions = new;

@@ -1,4 +1,4 @@
--- No connection is open behind a start: the tasks of its hooks open none.
+-- No connection is open after a start: the tasks of its hooks open none.
 use Rattle.std.proofs.Common.{◌≡◌, ℕ, ℤ, true, false, List, [], ◌∷◌, Option, Some, None, refl, sym, ap, subst}
 use Rattle.std.specs.Prelude.{codes}
 use Rattle.moo_value.specs.Tree.{Tree}

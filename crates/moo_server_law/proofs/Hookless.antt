@@ -1,4 +1,4 @@
--- No hook waits behind an event.
+-- No hook waits after an event.
 use Rattle.std.proofs.Common.{◌≡◌, ℕ, List, []}
 use Rattle.moo_builtin.specs.Telling.{Telling}
 use Rattle.moo_session_task.specs.declared.world_state.WorldState.{WorldState}

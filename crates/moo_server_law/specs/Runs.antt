@@ -9,11 +9,11 @@ use Rattle.moo_server_core.specs.Meaning.{Begins, Entry, Run, State}
 use Rattle.moo_server_core.specs.Runs.{OneRun}
 use Rattle.moo_server.specs.Live.{live_meaning}
 
--- The start, the events and their reports make a run, whatever is chosen to be told of texts that are no programs.
+-- The start, the events and their reports make one run, whichever faults are reported of texts that are no programs.
 abbrev pub OneRunByChoice : Type 0
 OneRunByChoice = (choice : Choice) → PassesPrograms choice → OneRun (live_meaning (chosen_by choice)) (live_meaning (chosen_by choice))
 
--- A run in which some texts alone are told a fault, none of which has two, is the one run that the server may come to.
+-- A run in which faults are reported of some texts alone, none of which has two, is the one run that the server may come to.
 abbrev pub OneRunOfSingleFaults : Type 0
 OneRunOfSingleFaults = (texts : Texts) → HaveOneFault texts → OneRun (live_meaning (faults_of texts)) (live_meaning Faults)
 

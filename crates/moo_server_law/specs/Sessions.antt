@@ -32,11 +32,11 @@ pub record AreWithin (T U : Telling) : Type 0 where
   pub reports : (moment : ℕ) (done : Bool) (s s' : WorldState) → CheckpointEnds T moment done s s' → CheckpointEnds U moment done s s'
   pub starts : (moment : ℕ) (players : List ℤ) (w : World) (s' : WorldState) → Starts T moment players w s' → Starts U moment players w s'
 
--- For one input an event has at most one result, whatever is chosen to be told of texts that are no programs.
+-- For one input an event has at most one result, whichever faults are reported of texts that are no programs.
 abbrev pub OneResultByChoice : Type 0
 OneResultByChoice = (choice : Choice) → PassesPrograms choice → HaveOneResult (chosen_by choice) (chosen_by choice)
 
--- What comes of it where some texts alone are told a fault, none of which has two, is the one result that the program may come to.
+-- If faults are reported of some texts alone, none of which has two, what comes of it is the one result that the program may come to.
 abbrev pub OneResultOfSingleFaults : Type 0
 OneResultOfSingleFaults = (texts : Texts) → HaveOneFault texts → HaveOneResult (faults_of texts) Faults
 

@@ -25,10 +25,11 @@ pub fn marks_name_players_by_rising_numbers()
     ensures { NumbersRise }
 {}
 
-/// Of lives over an honest disk whose first crash leaves its main text alone, each behind the first begins from the world at a mark of
-/// an earlier life, or from that which an earlier life began from, and never from one before the mark of the last report done of any
-/// earlier life. Behind a crash that ended a life which began behind a crash, or was the first, it begins from a mark of that
-/// life, or, where none of its checkpoints was reported done, from the world that it began from.
+/// Let lives follow one another over an honest disk, whose first crash leaves its main text alone. Each life after the
+/// first begins from the world at a mark of an earlier life, or from that which an earlier life began from. It never
+/// begins from a world before the mark of the last checkpoint that any earlier life reported done. If a crash ended a
+/// life that began after a crash, or was the first, the next begins from a mark of that life. If none of that life's
+/// checkpoints was reported done, it may begin from the world that this life began from.
 #[tactic(none)]
 pub fn lives_begin_from_marks<D: CrashDisk>()
     ensures { (first last : D) (runs : List (LifeRun MooApplication D)) (texts left : List (List ℕ))

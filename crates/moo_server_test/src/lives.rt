@@ -116,7 +116,7 @@ fn each_life_begins_from_what_the_one_before_left(rt: HostRuntime) -> Result<(),
     Ok(())
 }
 
-/// The letter of the world under main of the disk that a life with this end leaves, and a `!` behind it after a fault.
+/// The letter of the world under main of the disk that a life with this end leaves, and a `!` after it if there was a fault.
 fn left_by(alloc: Global, end: (usize, usize)) -> Result<Vec<u8>, Fail> {
     let mut lives = Vec::new(alloc);
     lives.push(life(alloc, ROWS[0], end)?)?;

@@ -1,4 +1,4 @@
-//! A server where memory is short. `stress/refusals/run` refuses each growth of this test in turn.
+//! A server while memory is short. `stress/refusals/run` refuses each growth of this test in turn.
 
 use crate::playing::WORLD;
 use moo_disk::{Disk, FailAt, MemoryDisk, Place, StopAt};
@@ -32,9 +32,9 @@ const SAVED: [Row; 16] = [
     ("look", "I couldn't understand that.\r\n"),
 ];
 
-/// What the next life is asked where so many events were taken, or fewer: whether it found one of these worlds, told by the first
-/// letters of the names of #1 and #2. The renames are the 7th event and the 14th. Behind all events a call of the disk may have
-/// found no memory: then one of the checkpoints has failed.
+/// What the next life is asked if so many events were taken, or fewer: whether it found one of these worlds, known by the
+/// first letters of the names of #1 and #2. The renames are the 7th event and the 14th. After all events a call of the disk
+/// may have found no memory: then one of the checkpoints has failed.
 const ASKED: [(usize, &str); 6] = [
     (5, r#";return index("RT", #1.name[1] + #2.name[1]) > 0;"#),
     (6, r#";return index("RT AT", #1.name[1] + #2.name[1]) > 0;"#),
@@ -88,8 +88,8 @@ fn bytes_of(alloc: Global, rows: &[Row], done: usize) -> Result<Vec<u8>, AllocEr
     Ok(bytes)
 }
 
-// How many events a life takes, if it comes to what it may: all are taken, or memory is wanting, and the server is halted behind the
-// first of them; what these sent waits. A start may be refused.
+// How many events a life takes, if it comes to what it may: all are taken, or memory ran out and the server is halted after
+// the first of them. What these sent waits. A start may be refused.
 fn taken<S: StartApplication, D: Disk>(
     alloc: Global,
     disk: &mut D,
@@ -114,7 +114,7 @@ fn taken<S: StartApplication, D: Disk>(
     Ok(None)
 }
 
-// Whether memory was wanting, and a turn then came to nothing.
+// Whether memory ran out, and a turn then came to nothing.
 fn has_halted(cause: Cause, phase: Phase, again: Result<usize, RunFault>) -> bool {
     let is_refused = matches!(
         again,

@@ -6,7 +6,7 @@ use moo_server_core::{ServerCore, StartApplication};
 use std::alloc::Global;
 use std::test::Fail;
 
-/// A wizard, #3, in a room, #2, with a verb that evaluates what is typed behind a semicolon. Who opens a connection is #3.
+/// A wizard, #3, in a room, #2, with a verb that evaluates what is typed after a semicolon. Who opens a connection is #3.
 pub const WORLD: &[u8] =
     b"** LambdaMOO Database, Format Version 4 **\n4\n2\n0\n1\n3\n#0\nSystem Object\n\n16\n3\n-1\n-1\n-1\n1\n-1\n2\n1\ndo_login_command\n3\n173\n-1\n0\n0\n#1\nRoot Class\n\n16\n3\n-1\n-1\n-1\n-1\n0\n-1\n0\n0\n0\n#2\nThe First Room\n\n0\n3\n-1\n3\n-1\n1\n-1\n3\n0\n0\n0\n#3\nWizard\n\n7\n3\n2\n-1\n-1\n1\n-1\n-1\n1\neval\n3\n93\n-2\n0\n0\n#0:0\nreturn #3;\n.\n#3:0\nnotify(player, toliteral(eval(argstr)));\n.\n0 clocks\n0 queued tasks\n0 suspended tasks\n0 active connections with listeners\n";
 
@@ -29,7 +29,7 @@ fn part(text: &str) -> (&str, &str) {
     text.split_once(' ').unwrap_or((text, ""))
 }
 
-/// Adds an event, or as many of `flush` as it says. In `bytes`, `^` stands for CR and `|` for LF.
+/// Adds an event, or as many of `flush` as it says. In `bytes`, `^` is CR and `|` is LF.
 pub fn add_events(alloc: Global, events: &mut Vec<Event>, row: &str) -> Result<(), Fail> {
     let (word, rest) = part(row);
     let (number, text) = part(rest);
@@ -129,7 +129,7 @@ fn refusal(alloc: Global, fault: OpenFault) -> Result<String, Fail> {
     }
 }
 
-// Each line that was sent on a connection, behind its number.
+// Each line that was sent on a connection, after its number.
 fn add_sent(alloc: Global, c: u16, sent: &[u8], told: &mut Vec<u8>) -> Result<(), Fail> {
     for line in str::from_utf8(sent).unwrap_or("no text").lines() {
         add_line(told, format!(in alloc; "{c}: {line}")?.as_bytes())?;

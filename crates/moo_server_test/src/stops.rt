@@ -11,7 +11,7 @@ flush 2
 line 1 ;#1.name = "B"; dump_database();
 flush 8"#;
 
-/// The life's disk, where it stopped in its k-th call. The server's start reads main in two.
+/// The life's disk, after it stopped in its k-th call. The server's start reads main in two.
 fn stopped(alloc: Global, k: u16, place: Place) -> Result<MemoryDisk, Fail> {
     let mut events = Vec::new(alloc);
     for row in EVENTS.lines() {
@@ -48,7 +48,7 @@ fn found(alloc: Global, left: MemoryDisk) -> Result<u8, Fail> {
     Ok(name.as_bytes().first().copied().unwrap_or(b'?'))
 }
 
-// The worlds that a start may find behind the stop, by their letters.
+// The worlds that a start may find after the stop, by their letters.
 fn left_by_stop(alloc: Global, k: u16, place: Place) -> Result<Vec<u8>, Fail> {
     let mut letters = Vec::new(alloc);
     for i in 0..3 {
@@ -60,7 +60,7 @@ fn left_by_stop(alloc: Global, k: u16, place: Place) -> Result<Vec<u8>, Fail> {
     Ok(letters)
 }
 
-/// For each call: which worlds may be found behind a stop before it and within it. No call is the thirteenth.
+/// For each call: which worlds may be found after a stop before it and within it. No call is the thirteenth.
 const STOPS: [(u16, &str, &str); 13] = [
     (1, "R", "R"),
     (2, "R", "R"),

@@ -49,7 +49,7 @@ pub ended_parsed : (r : Result (Unit {0}) AllocError) (n : ℕ) (player : ℤ) (
 ended_parsed (Ok v) n player g s u i b e a p f = subst (λ (x : WorldState). EndsProgramming Faults n player g s x) (sym f) (parsed e a p)
 ended_parsed (Err short) n player g s u i b e a p f = tt
 
--- the lines had a fault, which was told
+-- the lines had a fault, which was reported
 pub ended_faulty : (r : Result (Unit {0}) AllocError) (n : ℕ) (player : ℤ) (g : Gathering) (s : WorldState) (t : Session) (i : ℕ) (fault : SyntaxFault) →
     own_verb s.world g.object g.verb ≡ Some i → may_write s.world player g.object i ≡ true → Blames Known g.lines fault.line fault.kind →
     OnOk r (t ≡ told_fault n fault s.session) → OnOk r (is_of_text fault.kind ≡ true) → OnOk r (EndsProgramming Faults n player g s (state s.world t))

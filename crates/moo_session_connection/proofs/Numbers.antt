@@ -187,7 +187,7 @@ few_answer (Ok v) f cs cs' e o b h =
     omega (arith, same, few_players cs, few cs o b)
 few_answer (Err x) f cs cs' e o b h = tt
 
--- the player of one more client comes behind the others
+-- the player of one more client comes after the others
 pub one_more_player : (c : Client) (xs : List ℤ) (cs : List Client) → (xs ++ players_on (c ∷ [])) ++ players_on cs ≡ xs ++ players_on (c ∷ cs)
 one_more_player c xs cs = at (player_on c) xs (players_on cs)
   where

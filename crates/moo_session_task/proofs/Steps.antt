@@ -29,7 +29,7 @@ use Rattle.moo_session_task.specs.Tasks.{RunsTask, CallsServerVerb, runs, value_
 use Rattle.moo_session_task.specs.Hooks.{HooksRun, RunsNext, none_left, has_run, CallsHook, first_runs, none_waits, hook_name, player_of_hook}
 use Rattle.moo_session_task.proofs.Ending.{calls_le}
 
--- a task in these surroundings, whose notices are all that stand there
+-- a task in these surroundings, whose notices are all that is there
 noticed : (near near' : Surroundings) (start : Frame) (w w' : World) (end : End) (old ns : List Notice) → near ≡ near' → old ≡ [] →
     LeavesNotices old (TaskEnds Faults near start w end w') ns → TaskEnds Faults near' start w end w' ns
 noticed near near' start w w' end old ns e f h =
@@ -56,7 +56,7 @@ ended_so moment start s w u v notices end h e f = record {
   leaves = ap (λ (x : Session). state w x) (sym f);
 }
 
--- a task that ended, whose notices were applied and whose end was told
+-- a task that ended, whose notices were applied and whose end was reported
 pub task_run : (moment : ℕ) (start : Frame) (s : WorldState) (w : World) (t u : Session) (e : code.Ended) (v : Option Tree) (notices : List Notice) →
     IfEnded e (λ end. TaskEnds Faults (around moment s.session.connections) start s.world end w notices) → t ≡ all_applied notices s.session →
     EndIs e (λ end. (value_of end ≡ v) × (u ≡ all_notified start.player (account_of end) t)) → RunsTask Faults moment start s v (state w u)

@@ -1,4 +1,4 @@
-// The arguments of a row's call: `#3` is an object, `3` an integer, `"rc"` a string, and `{` and `}` between blanks stand
+// The arguments of a row's call: `#3` is an object, `3` an integer, `"rc"` a string, and `{` and `}` between blanks are
 // round the elements of a list.
 ghost use Rattle.std.specs.Prelude.{◌<◌};
 
@@ -157,7 +157,7 @@ fn preposition_specifier(text: &[u8]) -> PrepositionSpecifier {
     preposition_specifier_from_text(text).unwrap_or(PrepositionSpecifier::None)
 }
 
-// An object's number behind `#`, or an integer; 0 where it is no number.
+// An object's number after `#`, or an integer; 0 if it is no number.
 fn number(word: &str) -> Value {
     match word.strip_prefix('#') {
         Some(digits) => Value::Obj(digits.parse::<i32>().unwrap_or(0)),

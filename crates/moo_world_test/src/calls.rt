@@ -11,7 +11,7 @@ const NO_COMMAND: VerbArgs = VerbArgs {
     indirect: ObjectSpecifier::None,
 };
 
-/// What a call is answered, 0 for nothing; E_ARGS where there is no such call.
+/// What a call is answered, 0 for nothing; E_ARGS if there is no such call.
 pub fn answer(
     world: &mut World,
     alloc: Global,

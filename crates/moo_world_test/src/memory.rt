@@ -63,7 +63,7 @@ fn make_twins(alloc: Global) -> Result<Twins, WorldFault> {
     })
 }
 
-// Whether an answer tells what became of the world.
+// Whether an answer says what became of the world.
 fn is_told(answer: Result<Value, WorldFault>, is_changed: bool) -> bool {
     match answer {
         Ok(_) => is_changed,

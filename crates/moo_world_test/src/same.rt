@@ -1,4 +1,4 @@
-// Whether two worlds are the same, told without memory.
+// Whether two worlds are equal, found without memory.
 use moo_value::same;
 use moo_world::{Below, Object, PropCell, Verb, World};
 

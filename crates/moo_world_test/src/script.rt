@@ -1,4 +1,4 @@
-// Rows of calls. Each line is a call with its arguments, and behind ` = ` the literal of what it answers, an error for a
+// Rows of calls. Each line is a call with its arguments, and after ` = ` the literal of what it answers, an error for a
 // raise and 0 for nothing: `get #2 "size" = 7`. A line that begins with an object's number is a call of a built-in function
 // by that programmer.
 use crate::args::Args;

@@ -2,8 +2,8 @@
 ghost use Rattle.moo_server_law.specs.Cutting.{CuttingChangesOnlyMarks};
 ghost use Rattle.moo_server_law.specs.Runs.{ChosenRunMayBe, OneRunByChoice, OneRunOfSingleFaults};
 
-/// Whatever is chosen to be told of texts that are no programs, the saved world, the moment, the events and their reports make a
-/// run: what goes out, which worlds are marked, and the state behind it.
+/// Whichever faults are reported of texts that are no programs, the saved world, the moment, the events and their
+/// reports make one run: what goes out, which worlds are marked, and the state after it.
 #[tactic(none)]
 pub fn one_run()
     ensures { OneRunByChoice }
@@ -11,8 +11,8 @@ pub fn one_run()
     crate::laws::sessions::at_most_one_result();
 }
 
-/// A run in which some texts alone are told a fault, none of which has two, is the one run that a server may come to from that
-/// start by those events and reports, with nothing chosen.
+/// A run in which faults are reported of some texts alone, none of which has two, is the one run that a server may come
+/// to from that start by those events and reports, with nothing chosen.
 #[tactic(none)]
 pub fn one_run_of_single_faults()
     ensures { OneRunOfSingleFaults }
@@ -20,8 +20,8 @@ pub fn one_run_of_single_faults()
     crate::laws::sessions::one_result_of_single_faults();
 }
 
-/// Where each text that is no program is told one of its faults, chosen once for all, a run is among those that a server may
-/// come to.
+/// If one of its faults, chosen once for all, is reported of each text that is no program, a run is among those that a
+/// server may come to.
 #[tactic(none)]
 pub fn a_chosen_run_may_be()
     ensures { ChosenRunMayBe }

@@ -2,7 +2,7 @@
 ghost use Rattle.moo_server_law.specs.Sessions.{OneResultByChoice, OneResultOfSingleFaults, ChosenMayBeTold, NoHookIsLeft};
 ghost use Rattle.moo_server_law.specs.Stream.{LinesOfTheRun, LinesOfTheWholeStream};
 
-/// For one input an event has at most one result, whatever is chosen to be told of texts that are no programs.
+/// For one input an event has at most one result, whichever faults are reported of texts that are no programs.
 #[tactic(none)]
 pub fn at_most_one_result()
     ensures { OneResultByChoice }
@@ -11,8 +11,8 @@ pub fn at_most_one_result()
     moo_eval::laws::at_most_one_result();
 }
 
-/// What comes of an event if some texts alone are told a fault, none of which has two, is the one result that the
-/// program may come to, with nothing chosen.
+/// If faults are reported of some texts alone, none of which has two, what comes of an event is the one result that
+/// the program may come to, with nothing chosen.
 #[tactic(none)]
 pub fn one_result_of_single_faults()
     ensures { OneResultOfSingleFaults }
@@ -21,8 +21,8 @@ pub fn one_result_of_single_faults()
     moo_eval::laws::one_result_of_single_faults();
 }
 
-/// Where each text that is no program is told one of its faults, chosen once for all, what comes of an event is among what
-/// the program may come to.
+/// If one of its faults, chosen once for all, is reported of each text that is no program, what comes of an event is
+/// among what the program may come to.
 #[tactic(none)]
 pub fn chosen_faults_may_be_told()
     ensures { ChosenMayBeTold }

@@ -1,4 +1,4 @@
-//! A reader and a writer of bytes in memory that fail where they are told to.
+//! A reader and a writer of bytes in memory that fail at given places.
 
 use std::alloc::Global;
 use std::io;
@@ -12,7 +12,7 @@ pub struct Source<'a> {
 }
 
 impl<'a> Source<'a> {
-    /// A reader that ends behind these bytes.
+    /// A reader that ends after these bytes.
     pub fn whole(bytes: &'a [u8]) -> Source<'a> {
         Source {
             rest: bytes,
@@ -20,7 +20,7 @@ impl<'a> Source<'a> {
         }
     }
 
-    /// A reader that fails behind these bytes.
+    /// A reader that fails after these bytes.
     pub fn failing(bytes: &'a [u8], kind: ErrorKind) -> Source<'a> {
         Source {
             rest: bytes,

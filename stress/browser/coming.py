@@ -4,6 +4,16 @@ from checks import IS_UP, entered, opened
 
 FOCUS = "document.activeElement.id"
 
+TOLD = "document.getElementById('told').textContent"
+
+# Keeps what the page sends in `sent`, and lets ten minutes pass on its clock.
+ASLEEP = """(() => {
+  const now = Date.now, send = ws.send.bind(ws);
+  window.sent = [];
+  ws.send = text => { sent.push(text); send(text); };
+  Date.now = () => now() + 600000;
+})()"""
+
 
 def a_newcomer_comes_in_by_the_form(check, served, browser):
     page = opened(served, browser)
@@ -46,6 +56,26 @@ def a_wrong_password_is_typed_again(check, served, browser):
     check("and the first does not take it back", not page.js(IS_UP) and taking.js(IS_UP))
 
 
+def no_password_is_shown_or_changed(check, served, browser):
+    page = opened(served, browser)
+    page.click("#who")
+    page.type("Cyril")
+    page.key("Tab")
+    page.type("\u043f\u0430\u0440\u043e\u043b\u044c")
+    page.click("#sign [value=create]")
+    page.rest(0.3)
+    check("a new password whose letters would be replaced isn't sent", "create Cyril" not in page.text() and "plain ASCII" in page.js(TOLD) and page.js(FOCUS) == "pass")
+    page.js("type.focus()")
+    page.line("connect wizard " + served.password(), 0)
+    page.until("isIn")
+    for line in ("@make-player Bob secretword", "@pasword secretword other", "@password caf\u00e9-secretword"):
+        page.line(line)
+    check("nor is one that is typed", "plain ASCII" in page.js(TOLD) and page.js("type.value") == "@password caf\u00e9-secretword")
+    page.until("lines.innerText.includes('Bob (#')")
+    kept = page.text() + page.js("JSON.stringify(past) + JSON.stringify(sessionStorage)")
+    check("one that a wizard gives somebody isn't shown", "secretword" not in kept, kept[-300:])
+
+
 def one_who_quits_stays_away(check, served, browser):
     page = entered(served, browser, "connect guest")
     page.line("@quit")
@@ -73,4 +103,17 @@ def a_lost_connection_is_tried_again(check, served, browser):
     check("and no longer says that nothing was sent", page.js("document.getElementById('told').textContent") == "")
 
 
-PARTS = [a_newcomer_comes_in_by_the_form, a_wrong_password_is_typed_again, one_who_quits_stays_away, a_lost_connection_is_tried_again]
+def one_who_wakes_asks_whether_the_world_is_there(check, served, browser):
+    page = entered(served, browser, "connect guest")
+    page.js(ASLEEP)
+    page.until("sent.length")
+    check("after a sleep the page sends an empty message", page.js("sent.join('|')") == "")
+    page.line("look", 0)
+    page.until("lines.innerText.split('The Landing').length === 3")
+    check("which is nothing to the world", page.js("sent.length") == 2 and "I don't understand" not in page.text())
+    page.js("dispatchEvent(new Event('online'))")
+    check("it sends one when the network is back", page.js("sent.length") == 3)
+
+
+PARTS = [a_newcomer_comes_in_by_the_form, a_wrong_password_is_typed_again, no_password_is_shown_or_changed, one_who_quits_stays_away,
+         a_lost_connection_is_tried_again, one_who_wakes_asks_whether_the_world_is_there]

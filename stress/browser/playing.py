@@ -66,6 +66,18 @@ def earlier_lines_come_back(check, served, browser):
     check("a paste of several lines goes line by line", all(telnet.sees(f'says, "{letter}"') for letter in "abc"), telnet.got[-200:])
 
 
+def a_long_line_does_not_end_the_connection(check, served, browser):
+    page = entered(served, browser, "connect guest")
+    page.js("type.value = 'say ' + 'x'.repeat(200000); submit()")
+    page.line("say still here", 0)
+    page.until("lines.innerText.includes('You say, \"still here\"')")
+    check("a line of 200,000 letters doesn't end the connection", page.js("isIn"))
+    took = page.js("(() => { const from = performance.now(); put('said', 'http://x' + '.'.repeat(200000) + 'a'); flush(); return performance.now() - from; })()")
+    check("nor does one with a long address delay the page", took < 1000, str(took))
+    page.js("put('said', 'a http://x.org/a).). b'); flush()")
+    check("an address ends before its stops", page.js(LAST_LINK + ".href") == "http://x.org/a")
+
+
 def a_long_log_is_read(check, served, browser):
     page = entered(served, browser, "connect guest")
     telnet = served.telnet("connect guest")
@@ -116,6 +128,20 @@ def what_comes_unseen_is_counted(check, served, browser):
     check("and no more once it is seen", not page.js("document.title").startswith("("))
 
 
+def what_comes_as_the_page_is_hidden_is_shown(check, served, browser):
+    """A page that is hidden gets no frames: here it gets none at all."""
+    page = entered(served, browser, "connect guest")
+    page.rest(0.2)
+    page.js("""requestAnimationFrame = () => 0; put('said', 'just before');
+      Object.defineProperty(document, 'visibilityState', { value: 'hidden', configurable: true }); document.dispatchEvent(new Event('visibilitychange'))""")
+    page.until("lines.innerText.includes('just before')", 2)
+    telnet = served.telnet("connect guest")
+    page.until("document.title.startsWith('(')")
+    telnet.line("say psst")
+    page.until("lines.innerText.includes('psst')")
+    check("what comes just before the page is hidden delays nothing that comes after it", True)
+
+
 def it_fits_a_phone(check, served, browser):
     page = entered(served, browser, "connect guest", width=390, height=844)
     for topic in ("help", "help programming", "@ways"):
@@ -123,6 +149,8 @@ def it_fits_a_phone(check, served, browser):
     page.until("lines.innerText.includes('to The Meadow')")
     check("on a phone nothing is wider than the screen", page.js("document.documentElement.scrollWidth <= innerWidth && log.scrollWidth <= log.clientWidth"))
     check("a paragraph of the world is one", page.js("lines.querySelectorAll('.j').length > 2 && document.body.classList.contains('flow')"))
+    page.js("put('said', 'This sentence ends here.  The next one goes on to the end of this line, and'); put('said', 'further.'); flush()")
+    check("two blanks after a sentence are in one paragraph too", page.js("lines.lastElementChild.previousElementSibling.classList.contains('j')"))
     check("a table that is too wide has no columns", page.js("[...lines.querySelectorAll('.l')].filter(d => /^  @list whistle/.test(d.textContent) && d.classList.contains('narrow')).length") == 1)
     check("buttons are large enough for a thumb", page.js("[...document.querySelectorAll('footer button')].filter(e => e.offsetParent && e.offsetHeight < 36).length") == 0)
     page.js("document.getElementById('options').click(); document.getElementById('o-seek').click()")
@@ -139,4 +167,5 @@ def it_fits_a_phone(check, served, browser):
     check("a lost connection is named at the top", page.js("(() => { const r = document.getElementById('count').getBoundingClientRect(); return r.width > 20 && r.right <= document.getElementById('again').getBoundingClientRect().left; })()"))
 
 
-PARTS = [they_play_next_to_telnet, earlier_lines_come_back, a_long_log_is_read, what_comes_unseen_is_counted, it_fits_a_phone]
+PARTS = [they_play_next_to_telnet, earlier_lines_come_back, a_long_line_does_not_end_the_connection, a_long_log_is_read, what_comes_unseen_is_counted,
+         what_comes_as_the_page_is_hidden_is_shown, it_fits_a_phone]

@@ -47,9 +47,8 @@ if (this.pagelength && length(lines) > this.pagelength)
 endif
 for l in (lines)
   l = tostr(l);
-  l = index(l, "#$") == 1 ? " " + l | l;
   for part in (this.linelength < 78 && length(l) > this.linelength ? $string:wrap(l, this.linelength) | {l})
-    notify(this, part);
+    notify(this, index(part, "#$") == 1 ? " " + part | part);
   endfor
 endfor
 .

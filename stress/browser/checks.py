@@ -5,7 +5,7 @@ from chromium import Page
 IS_UP = "document.getElementById('dot').className === 'up'"
 
 # What a page reports while its server is down.
-EXPECTED = ("ERR_CONNECTION_REFUSED", "WebSocket connection to")
+EXPECTED = ("ERR_CONNECTION_REFUSED", "WebSocket connection to", "establish a connection to the server at ws:")
 
 
 class Checks:

@@ -43,6 +43,22 @@ def a_verb_is_edited(check, served, browser):
     check("the verb runs", True)
 
 
+def a_long_verb_is_whole_or_not_edited(check, served, browser):
+    page = entered(served, browser, "connect", "wizard", served.password())
+    page.line("@create $thing named brass lamp,lamp", 0.3)
+    page.line("@verb lamp:rub this none none", 0.3)
+    page.key("e", ALT)
+    for count, is_whole in ((1000, True), (3000, False)):
+        page.js(f"document.getElementById('verb').value = 'lamp:rub'; {CODE} = editing = Array.from({{ length: {count} }}, (_, i) => '\"line ' + i + '\";').join('\\n'); 0")
+        page.click("#save")
+        page.until(SAID + ".className === 'good'", 60)
+        page.js(CODE + " = editing = ''")
+        page.click("#fetch")
+        page.until(SAID + ".textContent !== 'reading ..'", 60)
+        check(f"a verb of {count} lines " + ("is fetched" if is_whole else "isn't, since it can't be listed whole"),
+              page.js(f"[{CODE}.split('\\n').length, {SAID}.textContent.includes('not whole')]") == ([count, False] if is_whole else [1, True]), page.js(SAID + ".textContent")[-200:])
+
+
 def a_text_is_edited(check, served, browser):
     page = entered(served, browser, "connect", "wizard", served.password())
     for line in ("@create $note named list,list", "@local on", "@edit list"):
@@ -61,4 +77,4 @@ def a_text_is_edited(check, served, browser):
     check("`#$# edit` opens the editor", page.js(CODE) == "one")
 
 
-PARTS = [a_verb_is_edited, a_text_is_edited]
+PARTS = [a_verb_is_edited, a_long_verb_is_whole_or_not_edited, a_text_is_edited]

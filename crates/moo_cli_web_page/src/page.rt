@@ -4,8 +4,8 @@
 pub const PAGE: &[u8] = b"\
 HTTP/1.1 200 OK\r\n\
 Content-Type: text/html; charset=utf-8\r\n\
-Content-Length: 41071\r\n\
-Content-Security-Policy: default-src 'none'; script-src 'sha256-Yu0v4LG0HfpGWlmlMuinmC3qA84R8mqfEkE6XTtzz7U='; style-src 'sha256-thrpMf2pGlfBpcIioRODKBZQNqc4Zpb8yzcI5HLetVI='; connect-src 'self'; img-src data:; base-uri 'none'; form-action 'none'; frame-ancestors 'none'\r\n\
+Content-Length: 42250\r\n\
+Content-Security-Policy: default-src 'none'; script-src 'sha256-HQv1LiNz2ywInLnWG1FDdKcKLdKtvi4meKhwgtX1XKs='; style-src 'sha256-thrpMf2pGlfBpcIioRODKBZQNqc4Zpb8yzcI5HLetVI='; connect-src 'self'; img-src data:; base-uri 'none'; form-action 'none'; frame-ancestors 'none'\r\n\
 X-Content-Type-Options: nosniff\r\n\
 Referrer-Policy: no-referrer\r\n\
 Cross-Origin-Opener-Policy: same-origin\r\n\
@@ -229,8 +229,10 @@ function fill(into, text) {\n\
 \x20     at = m.index + m[0].length;\n\
 \x20     continue;\n\
 \x20   }\n\
-\x20   let url = m[0].replace(/[.,;:!?)\\]}]+$/, '');\n\
-\x20   if (m[0][url.length] === ')' && url.includes('(')) url += ')';\n\
+\x20   let to = m[0].length;\n\
+\x20   while ('.,;:!?)]}'.includes(m[0][to - 1])) to--;\n\
+\x20   let url = m[0].slice(0, to);\n\
+\x20   if (m[0][to] === ')' && url.includes('(')) url += ')';\n\
 \x20   words(into, text.slice(at, m.index));\n\
 \x20   const a = document.createElement('a');\n\
 \x20   a.href = url; a.textContent = url; a.target = '_blank'; a.rel = 'noopener noreferrer nofollow';\n\
@@ -285,7 +287,7 @@ function flush() {\n\
 }\n\
 // The world breaks its paragraphs at some 77 letters. Where fewer fit, a line that was full goes on with the next.\n\
 let last = null;\n\
-const PROSE = /^[A-Za-z0-9\"'(](?!.*\\S(?:(?![.!?:\"]) {2}| {3}))/;\n\
+const PROSE = /^[A-Za-z0-9\"'(](?!.*\\S(?:(?<![.!?:\"]) {2}| {3}))/;\n\
 function paragraph(item, d) {\n\
 \x20 const before = last;\n\
 \x20 last = item.kind === 'said' && PROSE.test(item.text) ? { text: item.text, d } : null;\n\
@@ -322,7 +324,7 @@ $('more').onclick = () => { toEnd(); type.focus(); };\n\
 let world = 'MOO';\n\
 function title() { document.title = (missed ? '(' + missed + ') ' : '') + world; }\n\
 function seen() { if (missed) { missed = 0; title(); } const m = mark; mark = null; if (m) setTimeout(() => m.remove(), 8000); }\n\
-addEventListener('focus', seen); document.addEventListener('visibilitychange', () => { if (VISIBLE()) seen(); });\n\
+addEventListener('focus', seen); document.addEventListener('visibilitychange', () => { if (VISIBLE()) seen(); else if (due) setTimeout(flush, 60); });\n\
 let sound = null, rang = 0;\n\
 function ring() {\n\
 \x20 if (!opt.bell || Date.now() - rang < 3000) return;\n\
@@ -420,7 +422,11 @@ function lost(why) {\n\
 \x20 clearInterval(timer); tick(); timer = setInterval(tick, 1000);\n\
 }\n\
 $('again').onclick = () => { tries = tries || 1; connect(); type.focus(); };\n\
-addEventListener('online', () => { if (!ws && opt.back && tries) connect(); });\n\
+addEventListener('online', () => { if (!ws && opt.back && tries) connect(); else knock(); });\n\
+// After a sleep the other end may be gone. Sending shows that, and an empty message is nothing to the world.\n\
+function knock() { if (ws && ws.readyState === 1) ws.send(''); }\n\
+let looked = Date.now();\n\
+setInterval(() => { const now = Date.now(); if (now - looked > 90000) knock(); looked = now; }, 10000);\n\
 addEventListener('beforeunload', e => { if (ws && isIn) e.preventDefault(); });\n\
 function receive(text) {\n\
 \x20 const parts = (half + text).split('\\n');\n\
@@ -446,15 +452,21 @@ function plain(text) {\n\
 }\n\
 function send(line) {\n\
 \x20 if (!ws || ws.readyState !== 1) { tell('Not connected: nothing was sent.', true); return false; }\n\
-\x20 ws.send(line + '\\r\\n'); return true;\n\
+\x20 // In pieces: a message that is too long would end the connection.\n\
+\x20 const text = line + '\\r\\n';\n\
+\x20 for (let at = 0; at < text.length; at += 16384) ws.send(text.slice(at, at + 16384));\n\
+\x20 return true;\n\
 }\n\
 // A password is shown as dots, and not kept: what follows these words, and before a login what follows a word like them and a name.\n\
-const SECRET = /^(\\s*(?:co|con|connect|cr|create)\\s+\\S+\\s+|\\s*@[a-z]*passw[a-z]*\\s+)(\\S.*)$/im, LOGIN = /^(\\s*c[a-z]*\\s+\\S+\\s+)(\\S.*)$/im;\n\
+const SECRET = /^(\\s*(?:co|con|connect|cr|create|@make-player)\\s+\\S+\\s+|\\s*@[a-z]*pass?w[a-z]*\\s+)(\\S.*)$/im, LOGIN = /^(\\s*c[a-z]*\\s+\\S+\\s+)(\\S.*)$/im;\n\
+const isNew = line => secret(line) && (isIn ? /^\\s*@/ : /^\\s*(?!co|\\s)/i).test(line);\n\
 const secret = text => SECRET.test(text) || (!isIn && LOGIN.test(text));\n\
 const veil = line => (isIn ? [SECRET] : [SECRET, LOGIN]).reduce((l, p) => l.replace(p, (_, head, rest) => head + '\\u2022'.repeat(Math.min(8, rest.length))), line);\n\
 function typed(text) {\n\
 \x20 const all = text.replace(/\\r\\n?/g, '\\n').split('\\n');\n\
 \x20 if (all.length > 1 && all[all.length - 1] === '') all.pop();\n\
+\x20 // A new password isn't replaced: with '?' for each Cyrillic letter it would be easy to guess.\n\
+\x20 if (all.some(raw => isNew(raw) && plain(raw) !== raw)) { tell('A name and a password have plain ASCII characters alone: nothing was sent.', true); return false; }\n\
 \x20 let lost = 0, long = 0;\n\
 \x20 for (const raw of all) {\n\
 \x20   const line = plain(raw);\n\
@@ -533,12 +545,12 @@ function sign(show) {\n\
 }\n\
 $('sign').onsubmit = e => {\n\
 \x20 e.preventDefault();\n\
-\x20 const how = e.submitter ? e.submitter.value : 'connect', who = plain($('who').value.trim()), pass = plain($('pass').value);\n\
+\x20 const how = e.submitter ? e.submitter.value : 'connect', who = $('who').value.trim(), pass = $('pass').value;\n\
 \x20 if (how === 'guest') { typed('connect guest'); type.focus(); return; }\n\
 \x20 if (!who) { tell('A name is wanted.', true); $('who').focus(); return; }\n\
 \x20 if (/\\s/.test(who)) { tell('A name is one word.', true); $('who').focus(); return; }\n\
-\x20 opt.who = who; keepSettings();\n\
-\x20 typed(how + ' ' + who + (pass ? ' ' + pass : '')); $('pass').value = ''; $('pass').focus();\n\
+\x20 if (typed(how + ' ' + who + (pass ? ' ' + pass : ''))) { opt.who = plain(who); keepSettings(); $('pass').value = ''; }\n\
+\x20 $('pass').focus();\n\
 };\n\
 \n\
 // ---- buttons\n\
@@ -592,8 +604,10 @@ $('which').onsubmit = e => {\n\
 \x20 ask(['@list ' + plain($('verb').value.trim())], got => {\n\
 \x20   if (!got) return tellPanel('bad', 'No answer.');\n\
 \x20   const head = /^(#\\d+):\"([^\"\\s*]+)/.exec(got[0] || ''), code = [];\n\
-\x20   for (const g of got.slice(1)) { const m = /^\\s*\\d+: ?(.*)$/.exec(g); if (m) code.push(m[1]); }\n\
+\x20   let whole = true;\n\
+\x20   for (const g of got.slice(1)) { const m = /^\\s*(\\d+): ?(.*)$/.exec(g); if (m) code.push(m[2]); whole = !code.length || (m !== null && +m[1] === code.length); }\n\
 \x20   if (!head) return tellPanel('bad', got.join('\\n') || 'It is not listed.');\n\
+\x20   if (!whole) return tellPanel('bad', got.filter(g => !/^\\s*\\d+: /.test(g)).slice(1).join('\\n') + '\\nThe list is not whole, so it is not in the editor.');\n\
 \x20   $('verb').value = head[1] + ':' + head[2]; $('code').value = editing = code.join('\\n');\n\
 \x20   tellPanel('', got[0]); $('code').focus(); $('code').setSelectionRange(0, 0);\n\
 \x20 });\n\

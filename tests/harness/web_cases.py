@@ -98,6 +98,7 @@ def requests_are_answered(moo):
             head, _, body = response.partition(b"\r\n\r\n")
             same(repr(request[:80]), head[:13], b"HTTP/1.1 %d " % status)
             same("length", int(re.search(rb"Content-Length: (\d+)", head)[1]), len(body))
+            same("upgrade", b"\nUpgrade: " in head, b"\nConnection: upgrade" in head)
 
 
 def a_head_has_a_limit(moo):

@@ -10,9 +10,10 @@ LAUNCH = os.path.join(TOP, "release", "launch")
 
 
 class Launched:
-    """A server that the launcher runs, over the database of this path or one in a folder of its own. The options before come before it."""
+    """A server that the launcher runs, over the database of this path or one in a folder of its own. The options before come before it. Another
+    command may run the launcher."""
 
-    def __init__(self, *options, before=(), path=None, before_start=None):
+    def __init__(self, *options, before=(), path=None, before_start=None, under=()):
         self.folder = tempfile.mkdtemp(prefix="service-console-")
         self.path = path or os.path.join(self.folder, "world.db")
         if path is None:
@@ -21,8 +22,8 @@ class Launched:
         self.log_path = os.path.join(self.folder, "log")
         # A signal that is ignored at the start can't be caught by a shell.
         with open(self.log_path, "wb") as log:
-            self.process = subprocess.Popen([LAUNCH, "serve", *before, self.path, "0", *options], stdin=subprocess.DEVNULL, stdout=subprocess.PIPE,
-                                            stderr=log, env={**os.environ, "MOO_PROGRAM": moo}, preexec_fn=before_start)
+            self.process = subprocess.Popen([*under, LAUNCH, "serve", *before, self.path, "0", *options], stdin=subprocess.DEVNULL,
+                                            stdout=subprocess.PIPE, stderr=log, env={**os.environ, "MOO_PROGRAM": moo}, preexec_fn=before_start)
         found = re.fullmatch(rb"listening on .*:(\d+)\n", self.process.stdout.readline())
         self.port = int(found[1]) if found else None
 
@@ -129,6 +130,14 @@ checks.check("moo console: no server runs", (console.returncode, said) == (2, f"
 server = Launched(path=server.path)
 server.process.send_signal(signal.SIGTERM)
 checks.check("the next server uses the pipe that was left", server.status() == 0, server.log())
+if shutil.which("strace"):
+    # Each fork of the launcher takes half a second. So the signal comes before the launcher has the number of the server that it has begun.
+    forks = "clone,clone3,fork,vfork"
+    server = Launched(path=server.path, under=("strace", "-D", "-o", os.devnull, "-e", f"trace={forks}", "-e", f"inject={forks}:delay_exit=500000"))
+    server.process.send_signal(signal.SIGTERM)
+    checks.check("a signal that comes as the server begins isn't lost", server.status() == 0, server.log())
+else:
+    print("strace isn't there: no signal is sent as a server begins")
 
 server = Launched(before_start=lambda: os.close(0))
 server.process.send_signal(signal.SIGTERM)

@@ -38,6 +38,13 @@ for name in ("alpha", "zeta", "zeta", "alpha"):
     checks.check(f"the copy of {name} that was just made is there", os.path.exists(answer.stdout.strip()), answer.stdout)
     time.sleep(1.1)
 checks.check("each of two databases has its newest copy in one folder", [name.split("-")[0] for name in sorted(os.listdir(both))] == ["alpha", "zeta"])
+clock = os.path.join(folder, "date")
+with open(clock, "w") as file:
+    file.write("#!/bin/sh\necho 20260101T000000Z\n")
+os.chmod(clock, 0o700)
+words, path = [os.path.join(EXAMPLES, "backup"), named, os.path.join(folder, "same")], f"{folder}:{os.environ['PATH']}"
+runs = [subprocess.Popen(words, stdout=subprocess.DEVNULL, env={**os.environ, "MOO": moo, "PATH": path}) for _ in range(4)]
+checks.check("four runs in one second all have a copy", [run.wait(60) for run in runs] == [0] * 4)
 checks.check("to keep none is refused", run(os.path.join(EXAMPLES, "backup"), named, both, "0", MOO=moo).returncode == 2)
 checks.check("a program that isn't there is named", run(os.path.join(EXAMPLES, "backup"), named, both, MOO="nowhere").returncode == 2)
 server.kill()

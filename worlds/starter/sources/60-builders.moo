@@ -163,7 +163,7 @@ return names;
 
 @program $builder:quota_text this none this rxd
 q = `this.ownership_quota ! ANY => 0';
-return typeof(q) == INT ? tostr("You can make ", q, " more.") | "";
+return typeof(q) == INT ? tostr("You can make ", max(0, q), " more.") | "";
 .
 
 // @quota, @quota NAME
@@ -543,7 +543,10 @@ elseif (!player:may_speak())
 endif
 try
   move(o, to);
-  player:tell($string:subject(o.name), " is in ", $string:the(to.name), " now.");
+  player:tell($string:subject(o.name), " is in ", to == player ? "your hands" | (is_player(to) ? to.name + "'s hands" | $string:the(to.name)), " now.");
+  if (is_player(to) && to != player && o.location == to)
+    to:tell(player.name, " puts ", $string:the(o.name), " into your hands.");
+  endif
 except e (ANY)
   player:tell(this:why(e, o, "moved"));
 endtry
@@ -590,5 +593,6 @@ else
   notify(dobj, tostr(player.name, " sends you away."));
   move(dobj, dest);
   player:tell(name, " is gone from here.");
+  here:announce(tostr(player.name, " sends ", $string:the(dobj.name), " away."), {player, dobj});
 endif
 .

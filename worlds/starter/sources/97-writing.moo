@@ -32,7 +32,9 @@ endif
 
 @program $editor:title this none this rxd
 {kind, what, name, @rest} = args[1];
-if (kind == "letter")
+if (!valid(what))
+  return kind == "letter" ? "a letter to somebody who is no more" | "something for what is gone";
+elseif (kind == "letter")
   return "a letter to " + what.name;
 elseif (kind == "list")
   return "a letter to the list " + name;

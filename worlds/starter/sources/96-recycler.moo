@@ -142,15 +142,24 @@ elseif ($isa(o, $room))
   endfor
   for p in (o.contents)
     if (is_player(p))
+      this:spare(25000);
       notify(p, "The place around you vanishes.");
       move(p, this:is_safe(p) ? $login.start | #-1);
     endif
   endfor
   for e in ({@o.exits, @o.ways_in})
     if ($isa(e, $exit) && o in {e.source, e.dest})
+      this:spare(10000);
       this:keep(e);
     endif
   endfor
+endif
+.
+
+// Raises an error if fewer than N ticks are left: when they are used up, nobody is told what was done.
+@program $recycler:spare this none this rxd wiz
+if (ticks_left() < args[1])
+  raise(E_QUOTA, "it has many people or ways, of which some are gone by now. Type it again");
 endif
 .
 
@@ -162,6 +171,8 @@ if (!valid(o) || is_player(o) || o <= #3)
   raise(E_INVARG);
 elseif (!$controls(caller_perms(), o))
   raise(E_PERM);
+elseif (o.owner == #-1 && o in this.pool)
+  raise(E_INVARG, "it is recycled already");
 endif
 // first what the object itself does about it: it may fail, or use up the ticks; a stranger's object isn't asked
 core = this:is_core(o);

@@ -1,6 +1,6 @@
 // Writing of several lines: a small editor of lines, letters, and notes.
 
-// {kind, object, name, lines, where the next line goes, taken as they are}
+// {kind, object, name, lines, where the next line goes, taken as they are, the lines as they were}
 @property $player.editing - wiz = {}
 @property $player.local_editing r wiz = 0
 
@@ -23,7 +23,7 @@ if (!(caller_perms() in {who, $keeper} || caller_perms().wizard))
 elseif (!(kind in {"verb", "text", "letter", "list", "board"}) || (kind == "board" && !$isa(what, $board)))
   raise(E_INVARG);
 endif
-who.editing = {kind, what, name, lines, length(lines) + 1, raw};
+who.editing = {kind, what, name, lines, length(lines) + 1, raw, lines};
 if (!raw)
   n = length(lines);
   who:tell("You are writing ", this:title(who.editing), n ? tostr(", which has ", n, n == 1 ? " line" | " lines") | "", ". A line of one dot ends; .h shows how to change lines, .q drops it.");
@@ -63,7 +63,7 @@ if (caller != #0)
   raise(E_PERM);
 endif
 {who, text} = args;
-{kind, what, name, lines, at, raw} = who.editing;
+{kind, what, name, lines, at, raw, @rest} = who.editing;
 if (text == ".")
   this:finish(who);
 elseif (raw || text[1] != ".")
@@ -84,7 +84,7 @@ if (caller != this)
   raise(E_PERM);
 endif
 {who, text} = args;
-{kind, what, name, lines, at, raw} = who.editing;
+{kind, what, name, lines, at, raw, @rest} = who.editing;
 most = {2000, 60, 60, 12, 200}[kind in {"verb", "letter", "list", "board"} || 5];
 if (length(lines) >= most)
   who:tell("That is as long as it may be: ", most, " lines.");
@@ -102,7 +102,7 @@ if (caller != this)
   raise(E_PERM);
 endif
 {who, word, rest} = args;
-{kind, what, name, lines, at, raw} = who.editing;
+{kind, what, name, lines, at, raw, @more} = who.editing;
 n = length(lines);
 words = $string:explode(rest);
 from = words ? toint(words[1]) | 0;
@@ -151,11 +151,15 @@ if (caller != this)
   raise(E_PERM);
 endif
 {who} = args;
-{kind, what, name, lines, at, raw} = who.editing;
+{kind, what, name, lines, at, raw, @rest} = who.editing;
 fault = "";
 try
   if (!valid(what))
     fault = "What it was for is gone.";
+  elseif (!raw && rest && kind in {"verb", "text"} && !equal(now = this:lines_of(who, kind, what, name), rest[1]))
+    // somebody else wrote there too: that is lost only if the writer says so
+    who.editing[7] = now;
+    fault = "It has changed since you began. A dot once more puts your lines in its place.";
   elseif (kind == "verb")
     told = this:save_verb(who, what, name, lines);
     fault = told ? told[1] | "";
@@ -187,6 +191,17 @@ endif
 .
 
 // What is kept is kept with the rights of who writes.
+// The lines that there are now, if WHO may read them: else it would show who guesses a password.
+@program $editor:lines_of this none this rxd wiz
+if (caller != this)
+  raise(E_PERM);
+endif
+{who, kind, what, name} = args;
+set_task_perms(who);
+lines = kind == "verb" ? verb_code(what, name) | what.(name);
+return typeof(lines) == STR ? (lines ? {lines} | {}) | lines;
+.
+
 @program $editor:save_verb this none this rxd wiz
 if (caller != this)
   raise(E_PERM);

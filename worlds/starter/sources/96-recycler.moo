@@ -118,7 +118,8 @@ endwhile
 
 // Before an exit goes, its two rooms forget it. Before a room goes, its people go to the first room, the exits from it and to it
 // go too, and who lived here lives at the start. No verb of others is called, which could use up the ticks: so who has verbs of
-// his own, which would run as he arrives, is nowhere, and has to type home.
+// his own, which would run as he arrives, is nowhere, and has to type home; and so are the last of many people, since each one
+// who arrives looks round.
 @program $recycler:unhook this none this rxd wiz
 if (!caller_perms().wizard)
   raise(E_PERM);
@@ -142,9 +143,10 @@ elseif ($isa(o, $room))
   endfor
   for p in (o.contents)
     if (is_player(p))
-      this:spare(25000);
-      notify(p, "The place around you vanishes.");
-      move(p, this:is_safe(p) ? $login.start | #-1);
+      this:spare(15000);
+      dest = ticks_left() > 60000 && this:is_safe(p) ? $login.start | #-1;
+      notify(p, tostr("The place around you vanishes.", dest == #-1 ? " Type  home." | ""));
+      move(p, dest);
     endif
   endfor
   for e in ({@o.exits, @o.ways_in})

@@ -37,16 +37,22 @@ if (!caller_perms().wizard)
 endif
 {who, text} = args;
 n = text ? toint(text) | 20;
-shown = 0;
 all = this.lines;
 if (n > 0)
   all = all[max(1, length(all) - n + 1)..$];
 endif
-for l in (all)
-  if (n > 0 || index(l[2], text))
-    who:tell($time:text(l[1]), "  ", l[2]);
-    shown = shown + 1;
+// the latest ones first, as long as the ticks last
+shown = {};
+i = length(all);
+while (i > 0 && ticks_left() > 20000)
+  if (n > 0 || index(all[i][2], text))
+    shown = {tostr($time:text(all[i][1]), "  ", all[i][2]), @shown};
   endif
+  i = i - 1;
+endwhile
+for l in (shown)
+  who:tell(l);
 endfor
-who:tell(shown, shown == 1 ? " line." | " lines.");
+n = length(shown);
+who:tell(n, n == 1 ? " line" | " lines", i > 0 ? ". There may be earlier ones: @log TEXT shows those with TEXT." | ".");
 .

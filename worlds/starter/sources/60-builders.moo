@@ -119,7 +119,8 @@ try
   o = $recycler:make(kind);
   o.name = names[1];
   o.r = 1;
-  if (length(names) > 1)
+  // the other names of its kind aren't its own
+  if (length(names) > 1 || o.aliases)
     o.aliases = names[2..$];
   endif
   here = player.location;
@@ -278,7 +279,7 @@ fault = fault || length(ways) < 2 || fresh ? fault | room:exit_fault(player);
 fault = fault || !ways || !(n = here:taken_name(ways[1], #-1)) ? fault | tostr("There is an exit ", $string:quoted(n), " here already.");
 fault = fault || length(ways) < 2 || fresh || !(n = room:taken_name(ways[2], #-1)) ? fault | tostr("There is an exit ", $string:quoted(n), " in ", room.name, " already.");
 if (fault)
-  player:tell(fault);
+  player:tell(fault, fresh && index(fault, "There are 40 exits") ? tostr(" (@dig ", to, "  makes the room without one.)") | "");
   return;
 endif
 try

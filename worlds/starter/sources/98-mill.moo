@@ -55,7 +55,7 @@ Dust, sunlight in stripes, and a heap of old sacks that something has nested in.
 return this.open && this.oiled;
 .
 
-// Is somebody in the mill, or carrying a part of it about?
+// Is somebody in the mill, BUT aside?
 @program $mill:in_use this none this rxd
 {?but = #-1} = args;
 for r in (this.rooms)

@@ -124,7 +124,8 @@ try
     o.aliases = names[2..$];
   endif
   here = player.location;
-  `move(o, $isa(o, $vehicle) && valid(here) && (`here:accept(o) ! ANY => 0') ? here | player) ! ANY';
+  // a vehicle is in a room, and never in somebody's hands
+  `move(o, $isa(o, $vehicle) ? ($isa(here, $room) && (`here:accept(o) ! ANY => 0') ? here | #-1) | player) ! ANY';
   if (!valid(o.location))
     // a room answers only for a thing that there is; one that has no place is taken away again
     $recycler:keep(o);
@@ -539,6 +540,9 @@ if (!$match:found(o, dobjstr, player) || !$match:found(to, iobjstr, player))
 elseif (is_player(o) && !player.wizard)
   player:tell("Players move themselves.");
   return;
+elseif ($isa(o, $vehicle) && !$isa(to, $room))
+  player:tell("A vehicle has to be in a room: its people could not leave it.");
+  return;
 elseif (!player:may_speak())
   return;
 endif
@@ -584,6 +588,9 @@ else
   dest = is_player(dobj) ? $login.start | #-1;
   if (is_player(dobj) && $isa(home = `dobj.home ! ANY => #-1', $room) && home != here && $recycler:is_safe(home))
     dest = home;
+  elseif ($isa(dobj, $vehicle))
+    // in somebody's hands its people could not leave it
+    dest = $login.start;
   elseif (!is_player(dobj) && $isa(dobj.owner, $player) && $recycler:is_safe(dobj.owner))
     dest = dobj.owner;
   endif

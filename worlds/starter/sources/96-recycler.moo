@@ -191,12 +191,12 @@ if (core || length(verbs(o)) > 100 || length(properties(o)) > 100 || length(chil
   return recycle(o);
 endif
 for c in (o.contents)
-  for place in ({o.location, c.owner, #-1})
-    if (place == #-1 || (this:is_safe(place) && `place:accept(c) ! ANY => 0'))
-      `move(c, place) ! ANY';
-      break;
-    endif
+  // a vehicle comes into nobody's hands: its people could not leave it
+  dest = #-1;
+  for place in ({$isa(c, $vehicle) ? $login.start | c.owner, o.location})
+    dest = this:is_safe(place) && `place:accept(c) ! ANY => 0' ? place | dest;
   endfor
+  `move(c, dest) ! ANY';
 endfor
 for c in (children(o))
   chparent(c, parent(o));

@@ -161,7 +161,7 @@ endif
 // Raises an error if fewer than N ticks are left: when they are used up, nobody is told what was done.
 @program $recycler:spare this none this rxd wiz
 if (ticks_left() < args[1])
-  raise(E_QUOTA, "it has many people or ways, of which some are gone by now. Type it again");
+  raise(E_QUOTA, "much is in it, or leads there, of which a part is gone by now. Type it again");
 endif
 .
 
@@ -191,6 +191,7 @@ if (core || length(verbs(o)) > 100 || length(properties(o)) > 100 || length(chil
   return recycle(o);
 endif
 for c in (o.contents)
+  this:spare(8000);
   // a vehicle comes into nobody's hands: its people could not leave it
   dest = #-1;
   for place in ({$isa(c, $vehicle) ? $login.start | c.owner, o.location})

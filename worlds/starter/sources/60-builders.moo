@@ -27,6 +27,10 @@ if (!$match:found(o, p[1], player))
 elseif (!$controls(player, o))
   player:tell($string:subject(o.name), " isn't yours.");
   return;
+elseif (is_player(o) && p[1] != o.name && index(o.name, p[1]) == 1)
+  // one connects by this name: it isn't changed by mistake
+  player:tell("Type the whole name of a player, or  @rename me to ", p[2]);
+  return;
 elseif (!player:may_speak())
   return;
 endif
@@ -51,6 +55,8 @@ endfor
 if (!names)
   player:tell("A name is wanted.");
   return;
+elseif (!is_player(o) && !$isa(o, $room))
+  names = $string:with_bare(names);
 endif
 if (is_player(o) && !player.wizard && !equal(names[1], o.name))
   // each new name is a line of the record, which is to keep other things too
@@ -160,7 +166,7 @@ if (!names || length(names) > 10)
   player:tell("One to ten names are wanted.");
   return {};
 endif
-return names;
+return $string:with_bare(names);
 .
 
 @program $builder:quota_text this none this rxd

@@ -490,7 +490,7 @@ endif
 dest:announce(player.name + words[2], {player});
 .
 
-// Who hears what is said here: those who are connected, and programs of others, if the room has any.
+// Who hears what is said here: those who are connected and don't gag who asks, and programs of others, if the room has any.
 @program $player:@sweep none none none rd
 here = player.location;
 if (!valid(here))
@@ -500,7 +500,7 @@ endif
 busy = connected_players();
 people = {};
 for o in (here.contents)
-  people = o != player && is_player(o) && o in busy ? {@people, o} | people;
+  people = o != player && is_player(o) && o in busy && !(o in player.gagged_by) ? {@people, o} | people;
 endfor
 player:tell_lines($string:flow("Who hears you here:", people ? $string:names(people) | {"nobody"}));
 if (!$recycler:is_safe(here))

@@ -163,7 +163,10 @@ endfor
 if (n)
   notify(this, tostr("You have ", n, n == 1 ? " letter that isn't read" | " letters that aren't read", ": type  @mail."));
 endif
-if (this.editing)
+if (this.editing && !this.editing[1])
+  // the lines that were to be dropped
+  this.editing = {};
+elseif (this.editing)
   // what a client sent by @write is cut off: from here on the dots are commands again
   this.editing[6] = 0;
   notify(this, tostr("You are still writing ", $editor:title(this.editing), ". A line of one dot ends, .q drops it, .h shows more."));

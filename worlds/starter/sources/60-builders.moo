@@ -27,7 +27,7 @@ if (!$match:found(o, p[1], player))
 elseif (!$controls(player, o))
   player:tell($string:subject(o.name), " isn't yours.");
   return;
-elseif (is_player(o) && p[1] != o.name && index(o.name, p[1]) == 1)
+elseif (is_player(o) && !(p[1] in {"me", o.name, tostr(o), @(typeof(more = `o.aliases ! ANY => {}') == LIST ? more | {})}) && !index("#$", p[1][1]))
   // one connects by this name: it isn't changed by mistake
   player:tell("Type the whole name of a player, or  @rename me to ", p[2]);
   return;
@@ -556,11 +556,22 @@ try
   move(o, to);
   player:tell($string:subject(o.name), " is in ", to == player ? "your hands" | (is_player(to) ? to.name + "'s hands" | $string:the(to.name)), " now.");
   if (is_player(to) && to != player && o.location == to)
-    to:tell(player.name, " puts ", $string:the(o.name), " into your hands.");
+    $builder:say_moved(o, to);
   endif
 except e (ANY)
   player:tell(this:why(e, o, "moved"));
 endtry
+.
+
+// Tells WHO that @move put O into his hands. No verb of his is called, which could break the command.
+@program $builder:say_moved this none this rxd wiz
+{o, who} = args;
+by = callers()[1];
+if (by[2] != "@move" || by[4] != $builder)
+  raise(E_PERM);
+elseif (!(player in `who.gags ! ANY => {}'))
+  notify(who, tostr(player.name, " puts ", $string:the(o.name), " into your hands."));
+endif
 .
 
 // @eject NAME: out of a room of one's own; @eject EXIT: an exit that somebody else made there

@@ -87,17 +87,38 @@ endfor
 return 0;
 .
 
-// Is PLACE without verbs of a stranger, its own or those of its kinds? Such a verb could use up the ticks.
+// Is PLACE without verbs of who is a stranger to WHO, its own or those of its kinds? Such a verb could use up the ticks. What
+// changed hands keeps the verbs of who programmed them, so each verb is asked.
 @program $recycler:is_safe this none this rxd wiz
-{place} = args;
+{place, ?who = player} = args;
 k = place;
 while (valid(k) && k > $login.core_end)
-  if (k.owner != player && verbs(k))
+  n = length(verbs(k));
+  if (n > 200)
     return 0;
   endif
+  for i in [1..n]
+    by = verb_info(k, i)[1];
+    if (by != who && !(valid(by) && (by.wizard || by == $keeper)))
+      return 0;
+    endif
+  endfor
   k = parent(k);
 endwhile
 return valid(place);
+.
+
+// Is the verb NAME that O has, by itself or by its kinds, one of O's owner?
+@program $recycler:is_own this none this rxd wiz
+{o, name} = args;
+k = o;
+while (valid(k))
+  if (info = `verb_info(k, name) ! ANY => 0')
+    return info[1] == o.owner;
+  endif
+  k = parent(k);
+endwhile
+return 0;
 .
 
 // Takes the verbs from an object, and the kinds that don't belong to the core.
@@ -176,15 +197,16 @@ elseif (!$controls(caller_perms(), o))
 elseif (o.owner == #-1 && o in this.pool)
   raise(E_INVARG, "it is recycled already");
 endif
-// first what the object itself does about it: it may fail, or use up the ticks; a stranger's object isn't asked
+// first what the object itself does about it: it may fail, or use up the ticks; a stranger's object isn't asked, nor is a verb
+// of a stranger, who made its kind or had it before
 core = this:is_core(o);
-if (o.owner in {caller_perms(), player} && !core)
+if (!core && o.owner in {caller_perms(), player} && this:is_own(o, "recycle"))
   `o:recycle() ! ANY';
-elseif (!core)
-  this:disarm(o);
 endif
 if (!valid(o))
   return;
+elseif (!core && !(o.owner in {caller_perms(), player} && this:is_safe(o, o.owner)))
+  this:disarm(o);
 endif
 this:unhook(o);
 if (core || length(verbs(o)) > 100 || length(properties(o)) > 100 || length(children(o)) > 50)

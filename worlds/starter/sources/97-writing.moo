@@ -50,11 +50,24 @@ return tostr(kind == "verb" ? "the verb " | "the text ", what, kind == "verb" ? 
 if (caller_perms() != who && !caller_perms().wizard)
   raise(E_PERM);
 endif
-notify(who, tostr("#$# edit name: ", name, " upload: ", upload));
+// a name, which its maker chooses, can't say what the client is to send
+mark = " upload:";
+notify(who, tostr("#$# edit name: ", strsub(name, mark, " upload"), mark, " ", strsub(upload, mark, " upload")));
 for l in (lines)
   notify(who, l && l[1] == "." ? "." + l | l);
 endfor
 notify(who, ".");
+.
+
+// @write was refused: what WHO's client sends after it isn't taken for commands, up to the dot.
+@program $editor:drop this none this rxd wiz
+{who} = args;
+if (caller_perms() != who && !caller_perms().wizard)
+  raise(E_PERM);
+elseif (!who.editing)
+  who.editing = {"", #-1, "", {}, 1, 1};
+  who:tell("The lines that follow are dropped, up to a line of one dot.");
+endif
 .
 
 // Takes a line of somebody who writes; true if no command is to run for it.
@@ -64,7 +77,12 @@ if (caller != #0)
 endif
 {who, text} = args;
 {kind, what, name, lines, at, raw, @rest} = who.editing;
-if (text == ".")
+if (!kind)
+  if (text == ".")
+    who.editing = {};
+    who:tell("They are dropped.");
+  endif
+elseif (text == ".")
   this:finish(who);
 elseif (raw || text[1] != ".")
   if (!raw && text in {"@quit", "quit"})
@@ -154,7 +172,7 @@ endif
 {kind, what, name, lines, at, raw, @rest} = who.editing;
 fault = "";
 try
-  if (!valid(what))
+  if (!valid(what) || what.owner == #-1)
     fault = "What it was for is gone.";
   elseif (!raw && rest && kind in {"verb", "text"} && !equal(now = this:lines_of(who, kind, what, name), rest[1]))
     // somebody else wrote there too: that is lost only if the writer says so
@@ -229,62 +247,70 @@ set_task_perms(player);
 if (!argstr || (verb == "@write" && !index(argstr, ".")))
   player:tell(verb == "@write" ? "For example: @write #12.description   (lines follow, and a dot)" | "For example: @edit whistle   or: @edit whistle.description   or: @edit whistle:blow");
   return;
-elseif (index(argstr, ":"))
-  if (!player.programmer)
-    player:tell("You are not a programmer.");
-    return;
-  endif
-  p = $match:part(argstr, ":", player);
-  at = p ? this:verb_of(@p) | {};
-  if (p == 0)
-    return;
-  elseif (!at)
-    player:tell("There is no such verb. To make one: @verb ", argstr, " this none none");
-    return;
-  endif
-  {o, v} = at;
-  info = `verb_info(o, v) ! E_PERM => {}';
-  if (!info || !(player.wizard || info[1] == player || index(info[2], "w")))
-    player:tell("That verb isn't yours.", info ? " @list " + argstr + " shows it." | "");
-    return;
-  endif
-  lines = `verb_code(o, v) ! E_PERM => 0';
-  name = strsub($string:explode(info[3])[1], "*", "");
-  kind = "verb";
-else
-  p = index(argstr, ".") ? $match:part(argstr, ".", player) | {};
-  o = p ? p[1] | $match:object(argstr, player);
-  if (!p && index(argstr, "."))
-    if (p == {})
-      player:tell("For example: @edit whistle   or: @edit whistle.description");
+endif
+try
+  if (index(argstr, ":"))
+    if (!player.programmer)
+      player:tell("You are not a programmer.");
+      return;
     endif
-    return;
-  elseif (!p && !$match:found(o, argstr, player))
-    return;
+    p = $match:part(argstr, ":", player);
+    at = p ? this:verb_of(@p) | {};
+    if (p == 0)
+      return;
+    elseif (!at)
+      player:tell("There is no such verb. To make one: @verb ", argstr, " this none none");
+      return;
+    endif
+    {o, v} = at;
+    info = `verb_info(o, v) ! E_PERM => {}';
+    if (!info || !(player.wizard || info[1] == player || index(info[2], "w")))
+      player:tell("That verb isn't yours.", info ? " @list " + argstr + " shows it." | "");
+      return;
+    endif
+    lines = `verb_code(o, v) ! E_PERM => 0';
+    name = strsub($string:explode(info[3])[1], "*", "");
+    kind = "verb";
+  else
+    p = index(argstr, ".") ? $match:part(argstr, ".", player) | {};
+    o = p ? p[1] | $match:object(argstr, player);
+    if (!p && index(argstr, "."))
+      if (p == {})
+        player:tell("For example: @edit whistle   or: @edit whistle.description");
+      endif
+      return;
+    elseif (!p && !$match:found(o, argstr, player))
+      return;
+    endif
+    name = p ? p[2] | ($isa(o, $note) ? "text" | "description");
+    lines = `o.(name) ! ANY => 0';
+    lines = typeof(lines) == STR ? (lines ? {lines} | {}) | lines;
+    kind = "text";
+    if (name in {"name", "aliases"})
+      lines = 0;
+    endif
+    for l in (typeof(lines) == LIST ? lines | {})
+      lines = typeof(l) == STR ? lines | 0;
+    endfor
   endif
-  name = p ? p[2] | ($isa(o, $note) ? "text" | "description");
-  lines = `o.(name) ! ANY => 0';
-  lines = typeof(lines) == STR ? (lines ? {lines} | {}) | lines;
-  kind = "text";
-  if (name in {"name", "aliases"})
-    lines = 0;
+  if (typeof(lines) != LIST || (kind == "text" && !$controls(player, o)))
+    player:tell(typeof(lines) == LIST ? $string:subject(o.name) + " isn't yours." | "That is no text that you may edit.");
+  elseif (!player:may_speak())
+    return;
+  elseif (verb == "@write")
+    $editor:start(player, kind, o, name, {}, 1);
+    player:tell("Lines for ", o, ".", name, " follow; a line of one dot ends.");
+  elseif (player.local_editing)
+    $editor:send_local(player, tostr(o.name, kind == "verb" ? ":" | ".", name), tostr(kind == "verb" ? ".program " | "@write ", o, kind == "verb" ? ":" | ".", name), lines);
+  else
+    $editor:start(player, kind, o, kind == "verb" ? v | name, lines);
   endif
-  for l in (typeof(lines) == LIST ? lines | {})
-    lines = typeof(l) == STR ? lines | 0;
-  endfor
-endif
-if (typeof(lines) != LIST || (kind == "text" && !$controls(player, o)))
-  player:tell(typeof(lines) == LIST ? $string:subject(o.name) + " isn't yours." | "That is no text that you may edit.");
-elseif (!player:may_speak())
-  return;
-elseif (verb == "@write")
-  $editor:start(player, kind, o, name, {}, 1);
-  player:tell("Lines for ", o, ".", name, " follow; a line of one dot ends.");
-elseif (player.local_editing)
-  $editor:send_local(player, tostr(o.name, kind == "verb" ? ":" | ".", name), tostr(kind == "verb" ? ".program " | "@write ", o, kind == "verb" ? ":" | ".", name), lines);
-else
-  $editor:start(player, kind, o, kind == "verb" ? v | name, lines);
-endif
+finally
+  // a client sends its lines all the same: they are no commands
+  if (verb == "@write")
+    $editor:drop(player);
+  endif
+endtry
 .
 
 // @local on: @edit sends the text to a client that edits by itself

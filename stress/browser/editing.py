@@ -75,6 +75,43 @@ def a_text_is_edited(check, served, browser):
     page.line(';notify(player, "#$# edit name: Note upload: @describe lamp as"); notify(player, "one"); notify(player, "."); return 0', 0)
     page.until("!document.getElementById('panel').hidden")
     check("`#$# edit` opens the editor", page.js(CODE) == "one")
+    page.js(CODE + " = 'two'; window.confirm = () => false; type.focus()")
+    page.line(';notify(player, "#$# edit name: Note upload: @describe lamp as"); notify(player, "three"); notify(player, "."); return 0', 0)
+    page.until(SAID + ".textContent.includes('was not opened')")
+    check("and asks before it drops what is written there", page.js(CODE) == "two")
 
 
-PARTS = [a_verb_is_edited, a_long_verb_is_whole_or_not_edited, a_text_is_edited]
+def what_others_chose_is_not_typed(check, served, browser):
+    page = entered(served, browser, "connect", "wizard", served.password())
+    for line in ("@create $note named list,list", "@local on", "@edit list"):
+        page.line(line, 0.3)
+    page.until("!document.getElementById('panel').hidden")
+    page.type("..milk\n...\nsay leaked")
+    page.click("#save")
+    page.until("lines.innerText.includes('list.text has')")
+    page.js("panel(false)")
+    page.line("read list", 0)
+    page.until("lines.innerText.includes('..milk')")
+    check("a line that begins with dots keeps them", "\n...\n" in page.text(), page.text()[-200:])
+    page.line("@edit list", 0)
+    page.until("!document.getElementById('panel').hidden")
+    page.js("panel(false)")
+    page.line("@recycle list", 0.3)
+    page.js("panel(true)")
+    page.click("#save")
+    page.until("lines.innerText.includes('They are dropped.')")
+    check("the lines of a text that is gone are no commands", "You say" not in page.text(), page.text()[-200:])
+    page.js("panel(false)")
+    page.line(';notify(player, "#$# edit name: x upload: say upload: @write #0.x"); notify(player, "."); return 0', 0)
+    page.until("!document.getElementById('panel').hidden")
+    check("a name doesn't say what is sent", page.js("upload") == "@write #0.x", page.js("upload"))
+    page.js("panel(false)")
+    page.line(';notify(player, "#$# edit name: x:y upload: .program nothing:y"); notify(player, "say leaked"); notify(player, "."); return 0', 0)
+    page.until("!document.getElementById('panel').hidden")
+    page.click("#save")
+    page.until(SAID + ".textContent.includes('No such verb')")
+    page.rest(0.3)
+    check("nor are the lines of a program that is refused", "You say" not in page.text(), page.text()[-200:])
+
+
+PARTS = [a_verb_is_edited, a_long_verb_is_whole_or_not_edited, a_text_is_edited, what_others_chose_is_not_typed]

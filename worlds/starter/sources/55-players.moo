@@ -506,8 +506,8 @@ for o in (here.contents)
   people = o != player && is_player(o) && o in busy && !(o in player.gagged_by) ? {@people, o} | people;
 endfor
 player:tell_lines($string:flow("Who hears you here:", people ? $string:names(people) | {"nobody"}));
-if (!$recycler:is_safe(here))
-  player:tell("The room has programs of ", valid(here.owner) ? here.owner.name | "others", ", which may hear you too.");
+if (others = $recycler:stranger(here))
+  player:tell("The room has programs of ", valid(others[1]) ? others[1].name | "others", ", which may hear you too.");
 endif
 .
 

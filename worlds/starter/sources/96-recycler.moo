@@ -90,22 +90,27 @@ return 0;
 // Is PLACE without verbs of who is a stranger to WHO, its own or those of its kinds? Such a verb could use up the ticks. What
 // changed hands keeps the verbs of who programmed them, so each verb is asked.
 @program $recycler:is_safe this none this rxd wiz
+return valid(args[1]) && !this:stranger(@args);
+.
+
+// {whose the first such verb is}, or {}. So many verbs that it would take long to look at them all count as one of the owner's.
+@program $recycler:stranger this none this rxd wiz
 {place, ?who = player} = args;
 k = place;
 while (valid(k) && k > $login.core_end)
   n = length(verbs(k));
   if (n > 200)
-    return 0;
+    return {k.owner};
   endif
   for i in [1..n]
     by = verb_info(k, i)[1];
     if (by != who && !(valid(by) && (by.wizard || by == $keeper)))
-      return 0;
+      return {by};
     endif
   endfor
   k = parent(k);
 endwhile
-return valid(place);
+return {};
 .
 
 // Is the verb NAME that O has, by itself or by its kinds, one of O's owner?

@@ -66,9 +66,10 @@ def no_password_is_shown_or_changed(check, served, browser):
     page.rest(0.3)
     check("a new password whose letters would be replaced isn't sent", "create Cyril" not in page.text() and "plain ASCII" in page.js(TOLD) and page.js(FOCUS) == "pass")
     page.js("type.focus()")
+    page.line("login wizard secretword")
     page.line("connect wizard " + served.password(), 0)
     page.until("isIn")
-    for line in ("@make-player Bob secretword", "@pasword secretword other", "@password caf\u00e9-secretword"):
+    for line in ("@make-player Bob secretword", "@pasword secretword other", "password secretword", "@pass secretword", "@password caf\u00e9-secretword"):
         page.line(line)
     check("nor is one that is typed", "plain ASCII" in page.js(TOLD) and page.js("type.value") == "@password caf\u00e9-secretword")
     page.until("lines.innerText.includes('Bob (#')")

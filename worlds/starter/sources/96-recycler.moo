@@ -192,7 +192,8 @@ endif
 .
 
 // Takes an object away. What is in it stays where it is, or goes to its owner; kinds of it become kinds of its own kind.
-// What is large, and what belongs to the core, is recycled by the server, and its number isn't used again.
+// What is large, what belongs to the core, and what is in the hands or the room of who has verbs of his own, is recycled by the
+// server, and its number isn't used again.
 @program $recycler:keep this none this rxd wiz
 {o} = args;
 if (!valid(o) || is_player(o) || o <= #3)
@@ -235,6 +236,10 @@ endwhile
 for name in (properties(o))
   delete_property(o, name);
 endfor
+if (valid(o.location) && !this:is_safe(o.location))
+  // it would leave by a stranger's exitfunc
+  return recycle(o);
+endif
 move(o, #-1);
 chparent(o, #-1);
 who = o.owner;

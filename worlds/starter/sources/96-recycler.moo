@@ -137,8 +137,13 @@ while (valid(k) && k > $login.core_end)
   k = parent(k);
 endwhile
 chparent(o, valid(k) ? k | #1);
-while (verbs(o))
-  delete_verb(o, 1);
+n = length(verbs(o));
+while (n)
+  this:spare(12000);
+  for i in [1..min(n, 50)]
+    delete_verb(o, n);
+    n = n - 1;
+  endfor
 endwhile
 .
 

@@ -4,8 +4,8 @@
 pub const PAGE: &[u8] = b"\
 HTTP/1.1 200 OK\r\n\
 Content-Type: text/html; charset=utf-8\r\n\
-Content-Length: 42250\r\n\
-Content-Security-Policy: default-src 'none'; script-src 'sha256-HQv1LiNz2ywInLnWG1FDdKcKLdKtvi4meKhwgtX1XKs='; style-src 'sha256-thrpMf2pGlfBpcIioRODKBZQNqc4Zpb8yzcI5HLetVI='; connect-src 'self'; img-src data:; base-uri 'none'; form-action 'none'; frame-ancestors 'none'\r\n\
+Content-Length: 43173\r\n\
+Content-Security-Policy: default-src 'none'; script-src 'sha256-BqRHDF5vsNjUwwSHtGhiRayb9GfBdNBb54e+6jWPxDg='; style-src 'sha256-thrpMf2pGlfBpcIioRODKBZQNqc4Zpb8yzcI5HLetVI='; connect-src 'self'; img-src data:; base-uri 'none'; form-action 'none'; frame-ancestors 'none'\r\n\
 X-Content-Type-Options: nosniff\r\n\
 Referrer-Policy: no-referrer\r\n\
 Cross-Origin-Opener-Policy: same-origin\r\n\
@@ -398,7 +398,7 @@ function connect() {\n\
 \x20 if (ws) { ws.onopen = ws.onclose = ws.onmessage = null; ws.close(); }\n\
 \x20 const url = new URL('ws', location.href); url.protocol = location.protocol === 'https:' ? 'wss:' : 'ws:';\n\
 \x20 state('wait', 'connecting ..');\n\
-\x20 half = ''; decoder = new TextDecoder(); isIn = false; captures.length = 0; edits = null;\n\
+\x20 half = ''; decoder = new TextDecoder(); isIn = false; captures.length = 0; edits = null; unwatch();\n\
 \x20 let opened = false;\n\
 \x20 try { ws = new WebSocket(url); } catch (e) { return lost('bad'); }\n\
 \x20 const mine = ws;\n\
@@ -441,7 +441,7 @@ function said(line) {\n\
 \x20 const named = /^\\s+((?:The )?[A-Z][\\w' -]{2,40})\\s*$/.exec(line);\n\
 \x20 if (world === 'MOO' && named && !isIn) { world = named[1].trim(); $('name').textContent = world; title(); }\n\
 \x20 if (/^\\*\\*\\* (Connected|Created|Redirecting old connection to this port) \\*\\*\\*$/.test(line)) { isIn = true; sign(false); }\n\
-\x20 if (/^\\*\\*\\* Disconnected \\*\\*\\*$/.test(line)) closing = true;\n\
+\x20 closing = line === '*** Disconnected ***';\n\
 \x20 if (local(line)) return;\n\
 \x20 put('said', line);\n\
 }\n\
@@ -457,11 +457,11 @@ function send(line) {\n\
 \x20 for (let at = 0; at < text.length; at += 16384) ws.send(text.slice(at, at + 16384));\n\
 \x20 return true;\n\
 }\n\
-// A password is shown as dots, and not kept: what follows these words, and before a login what follows a word like them and a name.\n\
-const SECRET = /^(\\s*(?:co|con|connect|cr|create|@make-player)\\s+\\S+\\s+|\\s*@[a-z]*pass?w[a-z]*\\s+)(\\S.*)$/im, LOGIN = /^(\\s*c[a-z]*\\s+\\S+\\s+)(\\S.*)$/im;\n\
+// A password is shown as dots, and not kept: what follows these words, and before a login what follows any word and a name.\n\
+const SECRET = /^(\\s*(?:co|con|connect|cr|create|@make-player)\\s+\\S+\\s+|\\s*(?:@[a-z]*pass?(?:w[a-z]*)?|passw[a-z]*)\\s+)(\\S.*)$/im, LOGIN = /^(\\s*@?[a-z]+\\s+\\S+\\s+)(\\S.*)$/im;\n\
 const isNew = line => secret(line) && (isIn ? /^\\s*@/ : /^\\s*(?!co|\\s)/i).test(line);\n\
 const secret = text => SECRET.test(text) || (!isIn && LOGIN.test(text));\n\
-const veil = line => (isIn ? [SECRET] : [SECRET, LOGIN]).reduce((l, p) => l.replace(p, (_, head, rest) => head + '\\u2022'.repeat(Math.min(8, rest.length))), line);\n\
+const veil = line => (isIn ? [SECRET] : [SECRET, LOGIN]).reduce((l, p) => l.replace(p, (_, head, rest) => head + '\\u2022'.repeat(8)), line);\n\
 function typed(text) {\n\
 \x20 const all = text.replace(/\\r\\n?/g, '\\n').split('\\n');\n\
 \x20 if (all.length > 1 && all[all.length - 1] === '') all.pop();\n\
@@ -615,15 +615,19 @@ $('which').onsubmit = e => {\n\
 $('save').onclick = () => {\n\
 \x20 const name = NAME.exec($('verb').value), text = plain($('code').value.replace(/\\t/g, '  ')), body = text.split('\\n');\n\
 \x20 if (body[body.length - 1] === '') body.pop();\n\
-\x20 if (upload) {\n\
-\x20   for (const l of [upload, ...body.map(l => l === '.' ? '. ' : l), '.']) if (!send(l)) return tellPanel('bad', 'Not connected.');\n\
+\x20 const program = upload.startsWith('.program ') ? upload.slice(9).trim() : '';\n\
+\x20 if (upload && !program) {\n\
+\x20   // A line of dots gets one more, which the world takes away.\n\
+\x20   for (const l of [upload, ...body.map(l => l === '.' || l.startsWith('..') ? '.' + l : l), '.']) if (!send(l)) return tellPanel('bad', 'Not connected.');\n\
 \x20   editing = $('code').value; return tellPanel('', 'sent; the answer is in the log.');\n\
 \x20 }\n\
-\x20 if (!name) return tellPanel('bad', NO_VERB);\n\
+\x20 // Ctrl+S that is held comes again before the answer: a second `.program` would be a line of the first.\n\
+\x20 if (watching) return;\n\
+\x20 if (!program && !name) return tellPanel('bad', NO_VERB);\n\
 \x20 if (body.some(l => l.trim() === '.')) return tellPanel('bad', 'A line that is a dot alone would end the program.');\n\
 \x20 tellPanel('', 'sending ..');\n\
 \x20 const from = $('code').value;\n\
-\x20 watch(body, plain($('verb').value.trim()), (ok, answer) => {\n\
+\x20 watch(body, program || plain($('verb').value.trim()), (ok, answer) => {\n\
 \x20   tellPanel(ok ? 'good' : 'bad', answer);\n\
 \x20   if (ok) editing = from;\n\
 \x20   const m = /^Line (\\d+):/m.exec(answer);\n\
@@ -631,8 +635,10 @@ $('save').onclick = () => {\n\
 \x20 });\n\
 };\n\
 let watching = null;\n\
+function unwatch() { const w = watching; watching = null; if (w) { clearTimeout(w.timer); w.done(false, 'No answer.'); } }\n\
 function watch(body, name, done) {\n\
-\x20 watching = { body, done, got: [], timer: setTimeout(() => { watching = null; done(false, 'No answer.'); }, 8000) };\n\
+\x20 const wait = ms => setTimeout(unwatch, ms);\n\
+\x20 watching = { body, done, got: [], wait, timer: wait(8000) };\n\
 \x20 if (!send('.program ' + name)) { clearTimeout(watching.timer); watching = null; done(false, 'Not connected.'); }\n\
 }\n\
 const ENDS = /^(Verb (not )?programmed\\.|No such verb\\.|Permission denied\\.|You are not a programmer\\.|Usage: \\.program .*)$/;\n\
@@ -642,17 +648,21 @@ function local(line) {\n\
 \x20   if (/^Now programming /.test(line) || /^Line \\d+: /.test(line) || ENDS.test(line)) {\n\
 \x20     watching.got.push(line);\n\
 \x20     // Only now: where the verb is refused, its lines would be read as commands.\n\
-\x20     if (/^Now programming /.test(line)) for (const l of [...watching.body, '.']) send(l);\n\
+\x20     if (/^Now programming /.test(line)) { clearTimeout(watching.timer); watching.timer = watching.wait(60000); for (const l of [...watching.body, '.']) send(l); }\n\
 \x20     if (ENDS.test(line)) { const w = watching; watching = null; clearTimeout(w.timer); w.done(line === 'Verb programmed.', w.got.join('\\n')); }\n\
 \x20     return true;\n\
 \x20   }\n\
 \x20 }\n\
 \x20 if (edits) {\n\
-\x20   if (line === '.') { const e = edits; edits = null; uploadBy(e.upload); $('verb').value = e.name; $('code').value = editing = e.got.join('\\n'); tellPanel('', 'Save sends: ' + e.upload); panel(true); }\n\
-\x20   else edits.got.push(line.replace(/^\\.(?=\\.)/, ''));\n\
+\x20   if (line !== '.' && edits.got.length < 20000) { edits.got.push(line.replace(/^\\.(?=\\.)/, '')); return true; }\n\
+\x20   const e = edits; edits = null;\n\
+\x20   if (line !== '.') { put('bad', e.name + ': a text without an end is not in the editor.'); return true; }\n\
+\x20   if ($('code').value.trim() && $('code').value !== editing && !confirm('Drop what is in the editor, for ' + e.name + '?')) { tellPanel('bad', e.name + ' was not opened.'); return true; }\n\
+\x20   uploadBy(e.upload); $('verb').value = e.name; $('code').value = editing = e.got.join('\\n'); tellPanel('', 'Save sends: ' + e.upload); panel(true);\n\
 \x20   return true;\n\
 \x20 }\n\
-\x20 const m = /^#\\$# edit name: (.*?) upload: (.*)$/.exec(line);\n\
+\x20 // The last mark counts: what is before it is a name, which some player chose.\n\
+\x20 const m = /^#\\$# edit name: (.*) upload: (.*)$/.exec(line);\n\
 \x20 if (m) { edits = { name: m[1], upload: m[2], got: [] }; return true; }\n\
 \x20 return /^#\\$#/.test(line);\n\
 }\n\

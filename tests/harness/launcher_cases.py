@@ -17,7 +17,7 @@ from outcome import PATIENCE, Outcome, Result, Skipped
 from row_file import TOP
 
 # The commands that the launcher takes from the system. A run has these alone on its path, and perhaps a kit.
-TOOLS = "awk cat chmod cp cut date dirname find grep mkdir mkfifo mktemp mv paste readlink rm sed sh sha256sum sleep sort stat tail tar uname wc xargs".split()
+TOOLS = "awk cat chmod cp cut date dd dirname find grep mkdir mkfifo mktemp mv paste readlink rm sed sh sha256sum sleep sort stat tail tar uname wc xargs".split()
 
 PARTS = ["moo", "release/sum", "release/check", "release/launch"]
 NEWER = "moo: the sources are newer than the release; this is the release (./moo build builds the newer program)\n"
@@ -374,14 +374,18 @@ def what_is_typed_for_a_console_without_a_server_is_refused(folder):
 
 
 def a_console_of_a_server_that_was_killed_is_refused(folder):
+    """Nobody reads the pipe that such a server has left. The number in DB.lock may be another process's by now, or a zombie's."""
     folder.release()
     console = open_console(folder)
     try:
-        for text, status, printed in ("", 0, ""), (f"{os.getpid()}\n", 0, ""), (f"{dead_process()}\n", 2, "moo: no server of a.db runs\n"):
+        for text in "", f"{os.getpid()}\n", f"{dead_process()}\n":
             folder.write("a.db.lock", text)
-            yield folder.run("console", "a.db", folder=folder.top), status, printed
+            yield folder.run("console", "a.db", folder=folder.top), 0, ""
     finally:
         os.close(console)
+    for text in "", f"{os.getpid()}\n", f"{dead_process()}\n":
+        folder.write("a.db.lock", text)
+        yield folder.run("console", "a.db", folder=folder.top), 2, "moo: no server of a.db runs\n"
 
 
 def a_closed_standard_input_is_empty(folder):

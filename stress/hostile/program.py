@@ -4,8 +4,8 @@ import os, re, resource, subprocess, tempfile, time
 TOP = os.path.dirname(os.path.dirname(os.path.dirname(os.path.realpath(__file__))))
 MOO = os.environ.get("MOO") or subprocess.run([os.path.join(TOP, "moo"), "--path"], check=True, stdout=subprocess.PIPE, text=True).stdout.rstrip("\n")
 STACK = 65_536 * 1024
-# The most bytes that `moo serve` reads of a connection at once: they are one event.
-PIECE = int(os.environ.get("PIECE", 256))
+# The most bytes and the most ends of lines that `moo serve` gives the server in one event of a connection.
+PIECE, ENDS = 4096, 128
 # The most address space of one run, in bytes: a program that asks for more is refused memory, and the machine goes on.
 ROOM = int(os.environ.get("ROOM", 3 << 30))
 
@@ -19,6 +19,11 @@ class Run:
 
     def last(self):
         return self.output.splitlines()[-1] if self.output.splitlines() else ""
+
+
+def times_in_piece(line):
+    """Returns how often one event of a connection can have this line, or these lines."""
+    return max(1, min(PIECE // (len(line) + 1), ENDS // (line.count("\n") + 1)))
 
 
 def limit(room=ROOM):

@@ -69,7 +69,7 @@ PLACES = {
 
 
 def piece(line):
-    times = max(1, program.PIECE // (len(line) + 1))
+    times = program.times_in_piece(line)
     return times, f"bytes 1 {(line.encode() + bytes([10])).hex() * times}"
 
 

@@ -25,7 +25,7 @@ PROGRAMS = [
     ("a list in a list past the depth", 4, ["l={};c=0;while(1)`l={l} ! ANY => c=c+1';endwhile"], OUT),
     ("a list of 200 levels printed", 4, ["l={};i=0;while(i<197)l={l};i=i+1;endwhile notify(player,toliteral(l));"], "{{{{"),
     ("160,000 lines of notices, in 20 commands", 4, ['while(1)notify(player,"");endwhile'] * 20, OUT),
-    ("one piece: a million lines of notices", 4, [b"y\n" * 128], OUT),
+    ("one piece: a million lines of notices", 4, [b"y\n" * program.ENDS], OUT),
     ("recycles itself, and goes on", 4, ["x=recycle(player);player:v();notify(player,player.name);"], "*** Recycled ***"),
     ("moves its room into itself", 4, [coded("accept", "return 1;") + "move(#2,player);"], "Recursive move"),
     ("moves itself to and fro", 4, ["while(1)move(player,#-1);move(player,#2);endwhile"], OUT),
@@ -35,7 +35,7 @@ PROGRAMS = [
     ("boots itself in a loop", 4, ["while(1)boot_player(player);endwhile"], "*** Disconnected ***"),
     ("boots, sends and shuts down for others", 4, ["boot_player(#3);", "notify(#3,\"x\");", "shutdown();", "dump_database();", "server_log(\"x\");"], PERM),
     ("20,000 objects asked for", 4, ["while(1)create(#-1);endwhile"], OUT),
-    (f"one piece: {program.PIECE // 2:,} commands of a loop each", 4, [b"x\n" * (program.PIECE // 2)], OUT),
+    (f"one piece: {program.ENDS} commands of a loop each", 4, [b"x\n" * program.ENDS], OUT),
     ("a `do_command` that shuts down", 3, ["add_verb(#0,{player,\"rxd\",\"do_command\"},{\"this\",\"none\",\"this\"});set_verb_code(#0,\"do_command\",{\"shutdown();\"});", "x"], "*** Shutting down ***\nrefused: Closed"),
     ("a `checkpoint_started` that recycles all", 3, ["add_verb(#0,{player,\"rxd\",\"checkpoint_started\"},{\"this\",\"none\",\"this\"});"
      "set_verb_code(#0,\"checkpoint_started\",{\"for o in [#0..max_object()]recycle(o);endfor\"});dump_database();"], "*** Recycled ***"),
@@ -110,7 +110,7 @@ def repeated(database, name, by, before, line, times=0):
     """Plays a piece that repeats one line, as often as a piece holds it if no number is given. The lines before it come
     first, and another player logs in after it."""
     begin = "open 1\n" + "".join(f"line 1 {each}\n" for each in before)
-    times = times or program.PIECE // (len(line) + 1)
+    times = times or program.times_in_piece(line)
     piece = (line.encode() + bytes([10])) * times
     empty = program.script(database, begin)
     run = program.script(database, begin + f"bytes 1 {piece.hex()}\nopen 2\nline 2 #4\n")

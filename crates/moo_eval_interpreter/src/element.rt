@@ -37,13 +37,8 @@ pub(crate) fn set_element(
         return Ok(Flow::Next);
     }
     task.take_tick(active, stack)?;
-    match put_at(task, world, active, stack, name, place, value) {
-        Ok(()) => Ok(Flow::Next),
-        Err(failure) => {
-            let _error = task.settled(active, stack, failure)?;
-            Ok(Flow::Next)
-        }
-    }
+    let done = put_at(task, world, active, stack, name, place, value);
+    task.end_statement(active, stack, done)
 }
 
 // Reads the variable, then evaluates the place, in which `$` measures the variable's value. Then evaluates the value,

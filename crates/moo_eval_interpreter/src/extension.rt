@@ -38,14 +38,8 @@ pub(crate) fn extend_value(
     }
     task.take_tick(active, stack)?;
     task.take_tick(active, stack)?;
-    match put_extended(task, world, active, stack, name, last) {
-        Ok(()) => Ok(Flow::Next),
-        Err(failure) => {
-            let value = task.settled(active, stack, failure)?;
-            active.variables.set(name, value)?;
-            Ok(Flow::Next)
-        }
-    }
+    let set = put_extended(task, world, active, stack, name, last);
+    task.end_assignment(active, stack, name, set)
 }
 
 // Sets the variable to `name + last`, if that is a value.

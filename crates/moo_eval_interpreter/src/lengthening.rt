@@ -38,14 +38,8 @@ pub(crate) fn lengthen(
     }
     task.take_tick(active, stack)?;
     task.take_tick(active, stack)?;
-    match put_longer(task, world, active, stack, name, last) {
-        Ok(()) => Ok(Flow::Next),
-        Err(failure) => {
-            let value = task.settled(active, stack, failure)?;
-            active.variables.set(name, value)?;
-            Ok(Flow::Next)
-        }
-    }
+    let set = put_longer(task, world, active, stack, name, last);
+    task.end_assignment(active, stack, name, set)
 }
 
 // Sets the variable to the list `{@name, last}`, if that is one.
@@ -89,14 +83,8 @@ pub(crate) fn lengthen_by(
 {
     task.take_tick(active, stack)?;
     task.take_tick(active, stack)?;
-    match put_all_longer(task, world, active, stack, name, held, more) {
-        Ok(()) => Ok(Flow::Next),
-        Err(failure) => {
-            let value = task.settled(active, stack, failure)?;
-            active.variables.set(name, value)?;
-            Ok(Flow::Next)
-        }
-    }
+    let set = put_all_longer(task, world, active, stack, name, held, more);
+    task.end_assignment(active, stack, name, set)
 }
 
 // Sets the variable to the list `{@held, more}`, if that is one.
@@ -141,14 +129,8 @@ pub(crate) fn prepend(
 {
     task.take_tick(active, stack)?;
     task.take_tick(active, stack)?;
-    match put_prepended(task, world, active, stack, name, first) {
-        Ok(()) => Ok(Flow::Next),
-        Err(failure) => {
-            let value = task.settled(active, stack, failure)?;
-            active.variables.set(name, value)?;
-            Ok(Flow::Next)
-        }
-    }
+    let set = put_prepended(task, world, active, stack, name, first);
+    task.end_assignment(active, stack, name, set)
 }
 
 // Sets the variable to the list `{first, @name}`, if that is one.

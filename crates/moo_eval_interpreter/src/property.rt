@@ -76,13 +76,8 @@ pub(crate) fn set_property(
     ensures ticks { task.new.ticks_left ≤ task.old.ticks_left }
 {
     task.take_tick(active, stack)?;
-    match put_property(task, world, active, stack, base, name, value) {
-        Ok(()) => Ok(Flow::Next),
-        Err(failure) => {
-            let _error = task.settled(active, stack, failure)?;
-            Ok(Flow::Next)
-        }
-    }
+    let done = put_property(task, world, active, stack, base, name, value);
+    task.end_statement(active, stack, done)
 }
 
 // Evaluates the object, the name and the value, then sets the property.

@@ -35,13 +35,8 @@ pub(crate) fn set_property_element(
     ensures ticks { task.new.ticks_left ≤ task.old.ticks_left }
 {
     task.take_tick(active, stack)?;
-    match put_property_element(task, world, active, stack, base, name, place, value) {
-        Ok(()) => Ok(Flow::Next),
-        Err(failure) => {
-            let _error = task.settled(active, stack, failure)?;
-            Ok(Flow::Next)
-        }
-    }
+    let done = put_property_element(task, world, active, stack, base, name, place, value);
+    task.end_statement(active, stack, done)
 }
 
 // Evaluates the object and reads the property. Then evaluates the place, in which `$` measures the property's

@@ -35,14 +35,8 @@ pub(crate) fn update(
 {
     task.take_tick(active, stack)?;
     task.take_tick(active, stack)?;
-    match put_updated(task, world, active, stack, name, called, items) {
-        Ok(()) => Ok(Flow::Next),
-        Err(failure) => {
-            let value = task.settled(active, stack, failure)?;
-            active.variables.set(name, value)?;
-            Ok(Flow::Next)
-        }
-    }
+    let set = put_updated(task, world, active, stack, name, called, items);
+    task.end_assignment(active, stack, name, set)
 }
 
 // Sets the variable to the value of the call, if it has one.

@@ -22,10 +22,10 @@ use Rattle.moo_syntax_ast.specs.Tree as program
 use Rattle.moo_syntax_ast.specs.declared.tree.Literal.TheVariants.{Str}
 use Rattle.moo_syntax_ast.specs.declared.operator.BinaryOperator.TheVariants.{Add}
 use Rattle.moo_syntax_ast.specs.Tree.{variable, binary, splice, element, no_items, no_handler}
-use Rattle.moo_eval_task.proofs.Lengthened.{lengthened, longer, too_long, first_stops, first_fails, unspliced, second_stops, longer_by, too_long_by, spliced_stops, spliced_fails, items_end, set_longer, set_error, not_set}
+use Rattle.moo_eval_task.proofs.Lengthened.{lengthened, longer, too_long, first_stops, first_fails, unspliced, second_stops, longer_by, too_long_by, spliced_stops, spliced_fails, items_end}
 use Rattle.moo_eval_interpreter.proofs.Prepended as front
 use Rattle.moo_eval_task.specs.Element.{sets_place}
-use Rattle.moo_eval_task.proofs.Placed.{put, does_from, not_put, unheld, place_ends, value_ends, put_alone, passed_over, stopped}
+use Rattle.moo_eval_task.proofs.Placed.{put, does_from, not_put, unheld, place_ends, value_ends, passed_over, stopped}
 use Rattle.moo_eval_task.proofs.Direct.{assigned, unassigned, performed, unperformed, literal_read}
 use Rattle.moo_eval_task.proofs.Extended.{extended, unextended}
 use Rattle.moo_eval_interpreter.proofs.Updated.{updated, list_called}
@@ -817,17 +817,9 @@ assignment::assign_value-returns-in_err-value-clause-meaning t c =
 pub assignment::assign_value-returns-in-Some-clause-meaning : goal.assignment::assign_value-returns-in-Some-clause-meaning
 assignment::assign_value-returns-in-Some-clause-meaning t c = rw c.in-Some.ensures c.lengthen_by.ensures.meaning
 
-pub lengthening::lengthen_by-returns-in-Ok-clause-meaning : goal.lengthening::lengthen_by-returns-in-Ok-clause-meaning
-lengthening::lengthen_by-returns-in-Ok-clause-meaning t c =
-    λ k. set_longer c.in_ok-take_tick.ensures.taken (rw c.in_ok-take_tick.ensures.left at c.in_ok-take_tick-2.ensures.taken) (rw (c.in_ok-take_tick-2.ensures.left, c.in_ok-take_tick.ensures.left) at c.in-Ok.ensures.ok)
-
-pub lengthening::lengthen_by-returns-in_ok-set-in-Err-clause-meaning : goal.lengthening::lengthen_by-returns-in_ok-set-in-Err-clause-meaning
-lengthening::lengthen_by-returns-in_ok-set-in-Err-clause-meaning t c =
-    λ k. set_error c.in_ok-take_tick.ensures.taken (rw c.in_ok-take_tick.ensures.left at c.in_ok-take_tick-2.ensures.taken) (rw (c.in_ok-take_tick-2.ensures.left, c.in_ok-take_tick.ensures.left) at (c.in-Err.ensures.err (c.in_ok-value-in-Err.ensures.known tt))) (c.in_ok-value-in-Err.ensures.outcome tt) (same_state (sym c.in_ok-set-in-Err.ensures) refl)
-
-pub lengthening::lengthen_by-returns-in_err-value-in-Err-clause-meaning : goal.lengthening::lengthen_by-returns-in_err-value-in-Err-clause-meaning
-lengthening::lengthen_by-returns-in_err-value-in-Err-clause-meaning t c =
-    let p = err_from_is_err_and c.from_residual-in_err-value-in-Err.result c.from_residual-in_err-value-in-Err.ensures.1 in rw (p.1, p.2) (λ k. not_set c.in_ok-take_tick.ensures.taken (rw c.in_ok-take_tick.ensures.left at c.in_ok-take_tick-2.ensures.taken) (rw (c.in_ok-take_tick-2.ensures.left, c.in_ok-take_tick.ensures.left) at (c.in-Err.ensures.err (c.in_err-value-in-Err.ensures.known k))) (c.in_err-value-in-Err.ensures.outcome k))
+pub lengthening::lengthen_by-returns-clause-meaning : goal.lengthening::lengthen_by-returns-clause-meaning
+lengthening::lengthen_by-returns-clause-meaning t c =
+    λ k. c.end_assignment.ensures _ _ _ c.in_ok-take_tick.ensures.taken (rw c.in_ok-take_tick.ensures.left at c.in_ok-take_tick-2.ensures.taken) (rw (c.in_ok-take_tick-2.ensures.left, c.in_ok-take_tick.ensures.left) at c.put_all_longer-set.ensures.ok) (rw (c.in_ok-take_tick-2.ensures.left, c.in_ok-take_tick.ensures.left) at c.put_all_longer-set.ensures.err) k
 
 pub lengthening::lengthen_by-returns-in_err-take_tick-clause-meaning : goal.lengthening::lengthen_by-returns-in_err-take_tick-clause-meaning
 lengthening::lengthen_by-returns-in_err-take_tick-clause-meaning t c =
@@ -859,17 +851,9 @@ lengthening::put_all_longer-returns-in_err-set_all_longer-clause-err t c =
     let p = err_from_is_err_and c.from_residual-in_err-set_all_longer.result c.from_residual-in_err-set_all_longer.ensures.1 in
     rw (p.1, p.2) (λ k. subst (λ s. Computes Faults (context_of c.args.stack.now None) (program.list (splice (variable c.args.held.now) (source_items c.args.more.now))) (state_of c.args.task.now c.args.world.now c.args.active.now) (Err (failure_of c.in_err-set_all_longer.field-0.0)) s) (same_state (sym (c.in_err-set_all_longer.ensures.kept k)) refl) (too_long_by c.in-List.list (rw c.in-List.is at (c.in_ok-found.ensures.meaning None c.args.world.now tt)) (c.in_ok-values.ensures.meaning tt) (c.in_err-set_all_longer.ensures.err k)))
 
-pub lengthening::lengthen-returns-in-Ok-clause-meaning : goal.lengthening::lengthen-returns-in-Ok-clause-meaning
-lengthening::lengthen-returns-in-Ok-clause-meaning t c =
-    λ k. does_from (c.in_ok-lengthened.ensures.kept c.if-lengthened.false c.args.world.now) (set_longer c.in_ok-take_tick.ensures.taken (rw c.in_ok-take_tick.ensures.left at c.in_ok-take_tick-2.ensures.taken) (rw (c.in_ok-take_tick-2.ensures.left, c.in_ok-take_tick.ensures.left) at c.in-Ok.ensures.ok))
-
-pub lengthening::lengthen-returns-in_ok-set-in-Err-clause-meaning : goal.lengthening::lengthen-returns-in_ok-set-in-Err-clause-meaning
-lengthening::lengthen-returns-in_ok-set-in-Err-clause-meaning t c =
-    λ k. does_from (c.in_ok-lengthened.ensures.kept c.if-lengthened.false c.args.world.now) (set_error c.in_ok-take_tick.ensures.taken (rw c.in_ok-take_tick.ensures.left at c.in_ok-take_tick-2.ensures.taken) (rw (c.in_ok-take_tick-2.ensures.left, c.in_ok-take_tick.ensures.left) at (c.in-Err.ensures.err (c.in_ok-value-in-Err.ensures.known tt))) (c.in_ok-value-in-Err.ensures.outcome tt) (same_state (sym c.in_ok-set-in-Err.ensures) refl))
-
-pub lengthening::lengthen-returns-in_err-value-in-Err-clause-meaning : goal.lengthening::lengthen-returns-in_err-value-in-Err-clause-meaning
-lengthening::lengthen-returns-in_err-value-in-Err-clause-meaning t c =
-    let p = err_from_is_err_and c.from_residual-in_err-value-in-Err.result c.from_residual-in_err-value-in-Err.ensures.1 in rw (p.1, p.2) (λ k. does_from (c.in_ok-lengthened.ensures.kept c.if-lengthened.false c.args.world.now) (not_set c.in_ok-take_tick.ensures.taken (rw c.in_ok-take_tick.ensures.left at c.in_ok-take_tick-2.ensures.taken) (rw (c.in_ok-take_tick-2.ensures.left, c.in_ok-take_tick.ensures.left) at (c.in-Err.ensures.err (c.in_err-value-in-Err.ensures.known k))) (c.in_err-value-in-Err.ensures.outcome k)))
+pub lengthening::lengthen-returns-clause-meaning : goal.lengthening::lengthen-returns-clause-meaning
+lengthening::lengthen-returns-clause-meaning t c =
+    λ k. does_from (c.in_ok-lengthened.ensures.kept c.if-lengthened.false c.args.world.now) (c.end_assignment.ensures _ _ _ c.in_ok-take_tick.ensures.taken (rw c.in_ok-take_tick.ensures.left at c.in_ok-take_tick-2.ensures.taken) (rw (c.in_ok-take_tick-2.ensures.left, c.in_ok-take_tick.ensures.left) at c.put_longer-set.ensures.ok) (rw (c.in_ok-take_tick-2.ensures.left, c.in_ok-take_tick.ensures.left) at c.put_longer-set.ensures.err) k)
 
 pub lengthening::lengthen-returns-in_err-take_tick-clause-meaning : goal.lengthening::lengthen-returns-in_err-take_tick-clause-meaning
 lengthening::lengthen-returns-in_err-take_tick-clause-meaning t c =
@@ -879,17 +863,9 @@ pub lengthening::lengthen-returns-in_err-take_tick-2-clause-meaning : goal.lengt
 lengthening::lengthen-returns-in_err-take_tick-2-clause-meaning t c =
     let p = err_from_is_err_and c.from_residual-in_err-take_tick-2.result c.from_residual-in_err-take_tick-2.ensures.1 in rw (p.1, p.2) (λ k. does_from (c.in_ok-lengthened.ensures.kept c.if-lengthened.false c.args.world.now) (let h = c.in_err-take_tick-2.ensures.spent k in rw (c.in_err-take_tick-2.ensures.kept, c.in_ok-take_tick.ensures.left, h.1) (unperformed c.in_ok-take_tick.ensures.taken (unassigned (spent (rw c.in_ok-take_tick.ensures.left at h.0))))))
 
-pub extension::extend_value-returns-in-Ok-clause-meaning : goal.extension::extend_value-returns-in-Ok-clause-meaning
-extension::extend_value-returns-in-Ok-clause-meaning t c =
-    λ k. does_from (c.in_ok-extended.ensures.kept c.if-extended.false c.args.world.now) (set_longer c.in_ok-take_tick.ensures.taken (rw c.in_ok-take_tick.ensures.left at c.in_ok-take_tick-2.ensures.taken) (rw (c.in_ok-take_tick-2.ensures.left, c.in_ok-take_tick.ensures.left) at c.in-Ok.ensures.ok))
-
-pub extension::extend_value-returns-in_ok-set-in-Err-clause-meaning : goal.extension::extend_value-returns-in_ok-set-in-Err-clause-meaning
-extension::extend_value-returns-in_ok-set-in-Err-clause-meaning t c =
-    λ k. does_from (c.in_ok-extended.ensures.kept c.if-extended.false c.args.world.now) (set_error c.in_ok-take_tick.ensures.taken (rw c.in_ok-take_tick.ensures.left at c.in_ok-take_tick-2.ensures.taken) (rw (c.in_ok-take_tick-2.ensures.left, c.in_ok-take_tick.ensures.left) at (c.in-Err.ensures.err (c.in_ok-value-in-Err.ensures.known tt))) (c.in_ok-value-in-Err.ensures.outcome tt) (same_state (sym c.in_ok-set-in-Err.ensures) refl))
-
-pub extension::extend_value-returns-in_err-value-in-Err-clause-meaning : goal.extension::extend_value-returns-in_err-value-in-Err-clause-meaning
-extension::extend_value-returns-in_err-value-in-Err-clause-meaning t c =
-    let p = err_from_is_err_and c.from_residual-in_err-value-in-Err.result c.from_residual-in_err-value-in-Err.ensures.1 in rw (p.1, p.2) (λ k. does_from (c.in_ok-extended.ensures.kept c.if-extended.false c.args.world.now) (not_set c.in_ok-take_tick.ensures.taken (rw c.in_ok-take_tick.ensures.left at c.in_ok-take_tick-2.ensures.taken) (rw (c.in_ok-take_tick-2.ensures.left, c.in_ok-take_tick.ensures.left) at (c.in-Err.ensures.err (c.in_err-value-in-Err.ensures.known k))) (c.in_err-value-in-Err.ensures.outcome k)))
+pub extension::extend_value-returns-clause-meaning : goal.extension::extend_value-returns-clause-meaning
+extension::extend_value-returns-clause-meaning t c =
+    λ k. does_from (c.in_ok-extended.ensures.kept c.if-extended.false c.args.world.now) (c.end_assignment.ensures _ _ _ c.in_ok-take_tick.ensures.taken (rw c.in_ok-take_tick.ensures.left at c.in_ok-take_tick-2.ensures.taken) (rw (c.in_ok-take_tick-2.ensures.left, c.in_ok-take_tick.ensures.left) at c.put_extended-set.ensures.ok) (rw (c.in_ok-take_tick-2.ensures.left, c.in_ok-take_tick.ensures.left) at c.put_extended-set.ensures.err) k)
 
 pub extension::extend_value-returns-in_err-take_tick-clause-meaning : goal.extension::extend_value-returns-in_err-take_tick-clause-meaning
 extension::extend_value-returns-in_err-take_tick-clause-meaning t c =
@@ -921,17 +897,9 @@ pub statement::perform-returns-in-Extend-clause-meaning : goal.statement::perfor
 statement::perform-returns-in-Extend-clause-meaning t c =
     λ k. rw (c.in-Extend.is, ← c.deref-in-Extend.ensures) (c.extend_value.ensures.meaning k)
 
-pub update::update-returns-in-Ok-clause-meaning : goal.update::update-returns-in-Ok-clause-meaning
-update::update-returns-in-Ok-clause-meaning t c =
-    λ k. set_longer c.in_ok-take_tick.ensures.taken (rw c.in_ok-take_tick.ensures.left at c.in_ok-take_tick-2.ensures.taken) (rw (c.in_ok-take_tick-2.ensures.left, c.in_ok-take_tick.ensures.left) at c.in-Ok.ensures.ok)
-
-pub update::update-returns-in_ok-set-in-Err-clause-meaning : goal.update::update-returns-in_ok-set-in-Err-clause-meaning
-update::update-returns-in_ok-set-in-Err-clause-meaning t c =
-    λ k. set_error c.in_ok-take_tick.ensures.taken (rw c.in_ok-take_tick.ensures.left at c.in_ok-take_tick-2.ensures.taken) (rw (c.in_ok-take_tick-2.ensures.left, c.in_ok-take_tick.ensures.left) at (c.in-Err.ensures.err (c.in_ok-value-in-Err.ensures.known tt))) (c.in_ok-value-in-Err.ensures.outcome tt) (same_state (sym c.in_ok-set-in-Err.ensures) refl)
-
-pub update::update-returns-in_err-value-in-Err-clause-meaning : goal.update::update-returns-in_err-value-in-Err-clause-meaning
-update::update-returns-in_err-value-in-Err-clause-meaning t c =
-    let p = err_from_is_err_and c.from_residual-in_err-value-in-Err.result c.from_residual-in_err-value-in-Err.ensures.1 in rw (p.1, p.2) (λ k. not_set c.in_ok-take_tick.ensures.taken (rw c.in_ok-take_tick.ensures.left at c.in_ok-take_tick-2.ensures.taken) (rw (c.in_ok-take_tick-2.ensures.left, c.in_ok-take_tick.ensures.left) at (c.in-Err.ensures.err (c.in_err-value-in-Err.ensures.known k))) (c.in_err-value-in-Err.ensures.outcome k))
+pub update::update-returns-clause-meaning : goal.update::update-returns-clause-meaning
+update::update-returns-clause-meaning t c =
+    λ k. c.end_assignment.ensures _ _ _ c.in_ok-take_tick.ensures.taken (rw c.in_ok-take_tick.ensures.left at c.in_ok-take_tick-2.ensures.taken) (rw (c.in_ok-take_tick-2.ensures.left, c.in_ok-take_tick.ensures.left) at c.put_updated-set.ensures.ok) (rw (c.in_ok-take_tick-2.ensures.left, c.in_ok-take_tick.ensures.left) at c.put_updated-set.ensures.err) k
 
 pub update::update-returns-in_err-take_tick-clause-meaning : goal.update::update-returns-in_err-take_tick-clause-meaning
 update::update-returns-in_err-take_tick-clause-meaning t c =
@@ -990,18 +958,9 @@ pub element::set_element-returns-then-is_longer-clause-meaning : goal.element::s
 element::set_element-returns-then-is_longer-clause-meaning t c =
     λ k. c.in_ok-is_longer.ensures.lengthened c.if-is_longer.true c.args.world.now (context_of c.args.stack.now None)
 
-pub element::set_element-returns-in-Ok-clause-meaning : goal.element::set_element-returns-in-Ok-clause-meaning
-element::set_element-returns-in-Ok-clause-meaning t c =
-    λ k. does_from (c.in_ok-is_longer.ensures.kept c.if-is_longer.false c.args.world.now) (put_alone c.in_ok-take_tick.ensures.taken (rw c.in_ok-take_tick.ensures.left at c.in-Ok.ensures.ok))
-
-pub element::set_element-returns-in_ok-_error-in-Err-clause-meaning : goal.element::set_element-returns-in_ok-_error-in-Err-clause-meaning
-element::set_element-returns-in_ok-_error-in-Err-clause-meaning t c =
-    λ k. does_from (c.in_ok-is_longer.ensures.kept c.if-is_longer.false c.args.world.now) (passed_over c.in_ok-take_tick.ensures.taken (rw c.in_ok-take_tick.ensures.left at (c.in-Err.ensures.err (c.in_ok-_error-in-Err.ensures.known tt))) (c.in_ok-_error-in-Err.ensures.outcome tt))
-
-pub element::set_element-returns-in_err-_error-in-Err-clause-meaning : goal.element::set_element-returns-in_err-_error-in-Err-clause-meaning
-element::set_element-returns-in_err-_error-in-Err-clause-meaning t c =
-    let p = err_from_is_err_and c.from_residual-in_err-_error-in-Err.result c.from_residual-in_err-_error-in-Err.ensures.1 in
-    rw (p.1, p.2) (λ k. does_from (c.in_ok-is_longer.ensures.kept c.if-is_longer.false c.args.world.now) (stopped c.in_ok-take_tick.ensures.taken (rw c.in_ok-take_tick.ensures.left at (c.in-Err.ensures.err (c.in_err-_error-in-Err.ensures.known k))) (c.in_err-_error-in-Err.ensures.outcome k)))
+pub element::set_element-returns-clause-meaning : goal.element::set_element-returns-clause-meaning
+element::set_element-returns-clause-meaning t c =
+    λ k. does_from (c.in_ok-is_longer.ensures.kept c.if-is_longer.false c.args.world.now) (c.end_statement.ensures _ _ _ c.in_ok-take_tick.ensures.taken (on_ok_weaker c.put_at-done.result (λ h. (_, h.computes)) (rw c.in_ok-take_tick.ensures.left at c.put_at-done.ensures.ok)) (rw c.in_ok-take_tick.ensures.left at c.put_at-done.ensures.err) k)
 
 pub element::set_element-returns-in_err-take_tick-clause-meaning : goal.element::set_element-returns-in_err-take_tick-clause-meaning
 element::set_element-returns-in_err-take_tick-clause-meaning t c =
@@ -1125,21 +1084,13 @@ pub statement::perform-returns-in-Put-clause-meaning : goal.statement::perform-r
 statement::perform-returns-in-Put-clause-meaning t c =
     λ k. rw (c.in-Put.is, ← c.deref-in-Put.ensures, ← c.deref-in-Put-2.ensures) (c.set_element.ensures.meaning k)
 
-pub property::set_property-returns-in_ok-_error-in-Err-clause-meaning : goal.property::set_property-returns-in_ok-_error-in-Err-clause-meaning
-property::set_property-returns-in_ok-_error-in-Err-clause-meaning t c =
-    λ k. passed_over c.in_ok-take_tick.ensures.taken (rw c.in_ok-take_tick.ensures.left at (c.in-Err.ensures.err (c.in_ok-_error-in-Err.ensures.known tt))) (c.in_ok-_error-in-Err.ensures.outcome tt)
-
-pub property::set_property-returns-in_err-_error-in-Err-clause-meaning : goal.property::set_property-returns-in_err-_error-in-Err-clause-meaning
-property::set_property-returns-in_err-_error-in-Err-clause-meaning t c =
-    let p = err_from_is_err_and c.from_residual-in_err-_error-in-Err.result c.from_residual-in_err-_error-in-Err.ensures.1 in rw (p.1, p.2) (λ k. stopped c.in_ok-take_tick.ensures.taken (rw c.in_ok-take_tick.ensures.left at (c.in-Err.ensures.err (c.in_err-_error-in-Err.ensures.known k))) (c.in_err-_error-in-Err.ensures.outcome k))
-
 pub property::set_property-returns-in_err-take_tick-clause-meaning : goal.property::set_property-returns-in_err-take_tick-clause-meaning
 property::set_property-returns-in_err-take_tick-clause-meaning t c =
     let p = err_from_is_err_and c.from_residual.result c.from_residual.ensures.1 in rw (p.1, p.2) (λ k. let h = c.in_err-take_tick.ensures.spent k in rw (c.in_err-take_tick.ensures.kept, h.1) (evaluates (spent h.0) refl))
 
-pub property::set_property-returns-in-Ok-clause-meaning : goal.property::set_property-returns-in-Ok-clause-meaning
-property::set_property-returns-in-Ok-clause-meaning t c =
-    λ k. performed c.in_ok-take_tick.ensures.taken (rw c.in_ok-take_tick.ensures.left at c.in-Ok.ensures.ok.1)
+pub property::set_property-returns-clause-meaning : goal.property::set_property-returns-clause-meaning
+property::set_property-returns-clause-meaning t c =
+    λ k. c.end_statement.ensures _ _ _ c.in_ok-take_tick.ensures.taken (rw c.in_ok-take_tick.ensures.left at c.put_property-done.ensures.ok) (rw c.in_ok-take_tick.ensures.left at c.put_property-done.ensures.err) k
 
 pub scattering::scatter_alone-returns-in_err-take_tick-clause-meaning : goal.scattering::scatter_alone-returns-in_err-take_tick-clause-meaning
 scattering::scatter_alone-returns-in_err-take_tick-clause-meaning t c =
@@ -1205,17 +1156,9 @@ pub scattering::scatter_alone-returns-clause-meaning : goal.scattering::scatter_
 scattering::scatter_alone-returns-clause-meaning t c =
     λ k. passed_over c.in_ok-take_tick.ensures.taken (property.dealt (rw c.in_ok-take_tick.ensures.left at (c.in_ok-value.ensures.meaning tt)) (rw c.in-Err.is at (c.scatter.ensures.meaning (rw c.in-Err.is (c.in_ok-_error-in-Err.ensures.known tt)))) refl) (c.in_ok-_error-in-Err.ensures.outcome tt)
 
-pub lengthening::prepend-returns-in-Ok-clause-meaning : goal.lengthening::prepend-returns-in-Ok-clause-meaning
-lengthening::prepend-returns-in-Ok-clause-meaning t c =
-    λ k. set_longer c.in_ok-take_tick.ensures.taken (rw c.in_ok-take_tick.ensures.left at c.in_ok-take_tick-2.ensures.taken) (rw (c.in_ok-take_tick-2.ensures.left, c.in_ok-take_tick.ensures.left) at c.in-Ok.ensures.ok)
-
-pub lengthening::prepend-returns-in_ok-set-in-Err-clause-meaning : goal.lengthening::prepend-returns-in_ok-set-in-Err-clause-meaning
-lengthening::prepend-returns-in_ok-set-in-Err-clause-meaning t c =
-    λ k. set_error c.in_ok-take_tick.ensures.taken (rw c.in_ok-take_tick.ensures.left at c.in_ok-take_tick-2.ensures.taken) (rw (c.in_ok-take_tick-2.ensures.left, c.in_ok-take_tick.ensures.left) at (c.in-Err.ensures.err (c.in_ok-value-in-Err.ensures.known tt))) (c.in_ok-value-in-Err.ensures.outcome tt) (same_state (sym c.in_ok-set-in-Err.ensures) refl)
-
-pub lengthening::prepend-returns-in_err-value-in-Err-clause-meaning : goal.lengthening::prepend-returns-in_err-value-in-Err-clause-meaning
-lengthening::prepend-returns-in_err-value-in-Err-clause-meaning t c =
-    let p = err_from_is_err_and c.from_residual-in_err-value-in-Err.result c.from_residual-in_err-value-in-Err.ensures.1 in rw (p.1, p.2) (λ k. not_set c.in_ok-take_tick.ensures.taken (rw c.in_ok-take_tick.ensures.left at c.in_ok-take_tick-2.ensures.taken) (rw (c.in_ok-take_tick-2.ensures.left, c.in_ok-take_tick.ensures.left) at (c.in-Err.ensures.err (c.in_err-value-in-Err.ensures.known k))) (c.in_err-value-in-Err.ensures.outcome k))
+pub lengthening::prepend-returns-clause-meaning : goal.lengthening::prepend-returns-clause-meaning
+lengthening::prepend-returns-clause-meaning t c =
+    λ k. c.end_assignment.ensures _ _ _ c.in_ok-take_tick.ensures.taken (rw c.in_ok-take_tick.ensures.left at c.in_ok-take_tick-2.ensures.taken) (rw (c.in_ok-take_tick-2.ensures.left, c.in_ok-take_tick.ensures.left) at c.put_prepended-set.ensures.ok) (rw (c.in_ok-take_tick-2.ensures.left, c.in_ok-take_tick.ensures.left) at c.put_prepended-set.ensures.err) k
 
 pub lengthening::prepend-returns-in_err-take_tick-clause-meaning : goal.lengthening::prepend-returns-in_err-take_tick-clause-meaning
 lengthening::prepend-returns-in_err-take_tick-clause-meaning t c =
@@ -1347,21 +1290,13 @@ pub catching::attempt-returns-in_err-take_tick-clause-meaning : goal.catching::a
 catching::attempt-returns-in_err-take_tick-clause-meaning t c =
     let p = err_from_is_err_and c.from_residual.result c.from_residual.ensures.1 in rw (p.1, p.2) (λ k. let h = c.in_err-take_tick.ensures.spent k in rw (c.in_err-take_tick.ensures.kept, ← c.in_default.ensures.none) (attempt_spent h.1 h.0))
 
-pub property_element::set_property_element-returns-in_ok-_error-in-Err-clause-meaning : goal.property_element::set_property_element-returns-in_ok-_error-in-Err-clause-meaning
-property_element::set_property_element-returns-in_ok-_error-in-Err-clause-meaning t c =
-    λ k. passed_over c.in_ok-take_tick.ensures.taken (rw c.in_ok-take_tick.ensures.left at (c.in-Err.ensures.err (c.in_ok-_error-in-Err.ensures.known tt))) (c.in_ok-_error-in-Err.ensures.outcome tt)
-
-pub property_element::set_property_element-returns-in_err-_error-in-Err-clause-meaning : goal.property_element::set_property_element-returns-in_err-_error-in-Err-clause-meaning
-property_element::set_property_element-returns-in_err-_error-in-Err-clause-meaning t c =
-    let p = err_from_is_err_and c.from_residual-in_err-_error-in-Err.result c.from_residual-in_err-_error-in-Err.ensures.1 in rw (p.1, p.2) (λ k. stopped c.in_ok-take_tick.ensures.taken (rw c.in_ok-take_tick.ensures.left at (c.in-Err.ensures.err (c.in_err-_error-in-Err.ensures.known k))) (c.in_err-_error-in-Err.ensures.outcome k))
-
 pub property_element::set_property_element-returns-in_err-take_tick-clause-meaning : goal.property_element::set_property_element-returns-in_err-take_tick-clause-meaning
 property_element::set_property_element-returns-in_err-take_tick-clause-meaning t c =
     let p = err_from_is_err_and c.from_residual.result c.from_residual.ensures.1 in rw (p.1, p.2) (λ k. let h = c.in_err-take_tick.ensures.spent k in rw (c.in_err-take_tick.ensures.kept, h.1) (evaluates (spent h.0) refl))
 
-pub property_element::set_property_element-returns-in-Ok-clause-meaning : goal.property_element::set_property_element-returns-in-Ok-clause-meaning
-property_element::set_property_element-returns-in-Ok-clause-meaning t c =
-    λ k. performed c.in_ok-take_tick.ensures.taken (rw c.in_ok-take_tick.ensures.left at c.in-Ok.ensures.ok.1)
+pub property_element::set_property_element-returns-clause-meaning : goal.property_element::set_property_element-returns-clause-meaning
+property_element::set_property_element-returns-clause-meaning t c =
+    λ k. c.end_statement.ensures _ _ _ c.in_ok-take_tick.ensures.taken (rw c.in_ok-take_tick.ensures.left at c.put_property_element-done.ensures.ok) (rw c.in_ok-take_tick.ensures.left at c.put_property_element-done.ensures.err) k
 
 pub property_element::put_property_element-returns-in_err-base-clause-err : goal.property_element::put_property_element-returns-in_err-base-clause-err
 property_element::put_property_element-returns-in_err-base-clause-err t c =

@@ -10,6 +10,7 @@ ghost use Rattle.moo_eval_task.specs.Element.{sets_place, sets_inner};
 ghost use Rattle.moo_eval_semantics.specs.Meaning.{Does};
 ghost use Rattle.moo_eval_task.specs.Seen.{state_of};
 
+use crate::nodes::may_be_integer;
 use crate::task::Task;
 use moo_eval_frame::Activation;
 use moo_eval_integer::{try_put_inner_integer, try_put_integer};
@@ -113,17 +114,4 @@ fn as_set_inner(node: &Node) -> Option<(&Name, &Node, &Node, &Node)>
         Node::Variable(name) => Some((name, outer, inner, value)),
         _ => None,
     }
-}
-
-// Is true for a node that is often computed from integers alone.
-#[inline(always)]
-fn may_be_integer(node: &Node) -> bool {
-    matches!(
-        node,
-        Node::Integer(_)
-            | Node::Variable(_)
-            | Node::Arithmetic(..)
-            | Node::Binary(..)
-            | Node::Index(..)
-    )
 }

@@ -11,6 +11,7 @@ ghost use Rattle.moo_eval_semantics.specs.Meaning.{Does};
 ghost use Rattle.moo_eval_task.specs.Seen.{state_of};
 
 use crate::leaves::try_value;
+use crate::nodes::may_be_integer;
 use crate::task::Task;
 use moo_eval_frame::Activation;
 use moo_eval_integer::try_add_integer;
@@ -84,18 +85,4 @@ impl Task {
         self.ticks_left.leave(left);
         Ok(true)
     }
-}
-
-// Is true for a node that may be computed from integers alone.
-#[inline(always)]
-fn may_be_integer(node: &Node) -> bool {
-    matches!(
-        node,
-        Node::Variable(_)
-            | Node::Integer(_)
-            | Node::Arithmetic(..)
-            | Node::Binary(..)
-            | Node::Index(..)
-            | Node::Call(..)
-    )
 }

@@ -68,3 +68,17 @@ pub fn copied_text(text: &Text) -> Result<Value, Failure>
 {
     Ok(Value::Str(text.string().try_clone()?))
 }
+
+/// Is true for a node that may be computed from integers alone.
+#[inline(always)]
+pub(crate) fn may_be_integer(node: &Node) -> bool {
+    matches!(
+        node,
+        Node::Integer(_)
+            | Node::Variable(_)
+            | Node::Arithmetic(..)
+            | Node::Binary(..)
+            | Node::Index(..)
+            | Node::Call(..)
+    )
+}

@@ -3,6 +3,7 @@ pub mod Counting
 mod ObjectCalls
 mod Passing
 mod Known
+mod Operands
 mod Prepended
 mod Updated
 mod Spliced

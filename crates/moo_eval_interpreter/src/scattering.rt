@@ -39,23 +39,6 @@ pub(crate) fn scatter_names(
     if scattered {
         return Ok(Flow::Next);
     }
-    scatter_value(task, world, active, stack, names, value)
-}
-
-// Runs `{x, y} = value` of variables alone, for any value.
-#[cycle(evaluation)]
-#[inline(always)]
-fn scatter_value(
-    task: &mut Task,
-    world: &mut World,
-    active: &mut Activation,
-    stack: &CallStack<'_>,
-    names: &[Name],
-    value: &Node,
-) -> Result<Flow, Stop>
-    ensures meaning { IsKnown result → Does Faults (context_of stack.now None) (performs (assign (list (named_items names.now)) (source value.now))) (state_of task.old world.old active.old) (seen_flow result) (state_of task.new world.new active.new) }
-    ensures ticks { task.new.ticks_left ≤ task.old.ticks_left }
-{
     task.take_tick(active, stack)?;
     let value = evaluate(task, world, active, stack, None, value)?;
     match set_names(active, names, &value) {

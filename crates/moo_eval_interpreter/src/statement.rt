@@ -12,6 +12,7 @@ ghost use Rattle.moo_eval_task.specs.Seen.{state_of};
 
 use crate::assignment::assign_value;
 use crate::conditions::passes;
+use crate::deciding::logic_alone;
 use crate::element::set_element;
 use crate::extension::extend_value;
 use crate::interpreter::evaluate;
@@ -101,10 +102,10 @@ fn give(
     }
 }
 
-// Evaluates an expression whose value is not used.
+/// Evaluates an expression whose value is not used.
 #[cycle(evaluation)]
 #[inline(always)]
-fn evaluate_alone(
+pub(crate) fn evaluate_alone(
     task: &mut Task,
     world: &mut World,
     active: &mut Activation,
@@ -139,6 +140,9 @@ fn drop_value(
     ensures meaning { IsKnown result → Does Faults (context_of stack.now None) (performs (source node.now)) (state_of task.old world.old active.old) (seen_flow result) (state_of task.new world.new active.new) }
     ensures ticks { task.new.ticks_left ≤ task.old.ticks_left }
 {
+    if let Node::Logic(operator, left, right) = node {
+        return logic_alone(task, world, active, stack, *operator, left, right);
+    }
     let is_put = task.try_put_inner(active, node)?;
     if is_put {
         return Ok(Flow::Next);

@@ -1,5 +1,5 @@
-//! Assigns integers to variables at once, and stores values into variables and properties.
-ghost use Rattle.std.specs.Prelude.{◌≡◌, ◌≤◌, Ok, IsTrue, IsFalse};
+//! Assigns integers to variables at once, stores values into variables and properties, and recognises `name = value`.
+ghost use Rattle.std.specs.Prelude.{◌≡◌, ◌≤◌, Ok, IfSome, IsTrue, IsFalse};
 ghost use Rattle.moo_syntax_ast.specs.Tree.{variable, assign, performs};
 ghost use Rattle.moo_syntax_lower.specs.Source.{source};
 ghost use Rattle.moo_value.specs.View.{tree as value_tree};
@@ -94,6 +94,19 @@ impl Task {
         set_variable(self.alloc(), &mut active.variables, name, steps, value)?;
         Ok(())
     }
+}
+
+/// Returns the name and the value, if the expression is an assignment to a variable.
+pub fn as_set_variable(node: &Node) -> Option<(&Name, &Node)>
+    ensures { IfSome result (λ p. source node.now ≡ assign (variable p.0.now) (source p.1.now)) }
+{
+    let Node::Assign(target, value) = node else {
+        return None;
+    };
+    let Node::Variable(name) = target.as_ref() else {
+        return None;
+    };
+    Some((name, value))
 }
 
 // Is true for an operator between integers.

@@ -27,6 +27,7 @@ mod task;
 mod trying;
 
 pub use arguments::{has_splice, push};
+pub use assignment::as_set_variable;
 pub use calls::answered;
 pub use catching::Attempt;
 pub use conditions::decides;

@@ -17,6 +17,7 @@ use Rattle.moo_eval_semantics.specs.Meaning.{Computes, EvaluatesAll, spent, begi
 use Rattle.moo_value.specs.declared.error_code.ErrorCode.TheVariants.{TypeMismatch}
 use Rattle.moo_eval_access.specs.SeenTarget.{path_of}
 use Rattle.moo_eval_task.proofs.Hooking.{comes_on}
+use Rattle.moo_eval_interpreter.proofs.Operands.{goes_on}
 use Rattle.moo_eval_interpreter.proofs.Caught.{guards_end, attempt_stops, attempt_gives, attempt_caught, attempt_goes_on, attempt_spent}
 use Rattle.moo_syntax_ast.specs.Tree as program
 use Rattle.moo_syntax_ast.specs.declared.tree.Literal.TheVariants.{Str}
@@ -175,6 +176,26 @@ deciding::logic-returns-in_err-first-clause-meaning t c =
 pub deciding::logic-returns-in_err-evaluate-clause-meaning : goal.deciding::logic-returns-in_err-evaluate-clause-meaning
 deciding::logic-returns-in_err-evaluate-clause-meaning t c =
     let p = err_from_is_err_and c.from_residual-in_err-evaluate.result c.from_residual-in_err-evaluate.ensures.1 in rw (p.1, p.2) (λ k. applies (element_then (c.in_ok-first.ensures.meaning tt) no_more refl) no_more (logic_goes_on (sym c.is_decided.ensures ∙ c.if-is_decided.false) (c.in_err-evaluate.ensures.meaning k) refl))
+
+pub deciding::logic_alone-returns-then-is_decided-clause-meaning : goal.deciding::logic_alone-returns-then-is_decided-clause-meaning
+deciding::logic_alone-returns-then-is_decided-clause-meaning t c =
+    λ k. performed c.in_ok-take_tick.ensures.taken (applies (element_then (rw c.in_ok-take_tick.ensures.left at (c.in_ok-first.ensures.meaning tt)) no_more refl) no_more (logic_decides (sym c.is_decided.ensures ∙ c.if-is_decided.true)))
+
+pub deciding::logic_alone-returns-in-Some-clause-meaning : goal.deciding::logic_alone-returns-in-Some-clause-meaning
+deciding::logic_alone-returns-in-Some-clause-meaning t c =
+    λ k. rw c.in-Some.ensures (goes_on c.in_ok-take_tick.ensures.taken (rw c.in_ok-take_tick.ensures.left at (c.in_ok-first.ensures.meaning tt)) (sym c.is_decided.ensures ∙ c.if-is_decided.false) (c.assign_value.ensures.meaning k))
+
+pub deciding::logic_alone-returns-clause-meaning : goal.deciding::logic_alone-returns-clause-meaning
+deciding::logic_alone-returns-clause-meaning t c =
+    λ k. goes_on c.in_ok-take_tick.ensures.taken (rw c.in_ok-take_tick.ensures.left at (c.in_ok-first.ensures.meaning tt)) (sym c.is_decided.ensures ∙ c.if-is_decided.false) (c.evaluate_alone.ensures.meaning k)
+
+pub deciding::logic_alone-returns-in_err-take_tick-clause-meaning : goal.deciding::logic_alone-returns-in_err-take_tick-clause-meaning
+deciding::logic_alone-returns-in_err-take_tick-clause-meaning t c =
+    let p = err_from_is_err_and c.from_residual.result c.from_residual.ensures.1 in rw (p.1, p.2) (λ k. let h = c.in_err-take_tick.ensures.spent k in rw (c.in_err-take_tick.ensures.kept, h.1) (evaluates (spent h.0) refl))
+
+pub deciding::logic_alone-returns-in_err-first-clause-meaning : goal.deciding::logic_alone-returns-in_err-first-clause-meaning
+deciding::logic_alone-returns-in_err-first-clause-meaning t c =
+    let p = err_from_is_err_and c.from_residual-in_err-first.result c.from_residual-in_err-first.ensures.1 in rw (p.1, p.2) (λ k. unperformed c.in_ok-take_tick.ensures.taken (operands_end (element_stops (rw c.in_ok-take_tick.ensures.left at (c.in_err-first.ensures.meaning k)))))
 
 pub deciding::conditional-returns-clause-meaning : goal.deciding::conditional-returns-clause-meaning
 deciding::conditional-returns-clause-meaning t c =
@@ -1190,29 +1211,6 @@ lengthening::put_prepended-returns-in_err-set_prepended-clause-err t c =
     let p = err_from_is_err_and c.from_residual-in_err-set_prepended.result c.from_residual-in_err-set_prepended.ensures.1 in
     rw (p.1, p.2) (λ k. subst (λ s. Computes Faults (context_of c.args.stack.now None) (program.list (element (source c.args.first.now) (splice (variable c.args.name.now) no_items))) (state_of c.args.task.now c.args.world.now c.args.active.now) (Err (failure_of c.in_err-set_prepended.field-0.0)) s) (same_state (sym (c.in_err-set_prepended.ensures.kept k)) refl) (front.too_long c.in-List.list (c.in_ok-first.ensures.meaning tt) (rw c.in-List.is at (c.in_ok-found.ensures.meaning None c.evaluate.new.world tt)) (c.in_err-set_prepended.ensures.err k)))
 
-pub scattering::scatter_value-returns-in_err-take_tick-clause-meaning : goal.scattering::scatter_value-returns-in_err-take_tick-clause-meaning
-scattering::scatter_value-returns-in_err-take_tick-clause-meaning t c =
-    let p = err_from_is_err_and c.from_residual.result c.from_residual.ensures.1 in rw (p.1, p.2) (λ k. let h = c.in_err-take_tick.ensures.spent k in rw (c.in_err-take_tick.ensures.kept, h.1) (evaluates (spent h.0) refl))
-
-pub scattering::scatter_value-returns-in_err-value-clause-meaning : goal.scattering::scatter_value-returns-in_err-value-clause-meaning
-scattering::scatter_value-returns-in_err-value-clause-meaning t c =
-    let p = err_from_is_err_and c.from_residual-in_err-value.result c.from_residual-in_err-value.ensures.1 in rw (p.1, p.2) (λ k. unperformed c.in_ok-take_tick.ensures.taken (property.undealt (rw c.in_ok-take_tick.ensures.left at (c.in_err-value.ensures.meaning k))))
-
-pub scattering::scatter_value-returns-in-Ok-clause-meaning : goal.scattering::scatter_value-returns-in-Ok-clause-meaning
-scattering::scatter_value-returns-in-Ok-clause-meaning t c =
-    let h = c.in-Ok.ensures.ok in
-    λ k. performed c.in_ok-take_tick.ensures.taken (property.dealt (rw c.in_ok-take_tick.ensures.left at (c.in_ok-value.ensures.meaning tt)) (property.names_set c.args.names.now h.1 (same_state (sym h.2) (sym c.in-Ok.ensures.programmer))) refl)
-
-pub scattering::scatter_value-returns-in_err-_error-in-Err-clause-meaning : goal.scattering::scatter_value-returns-in_err-_error-in-Err-clause-meaning
-scattering::scatter_value-returns-in_err-_error-in-Err-clause-meaning t c =
-    let p = err_from_is_err_and c.from_residual-in_err-_error-in-Err.result c.from_residual-in_err-_error-in-Err.ensures.1 in
-    rw (p.1, p.2) (λ k. let h = c.in-Err.ensures.err (c.in_err-_error-in-Err.ensures.known k) in stopped c.in_ok-take_tick.ensures.taken (property.dealt (rw c.in_ok-take_tick.ensures.left at (c.in_ok-value.ensures.meaning tt)) (property.names_kept h.1 h.2 (ap (λ (a : Activation). state_of c.evaluate.new.task c.evaluate.new.world a) h.3)) refl) (c.in_err-_error-in-Err.ensures.outcome k))
-
-pub scattering::scatter_value-returns-clause-meaning : goal.scattering::scatter_value-returns-clause-meaning
-scattering::scatter_value-returns-clause-meaning t c =
-    let h = c.in-Err.ensures.err (c.in_ok-_error-in-Err.ensures.known tt) in
-    λ k. passed_over c.in_ok-take_tick.ensures.taken (property.dealt (rw c.in_ok-take_tick.ensures.left at (c.in_ok-value.ensures.meaning tt)) (property.names_kept h.1 h.2 (ap (λ (a : Activation). state_of c.evaluate.new.task c.evaluate.new.world a) h.3)) refl) (c.in_ok-_error-in-Err.ensures.outcome tt)
-
 pub statement::perform-returns-in-Prepend-clause-meaning : goal.statement::perform-returns-in-Prepend-clause-meaning
 statement::perform-returns-in-Prepend-clause-meaning t c =
     λ k. rw (c.in-Prepend.is, ← c.deref-in-Prepend.ensures) (c.prepend.ensures.meaning k)
@@ -1437,9 +1435,30 @@ pub scattering::scatter_names-returns-then-scattered-clause-meaning : goal.scatt
 scattering::scatter_names-returns-then-scattered-clause-meaning t c =
     λ k. c.in_ok-scattered.ensures.set c.if-scattered.true c.args.world.now (context_of c.args.stack.now None)
 
+pub scattering::scatter_names-returns-in_err-take_tick-clause-meaning : goal.scattering::scatter_names-returns-in_err-take_tick-clause-meaning
+scattering::scatter_names-returns-in_err-take_tick-clause-meaning t c =
+    let p = err_from_is_err_and c.from_residual-in_err-take_tick.result c.from_residual-in_err-take_tick.ensures.1 in
+    rw (p.1, p.2) (λ k. does_from (c.in_ok-scattered.ensures.kept c.if-scattered.false c.args.world.now) (let h = c.in_err-take_tick.ensures.spent k in rw (c.in_err-take_tick.ensures.kept, h.1) (evaluates (spent h.0) refl)))
+
+pub scattering::scatter_names-returns-in_err-value-clause-meaning : goal.scattering::scatter_names-returns-in_err-value-clause-meaning
+scattering::scatter_names-returns-in_err-value-clause-meaning t c =
+    let p = err_from_is_err_and c.from_residual-in_err-value.result c.from_residual-in_err-value.ensures.1 in
+    rw (p.1, p.2) (λ k. does_from (c.in_ok-scattered.ensures.kept c.if-scattered.false c.args.world.now) (unperformed c.in_ok-take_tick.ensures.taken (property.undealt (rw c.in_ok-take_tick.ensures.left at (c.in_err-value.ensures.meaning k)))))
+
+pub scattering::scatter_names-returns-in-Ok-clause-meaning : goal.scattering::scatter_names-returns-in-Ok-clause-meaning
+scattering::scatter_names-returns-in-Ok-clause-meaning t c =
+    let h = c.in-Ok.ensures.ok in
+    λ k. does_from (c.in_ok-scattered.ensures.kept c.if-scattered.false c.args.world.now) (performed c.in_ok-take_tick.ensures.taken (property.dealt (rw c.in_ok-take_tick.ensures.left at (c.in_ok-value.ensures.meaning tt)) (property.names_set c.args.names.now h.1 (same_state (sym h.2) (sym c.in-Ok.ensures.programmer))) refl))
+
+pub scattering::scatter_names-returns-in_err-_error-in-Err-clause-meaning : goal.scattering::scatter_names-returns-in_err-_error-in-Err-clause-meaning
+scattering::scatter_names-returns-in_err-_error-in-Err-clause-meaning t c =
+    let p = err_from_is_err_and c.from_residual-in_err-_error-in-Err.result c.from_residual-in_err-_error-in-Err.ensures.1 in
+    rw (p.1, p.2) (λ k. let h = c.in-Err.ensures.err (c.in_err-_error-in-Err.ensures.known k) in does_from (c.in_ok-scattered.ensures.kept c.if-scattered.false c.args.world.now) (stopped c.in_ok-take_tick.ensures.taken (property.dealt (rw c.in_ok-take_tick.ensures.left at (c.in_ok-value.ensures.meaning tt)) (property.names_kept h.1 h.2 (ap (λ (a : Activation). state_of c.evaluate.new.task c.evaluate.new.world a) h.3)) refl) (c.in_err-_error-in-Err.ensures.outcome k)))
+
 pub scattering::scatter_names-returns-clause-meaning : goal.scattering::scatter_names-returns-clause-meaning
 scattering::scatter_names-returns-clause-meaning t c =
-    λ k. does_from (c.in_ok-scattered.ensures.kept c.if-scattered.false c.args.world.now) (c.scatter_value.ensures.meaning k)
+    let h = c.in-Err.ensures.err (c.in_ok-_error-in-Err.ensures.known tt) in
+    λ k. does_from (c.in_ok-scattered.ensures.kept c.if-scattered.false c.args.world.now) (passed_over c.in_ok-take_tick.ensures.taken (property.dealt (rw c.in_ok-take_tick.ensures.left at (c.in_ok-value.ensures.meaning tt)) (property.names_kept h.1 h.2 (ap (λ (a : Activation). state_of c.evaluate.new.task c.evaluate.new.world a) h.3)) refl) (c.in_ok-_error-in-Err.ensures.outcome tt))
 
 pub trying::run_with_handler-returns-in_err-values-clause-meaning : goal.trying::run_with_handler-returns-in_err-values-clause-meaning
 trying::run_with_handler-returns-in_err-values-clause-meaning t c =

@@ -99,6 +99,9 @@ decreases-operators::binary l = 16 * l.task.now.ticks_left + 7
 abbrev pub decreases-deciding::logic : goal.decreases-deciding::logic
 decreases-deciding::logic l = 16 * l.task.now.ticks_left + 7
 
+abbrev pub decreases-deciding::logic_alone : goal.decreases-deciding::logic_alone
+decreases-deciding::logic_alone l = 16 * l.task.now.ticks_left
+
 abbrev pub decreases-deciding::conditional : goal.decreases-deciding::conditional
 decreases-deciding::conditional l = 16 * l.task.now.ticks_left + 8
 
@@ -349,9 +352,6 @@ decreases-lengthening::put_prepended l = 16 * l.task.now.ticks_left + 6
 
 abbrev pub decreases-scattering::scatter_names : goal.decreases-scattering::scatter_names
 decreases-scattering::scatter_names l = 16 * l.task.now.ticks_left + 1
-
-abbrev pub decreases-scattering::scatter_value : goal.decreases-scattering::scatter_value
-decreases-scattering::scatter_value l = 16 * l.task.now.ticks_left
 
 abbrev pub decreases-nodes::evaluate_parts : goal.decreases-nodes::evaluate_parts
 decreases-nodes::evaluate_parts l = 16 * l.task.now.ticks_left

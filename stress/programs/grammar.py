@@ -50,6 +50,7 @@ GRAMMAR = {
         (8, "<variable> = <expression>;"), (5, "<counter> = <number>;"), (6, "l = {@l, <expression>};"), (4, "l = {<expression>, @l};"),
         (3, "m = {@m, <item>};"),
         (3, "s = s + <expression>;"), (3, "a = a + <number>;"), (6, "<target> = <expression>;"), (4, "<expression>;"),
+        (2, "<expression> && (l = {@l, <expression>});"), (2, "<expression> || (<variable> = <expression>);"), (1, "<expression> && (<expression> || (<target> = <expression>));"),
         (2, "l = listappend(l, <expression>);"), (2, "l = listdelete(l, <number>);"), (1, "l = setadd(l, <expression>);"), (1, "l = setremove(l, <expression>);"),
         (1, "m = listinsert(m, <item>);"), (2, "<variable> = <function>(<variable>, <items>);"),
         (2, "o.q = {@o.q, <expression>};"), (2, "o.q = {<expression>, @o.q};"), (2, "o.q = <function>(o.q, <expression>);"), (2, "o.q[<place>] = <expression>;"),

@@ -154,11 +154,17 @@ class Room(Root):
         text = command.verb + " " + argstr if argstr else command.verb
         e = matching.among(text, self.exits)
         if e is not FAILED and e is not AMBIGUOUS and player.location is self:
-            e.move(player, self)
+            self.lead(e, player)
         elif e is not FAILED:
             player.tell("There is more than one exit that begins so.")
         else:
             raise NotImplementedError("the hints of $room:huh aren't in this port")
+
+    def lead(self, e, player):
+        if isinstance(e, Exit) and e.source is self:
+            return e.move(player, self)
+        player.tell("That way leads nowhere any more.")
+        return 0
 
 
 class Landing(Room):

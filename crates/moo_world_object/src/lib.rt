@@ -5,6 +5,7 @@
 mod bits;
 mod built_in_property;
 mod cell;
+mod filter_letter;
 mod flags;
 pub mod laws;
 mod name;

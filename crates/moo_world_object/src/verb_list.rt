@@ -1,15 +1,16 @@
 //! The verbs of an object, in order, with a filter by the first letter of names.
 ghost use Rattle.std.specs.Prelude.{◌≡◌, ◌≢◌, ◌<◌, ℕ, false, get_or, IsTrue, true, OnOk, OnErr, IfOk, [], ◌⊎◌, ◌∷◌, ◌++◌, length, position, slice_index_or};
-ghost use Rattle.std.specs.List.{list_any, remove, slice_split};
-ghost use Rattle.moo_world_object.specs.Patterns.{is_blank, fits_names};
+ghost use Rattle.std.specs.List.{remove};
+ghost use Rattle.moo_world_object.specs.Patterns.{fits_names};
 ghost use Rattle.moo_world_object.specs.Verbs.{fits_verb, changed_at, with_verb_info, with_args, with_program};
 ghost use Rattle.moo_world_object.specs.declared.verb.Verb.{Verb};
 ghost use Rattle.moo_syntax_ast.specs.NameHash.{first_letter};
-ghost use Rattle.moo_world_object.specs.Letters.{begins_otherwise, may_begin, IsLetter, AreLetters, IsNumberOf, AreNumbers};
+ghost use Rattle.moo_world_object.specs.Letters.{IsLetter, AreLetters, IsNumberOf, AreNumbers};
 ghost use Rattle.moo_world_object.specs.Index.{AreIndexed};
 
+use crate::filter_letter::{letter_of, may_begin};
 use crate::name::same_hashed_name;
-use crate::pattern::{has_mark, is_blank, is_star};
+use crate::pattern::has_mark;
 use crate::verb::{Need, Verb, VerbPerms, change_args, change_info, change_program};
 use crate::verb_args::VerbArgs;
 use crate::verb_index::VerbIndex;
@@ -367,39 +368,4 @@ fn set_letter(letters: &mut Vec<u8>, index: usize, letter: u8)
     if index < letters.len() {
         letters[index] = letter;
     }
-}
-
-// Returns the filter letter of a verb with these names.
-fn letter_of(names: &[u8]) -> u8
-    ensures { IsLetter result names.now }
-{
-    let letter = first_letter(names);
-    if some_begins_otherwise(names, letter) {
-        return 0;
-    }
-    letter
-}
-
-fn some_begins_otherwise(names: &[u8], letter: u8) -> bool
-    ensures { result ≡ list_any (begins_otherwise letter) (slice_split is_blank names.now) }
-{
-    names
-        .split(|byte| is_blank(*byte))
-        .any(|part| begins_otherwise(part, letter))
-}
-
-fn begins_otherwise(part: &[u8], letter: u8) -> bool
-    ensures { result ≡ begins_otherwise letter part.now }
-{
-    match part {
-        [first, ..] => is_star(*first) || first.to_ascii_lowercase() != letter,
-        [] => false,
-    }
-}
-
-#[inline]
-fn may_begin(letter: u8, first: u8) -> bool
-    ensures { result ≡ may_begin letter first }
-{
-    letter == 0 || letter == first
 }

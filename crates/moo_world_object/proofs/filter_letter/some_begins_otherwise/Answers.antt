@@ -4,7 +4,7 @@ use Rattle.std.proofs.lemmas.Iterator.Search.{any_from_yields_List}
 use Rattle.std.proofs.lemmas.Iterator.Splits.{YieldsList-from_slice_split}
 use Rattle.moo_world_object.specs.Patterns.{is_blank}
 use Rattle.moo_world_object.specs.Letters.{begins_otherwise}
-use Rattle.moo_world_object.proofs.verb_list.some_begins_otherwise.Goals as goal
+use Rattle.moo_world_object.proofs.filter_letter.some_begins_otherwise.Goals as goal
 
 pub returns : goal.returns
 returns c =

@@ -9,6 +9,7 @@ use Rattle.moo_value.specs.TreeCode.{elements_of-trees_of}
 use Rattle.moo_value.specs.Size.{weight, depth, list_weight, list_depth, IsWithinLimits}
 use Rattle.moo_value.specs.Splice.{spliced}
 use Rattle.moo_value.specs.View.{tree, trees}
+use Rattle.moo_value.proofs.Lists.{list_weight-push, list_depth-push}
 use Rattle.moo_value.proofs.Replaced.{tree_in, list_weight-set, weight-le-list_weight, list_depth-set, list_depth-around}
 use Rattle.moo_builtin_operator.specs.Answer.{limited}
 use Rattle.moo_builtin_operator.specs.Places.{or_range}
@@ -94,3 +95,12 @@ on_some (Some a) h f = f a h
 pub none_given : {A : Type 0} (o : Option A) → false ≡ is_some o → o ≡ None
 none_given None h = refl
 none_given (Some x) h = absurd cc
+
+-- the bounds of a list with one more element
+pub longer_within : (ts : List Tree) (t : Tree) (w d : ℕ) → w ≡ list_weight ts + weight t → d ≡ max (list_depth ts) (depth t + 1) → IsWithin w d (list_of (ts ++ t ∷ []))
+longer_within ts t w d e f = record { weighs = omega (arith, e, list_weight-push ts t); nests = omega (arith, f, list_depth-push ts t) }
+
+-- what holds of what is given
+pub given : {A : Type 0} {P : A → Type 0} (o : Option A) → IfSome o P → true ≡ is_some o → (a : A) × P a
+given None h e = absurd cc
+given (Some a) h e = (a, h)

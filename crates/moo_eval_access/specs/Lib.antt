@@ -8,3 +8,4 @@ pub mod SeenTarget
 pub mod LetGo
 pub mod Fault
 pub mod Bounds
+pub mod Deferred

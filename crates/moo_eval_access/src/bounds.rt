@@ -44,8 +44,14 @@ impl Step {
     }
 }
 
-// Returns what `bounds` does for a list and a place.
-fn element_bounds(list: &MooList, place: &Value, heaviest: u32, deepest: u32) -> Option<(u32, u32)>
+/// Returns bounds of the weight and depth of a list with a value of at most this weight and this depth at a place.
+/// `None` if they are past the limits, or if the list has no such place.
+pub(crate) fn element_bounds(
+    list: &MooList,
+    place: &Value,
+    heaviest: u32,
+    deepest: u32,
+) -> Option<(u32, u32)>
     ensures { IfSome result (λ b. (v : Tree) → IsWithin heaviest deepest v → (w : Tree) × (with_index_of (list_of list.now) (tree place.now) v ≡ Ok w) × IsWithin b.0 b.1 w) }
 {
     let Value::Int(place) = place else {

@@ -101,6 +101,20 @@ pub fn as_appended(node: &Node) -> Option<(&Node, &Node)>
     Some((list, last))
 }
 
+/// Is true for `{@list, last}`, and for a conditional expression one of whose two results has this form.
+#[inline(always)]
+pub fn is_longer_list(node: &Node) -> bool {
+    match node {
+        Node::List(_) => is_appended(node),
+        Node::Conditional(_, first, second) => is_appended(first) || is_appended(second),
+        _ => false,
+    }
+}
+
+fn is_appended(node: &Node) -> bool {
+    as_appended(node).is_some()
+}
+
 /// Returns the parts of `{first, @list}`, or `None` for a node of another form.
 #[inline(always)]
 pub fn as_prepended(node: &Node) -> Option<(&Node, &Node)>

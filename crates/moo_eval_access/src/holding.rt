@@ -31,8 +31,8 @@ pub(crate) fn let_go_inside(
     }
 }
 
-// Puts another value into each container but the innermost, in the place of the next one. A next one of depth 0, or
-// deeper than `MOST_DEPTH`, stays in its place.
+// Has each container but the innermost let go of the next one. A next one of depth 0, or deeper than `MOST_DEPTH`, stays
+// in its place.
 fn let_go_each(alloc: Global, steps: Vec<Step>) -> Result<Vec<Step>, AllocError>
     ensures { IfOk result (λ new. (r : Result Tree Error) → rebuilt (steps_of new.items) r ≡ rebuilt (steps_of steps.items) r) }
 {
@@ -40,16 +40,25 @@ fn let_go_each(alloc: Global, steps: Vec<Step>) -> Result<Vec<Step>, AllocError>
     let mut next: usize = 1;
     while next < steps.len() {
         let depth = steps[next].container.depth();
-        if depth > 0 && depth <= MOST_DEPTH {
-            let held = nested_list(alloc, depth)?;
-            steps[next - 1].hold(alloc, held)?;
-        }
+        steps[next - 1].let_go(alloc, depth)?;
         next += 1;
     }
     Ok(steps)
 }
 
 impl Step {
+    /// Puts another list of this depth into the place, so that the container doesn't hold what was there. The place
+    /// takes other values as before. Does nothing if the depth is 0 or over `MOST_DEPTH`. Err is out of memory.
+    pub(crate) fn let_go(&mut self, alloc: Global, depth: u32) -> Result<(), AllocError>
+        ensures { OnOk result ((v : Tree) → with_part (tree self.new.container) (places_of self.new.places) v ≡ with_part (tree self.old.container) (places_of self.old.places) v) }
+    {
+        if depth == 0 || depth > MOST_DEPTH {
+            return Ok(());
+        }
+        let held = nested_list(alloc, depth)?;
+        self.hold(alloc, held)
+    }
+
     // Puts a value into the place, if it is that of an element of a list, and the list takes the value. The place takes
     // other values as before.
     fn hold(&mut self, alloc: Global, held: Value) -> Result<(), AllocError>

@@ -5,6 +5,7 @@
 
 mod arguments;
 mod bounds;
+mod deferred;
 mod entering;
 mod fault;
 mod form;
@@ -18,6 +19,9 @@ mod target;
 mod verb_name;
 
 pub use arguments::are_too_many;
+pub use deferred::{
+    Deferred, LongerList, set_deferred, set_deferred_at, set_property_deferred_at, write_deferred,
+};
 pub use entering::{
     Call, Called, Found, MOST_FRAMES, called_verb, enter_found, enter_verb, enter_verb_from,
     enter_written, has_frame_left, verb_frame, verb_there,
@@ -25,7 +29,7 @@ pub use entering::{
 pub use fault::failed;
 pub use form::{
     as_appended, as_call, as_list_set, as_longer, as_prepended, as_set_property, as_text,
-    is_of_property,
+    is_longer_list, is_of_property,
 };
 pub use growth::{set_longer, set_prepended, set_sum};
 pub use integers::{binary, binary_in_place, number_of};

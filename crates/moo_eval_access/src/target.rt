@@ -141,8 +141,8 @@ impl Step {
         }
     }
 
-    // Returns the container with another value at the places.
-    fn with(self, alloc: Global, value: Value) -> Result<Value, OperationFault>
+    /// Returns the container with another value at the places.
+    pub(crate) fn with(self, alloc: Global, value: Value) -> Result<Value, OperationFault>
         ensures { Gives result (with_part (tree self.container) (places_of self.places) (tree value)) }
     {
         let Step { container, places } = self;

@@ -11,13 +11,14 @@ ghost use Rattle.moo_eval_task.specs.Seen.{state_of};
 ghost use Rattle.moo_eval_access.specs.SeenTarget.{root_seen, step_of, steps_of, path_of, spot_of};
 
 use crate::arithmetic::evaluate_tried;
+use crate::deferred::evaluate_deferred;
 use crate::interpreter::evaluate;
 use crate::lengthening::lengthen_by;
 use crate::scattering::scatter;
 use crate::update::update;
 use moo_eval_access::{
-    Path, Places, Root, Spot, Step, as_list_set, as_longer, as_property, push_step, rebuilt,
-    root_alone, taken_apart,
+    Path, Places, Root, Spot, Step, as_list_set, as_longer, as_property, is_longer_list, push_step,
+    rebuilt, root_alone, set_deferred, taken_apart,
 };
 use moo_eval_frame::{Activation, CallStack, Failure, Flow, Stop};
 use moo_eval_task::Task;
@@ -42,6 +43,10 @@ pub(crate) fn assign(
 {
     match target {
         Node::Variable(name) => {
+            if is_longer_list(value) {
+                let longer = evaluate_deferred(task, world, active, stack, indexed, value)?;
+                return Ok(set_deferred(task.alloc(), &mut active.variables, name, longer)?);
+            }
             let value = evaluate(task, world, active, stack, indexed, value)?;
             let copy = value.try_clone()?;
             active.variables.set(name, copy)?;
@@ -73,7 +78,7 @@ fn assign_path(
 }
 
 /// Assigns to a variable, if the assignment's own value is not used. A list that begins with the elements of a
-/// variable, and one that `listset` makes, are made in place if that can be. Not inlined, so that nested statements
+/// variable, one that `listset` makes, and `{@list, last}` within `a ? b | c` are made in place if that can be. Not inlined, so that nested statements
 /// need no stack space for it.
 #[cycle(evaluation)]
 #[inline(never)]
@@ -95,6 +100,11 @@ pub(crate) fn assign_value(
         return update(task, world, active, stack, name, called, items);
     }
     task.take_tick(active, stack)?;
+    if is_longer_list(value) {
+        let chosen = evaluate_deferred(task, world, active, stack, None, value)?;
+        set_deferred(task.alloc(), &mut active.variables, name, chosen)?;
+        return Ok(Flow::Next);
+    }
     let value = evaluate_tried(task, world, active, stack, None, value)?;
     active.variables.set(name, value)?;
     Ok(Flow::Next)

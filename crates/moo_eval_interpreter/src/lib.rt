@@ -8,6 +8,7 @@ mod calls;
 mod catching;
 mod conditions;
 mod deciding;
+mod deferred;
 mod element;
 mod extension;
 mod functions;

@@ -9,9 +9,13 @@ ghost use Rattle.moo_builtin.specs.Telling.{Faults};
 ghost use Rattle.moo_eval_semantics.specs.Meaning.{Computes, Does};
 ghost use Rattle.moo_eval_task.specs.Seen.{state_of};
 
+use crate::deferred::evaluate_deferred;
 use crate::interpreter::evaluate;
 use crate::setting::evaluate_to_set;
-use moo_eval_access::{as_text, read_property, read_written, write_property, write_written};
+use moo_eval_access::{
+    as_text, is_longer_list, read_property, read_written, write_deferred, write_property,
+    write_written,
+};
 use moo_eval_frame::{Activation, CallStack, Failure, Flow, Stop};
 use moo_eval_task::Task;
 use moo_syntax_ast::Text;
@@ -103,6 +107,10 @@ fn put_property(
         return write_written(world, active.programmer, &base, name, value);
     }
     let name = evaluate(task, world, active, stack, None, name)?;
+    if is_longer_list(value) {
+        let longer = evaluate_deferred(task, world, active, stack, None, value)?;
+        return write_deferred(task.alloc(), world, active.programmer, &base, &name, longer);
+    }
     let value = evaluate(task, world, active, stack, None, value)?;
     write_property(world, active.programmer, &base, &name, value)
 }

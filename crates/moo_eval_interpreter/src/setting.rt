@@ -11,13 +11,14 @@ ghost use Rattle.moo_eval_semantics.specs.Meaning.{Computes, Evaluates};
 ghost use Rattle.moo_eval_task.specs.Reached.{IsReached};
 ghost use Rattle.moo_eval_task.specs.Seen.{state_of};
 
+use crate::deferred::compute_longer;
 use crate::functions::call_with;
 use crate::interpreter::{evaluate, evaluate_all};
 use crate::nodes::compute;
 use moo_eval_access::{as_appended, as_call, as_prepended, drop_written, is_of_property};
 use moo_eval_call::{has_list, make_list};
 use moo_eval_frame::{Activation, CallStack, Failure, Gathered, Stop};
-use moo_eval_slot::{has_room_for, prepended, pushed};
+use moo_eval_slot::{has_room_for, prepended};
 use moo_eval_task::Task;
 use moo_syntax_ast::Text;
 use moo_syntax_lower::{FunctionName, Node, NodeItem};
@@ -88,7 +89,9 @@ fn compute_changed(
     ensures ticks { task.new.ticks_left ≤ task.old.ticks_left }
 {
     if let Some((list, last)) = as_appended(node) {
-        return compute_longer(task, world, active, stack, base, name, list, last);
+        let longer = compute_longer(task, world, active, stack, None, list, last)?;
+        drop_written(world, active.programmer, base, name);
+        return Ok(Value::List(longer.into_list(task.alloc())?));
     }
     if let Some((first, list)) = as_prepended(node) {
         return compute_prepended(task, world, active, stack, base, name, first, list);
@@ -97,36 +100,6 @@ fn compute_changed(
         return compute_call(task, world, active, stack, base, name, called, items);
     }
     compute(task, world, active, stack, None, node)
-}
-
-// Computes `{@spliced, last}`.
-#[cycle(evaluation)]
-#[inline(never)]
-fn compute_longer(
-    task: &mut Task,
-    world: &mut World,
-    active: &mut Activation,
-    stack: &CallStack<'_>,
-    base: &Value,
-    name: &Text,
-    spliced: &Node,
-    last: &Node,
-) -> Result<Value, Failure>
-    ensures ok { IfOk result (λ v. IsReached (Computes Faults (context_of stack.now None) (list (splice (source spliced.now) (element (source last.now) no_items))) (state_of task.old world.old active.old) (Ok (tree v))) (tree base.now) (string name.now) (state_of task.new world.new active.new)) }
-    ensures err { IfErr result (λ failure. HadMemoryIn failure → Computes Faults (context_of stack.now None) (list (splice (source spliced.now) (element (source last.now) no_items))) (state_of task.old world.old active.old) (Err (failure_of failure)) (state_of task.new world.new active.new)) }
-    ensures ticks { task.new.ticks_left ≤ task.old.ticks_left }
-{
-    let found = evaluate(task, world, active, stack, None, spliced)?;
-    let Value::List(list) = found else {
-        return Err(Failure::Fails(ErrorCode::TypeMismatch));
-    };
-    let last = evaluate(task, world, active, stack, None, last)?;
-    if !has_room_for(&list, &last) {
-        return Err(Failure::Fails(ErrorCode::Quota));
-    }
-    drop_written(world, active.programmer, base, name);
-    let longer = pushed(task.alloc(), list, last)?;
-    Ok(Value::List(longer))
 }
 
 // Computes `{first, @spliced}`.

@@ -75,7 +75,8 @@ pub known_refused : {T : Telling} {c : Context} {e : Expr} {s t : State} (v : Tr
 known_refused v (Ok done) h = tt
 known_refused v (Err failure) h = λ k. h k
 
-known_kept : (w w' : World) (r : Result (Unit {0}) code_failure.Failure) → IsKnownFailure r → IfErr r (λ failure. HadMemoryIn failure → w' ≡ w) → IfErr r (λ failure. w' ≡ w)
+-- the worlds are equal if an error comes and memory sufficed for it
+pub known_kept : (w w' : World) (r : Result (Unit {0}) code_failure.Failure) → IsKnownFailure r → IfErr r (λ failure. HadMemoryIn failure → w' ≡ w) → IfErr r (λ failure. w' ≡ w)
 known_kept w w' (Ok done) k h = tt
 known_kept w w' (Err failure) k h = h k
 

@@ -30,7 +30,7 @@ use Rattle.moo_eval_task.proofs.Placed.{put, does_from, not_put, unheld, place_e
 use Rattle.moo_eval_task.proofs.Direct.{assigned, unassigned, performed, unperformed, literal_read}
 use Rattle.moo_eval_task.proofs.Extended.{extended, unextended}
 use Rattle.moo_eval_interpreter.proofs.Updated.{updated, list_called}
-use Rattle.moo_eval_task.proofs.Reached.{reached_by, value_reached, value_stopped, answer_reached, answer_failed, put_reached, known_put, known_refused, part_stored, object_stops_part, name_stops_part, unread_part, place_stops_part, value_stops_part, part_put}
+use Rattle.moo_eval_task.proofs.Reached.{reached_by, value_reached, value_stopped, answer_reached, answer_failed, put_reached, known_put, known_refused, known_kept, part_stored, object_stops_part, name_stops_part, unread_part, place_stops_part, value_stops_part, part_put}
 use Rattle.moo_builtin_operator.proofs.Lawful.{limited_within}
 use Rattle.moo_eval_access.proofs.Longer.{is_quota}
 use Rattle.moo_value.specs.Tree.{list_of}
@@ -40,6 +40,8 @@ use Rattle.moo_builtin_operator.specs.Truth.{is_true, truth_value}
 use Rattle.moo_eval_interpreter.proofs.ObjectCalls.{named}
 use Rattle.moo_eval_interpreter.proofs.Passing.{undecided, decided, operand_stops, negated, not_stops, truth_of, if_err}
 use Rattle.moo_eval_interpreter.proofs.Choosing.{passed}
+use Rattle.moo_eval_interpreter.proofs.Deferred.{test_stopped, first_chosen, second_chosen}
+use Rattle.moo_eval_access.specs.Deferred.{deferred_tree}
 use Rattle.moo_eval_interpreter.proofs.Spliced.{plain_rest, not_spliced}
 use Rattle.moo_eval_interpreter.proofs.Known.{codes_given, errors_given, errors_end, seen_listed}
 use Rattle.moo_eval_control.specs.SeenCatching.{code_values}
@@ -1356,29 +1358,6 @@ pub setting::compute_changed-returns-clause-err : goal.setting::compute_changed-
 setting::compute_changed-returns-clause-err t c =
     answer_failed c.compute.result c.compute.ensures.meaning
 
-pub setting::compute_longer-returns-in_err-found-clause-err : goal.setting::compute_longer-returns-in_err-found-clause-err
-setting::compute_longer-returns-in_err-found-clause-err t c =
-    let p = err_from_is_err_and c.from_residual.result c.from_residual.ensures.1 in rw (p.1, p.2) (λ k. first_stops (c.in_err-found.ensures.meaning k))
-
-pub setting::compute_longer-returns-in_default-clause-err : goal.setting::compute_longer-returns-in_default-clause-err
-setting::compute_longer-returns-in_default-clause-err t c =
-    λ k. first_fails (c.in_ok-found.ensures.meaning tt) (unspliced _ c.in_default.not-List)
-
-pub setting::compute_longer-returns-in_err-last-clause-err : goal.setting::compute_longer-returns-in_err-last-clause-err
-setting::compute_longer-returns-in_err-last-clause-err t c =
-    let p = err_from_is_err_and c.from_residual-in_err-last.result c.from_residual-in_err-last.ensures.1 in rw (p.1, p.2) (λ k. second_stops c.in-List.list (rw c.in-List.is at (c.in_ok-found.ensures.meaning tt)) (c.in_err-last.ensures.meaning k))
-
-pub setting::compute_longer-returns-then-not-has_room_for-clause-err : goal.setting::compute_longer-returns-then-not-has_room_for-clause-err
-setting::compute_longer-returns-then-not-has_room_for-clause-err t c =
-    λ k. too_long c.in-List.list (rw c.in-List.is at (c.in_ok-found.ensures.meaning tt)) (c.in_ok-last.ensures.meaning tt) (is_quota _ (λ limits. false≢true (sym c.if-not-has_room_for.true ∙ c.has_room_for.ensures.last.1 limits)))
-
-pub setting::compute_longer-returns-clause-ok : goal.setting::compute_longer-returns-clause-ok
-setting::compute_longer-returns-clause-ok t c =
-    let all = list_of (c.in-List.list ++ tree c.in_ok-last.last ∷ []) in
-    let made = limited_within all (c.has_room_for.ensures.last.0 c.if-not-has_room_for.false) in
-    let f : SFits w32 c.evaluate-2.new.active.programmer = search rules in
-    rw c.in_ok-longer.ensures (record { between = c.evaluate-2.new.world; holds = longer c.in-List.list (rw c.in-List.is at (c.in_ok-found.ensures.meaning tt)) (c.in_ok-last.ensures.meaning tt) made; alike = rw (to_z-of_z w32 c.evaluate-2.new.active.programmer f) at c.drop_written.ensures })
-
 pub setting::compute_prepended-returns-in_err-first-clause-err : goal.setting::compute_prepended-returns-in_err-first-clause-err
 setting::compute_prepended-returns-in_err-first-clause-err t c =
     let p = err_from_is_err_and c.from_residual.result c.from_residual.ensures.1 in rw (p.1, p.2) (λ k. front.first_stops (c.in_err-first.ensures.meaning k))
@@ -1594,3 +1573,148 @@ loops::count-returns-clause-meaning t c =
 pub conditions::node_passes-returns-in-Some-try_property_test-clause-ok : goal.conditions::node_passes-returns-in-Some-try_property_test-clause-ok
 conditions::node_passes-returns-in-Some-try_property_test-clause-ok t c =
     rw c.in_default-try_comparison.ensures.none at (c.in-Some-try_property_test.ensures.some (context_of c.args.stack.now c.args.indexed))
+
+pub assignment::assign-returns-in_ok-set_deferred-in-Variable-clause-meaning : goal.assignment::assign-returns-in_ok-set_deferred-in-Variable-clause-meaning
+assignment::assign-returns-in_ok-set_deferred-in-Variable-clause-meaning t c =
+    λ k. rw (c.in-Variable.is, c.in_ok-set_deferred-in-Variable.ensures.value) (assigned c.in_ok-longer-in-Variable.ensures.ok (same_state (sym c.in_ok-set_deferred-in-Variable.ensures.set) refl))
+
+pub assignment::assign-returns-in_err-longer-in-Variable-clause-meaning : goal.assignment::assign-returns-in_err-longer-in-Variable-clause-meaning
+assignment::assign-returns-in_err-longer-in-Variable-clause-meaning t c =
+    let p = err_from_is_err_and c.from_residual.result c.from_residual.ensures.1 in rw (p.1, p.2) (λ k. rw c.in-Variable.is (unassigned (c.in_err-longer-in-Variable.ensures.err k)))
+
+pub deferred::compute_longer-returns-in_err-found-clause-err : goal.deferred::compute_longer-returns-in_err-found-clause-err
+deferred::compute_longer-returns-in_err-found-clause-err t c =
+    let p = err_from_is_err_and c.from_residual.result c.from_residual.ensures.1 in rw (p.1, p.2) (λ k. first_stops (c.in_err-found.ensures.meaning k))
+
+pub deferred::compute_longer-returns-in_default-clause-err : goal.deferred::compute_longer-returns-in_default-clause-err
+deferred::compute_longer-returns-in_default-clause-err t c =
+    λ k. first_fails (c.in_ok-found.ensures.meaning tt) (unspliced _ c.in_default.not-List)
+
+pub deferred::compute_longer-returns-in_err-last-clause-err : goal.deferred::compute_longer-returns-in_err-last-clause-err
+deferred::compute_longer-returns-in_err-last-clause-err t c =
+    let p = err_from_is_err_and c.from_residual-in_err-last.result c.from_residual-in_err-last.ensures.1 in rw (p.1, p.2) (λ k. second_stops c.in-List.list (rw c.in-List.is at (c.in_ok-found.ensures.meaning tt)) (c.in_err-last.ensures.meaning k))
+
+pub deferred::compute_longer-returns-in-Some-clause-ok : goal.deferred::compute_longer-returns-in-Some-clause-ok
+deferred::compute_longer-returns-in-Some-clause-ok t c =
+    longer c.in-List.list (rw c.in-List.is at (c.in_ok-found.ensures.meaning tt)) (c.in_ok-last.ensures.meaning tt) c.in-Some.ensures.some
+
+pub deferred::compute_longer-returns-in-None-clause-err : goal.deferred::compute_longer-returns-in-None-clause-err
+deferred::compute_longer-returns-in-None-clause-err t c =
+    λ k. too_long c.in-List.list (rw c.in-List.is at (c.in_ok-found.ensures.meaning tt)) (c.in_ok-last.ensures.meaning tt) (ap answers c.in-None.ensures.none)
+
+pub deferred::evaluate_longer-returns-in_err-take_tick-clause-err : goal.deferred::evaluate_longer-returns-in_err-take_tick-clause-err
+deferred::evaluate_longer-returns-in_err-take_tick-clause-err t c =
+    let p = err_from_is_err_and c.from_residual.result c.from_residual.ensures.1 in rw (p.1, p.2) (λ k. let h = c.in_err-take_tick.ensures.spent k in rw (c.in_err-take_tick.ensures.kept, h.1) (spent h.0))
+
+pub deferred::evaluate_longer-returns-in-Ok-clause-ok : goal.deferred::evaluate_longer-returns-in-Ok-clause-ok
+deferred::evaluate_longer-returns-in-Ok-clause-ok t c =
+    begins c.in_ok-take_tick.ensures.taken (rw c.in_ok-take_tick.ensures.left at c.in-Ok.ensures.ok) refl
+
+pub deferred::evaluate_longer-returns-in_ok-settled-in-Err-clause-ok : goal.deferred::evaluate_longer-returns-in_ok-settled-in-Err-clause-ok
+deferred::evaluate_longer-returns-in_ok-settled-in-Err-clause-ok t c =
+    begins c.in_ok-take_tick.ensures.taken (rw c.in_ok-take_tick.ensures.left at (c.in-Err.ensures.err (c.in_ok-settled-in-Err.ensures.known tt))) (c.in_ok-settled-in-Err.ensures.outcome tt)
+
+pub deferred::evaluate_longer-returns-in_err-settled-in-Err-clause-err : goal.deferred::evaluate_longer-returns-in_err-settled-in-Err-clause-err
+deferred::evaluate_longer-returns-in_err-settled-in-Err-clause-err t c =
+    let p = err_from_is_err_and c.from_residual-in_err-settled-in-Err.result c.from_residual-in_err-settled-in-Err.ensures.1 in rw (p.1, p.2) (λ k. begins c.in_ok-take_tick.ensures.taken (rw c.in_ok-take_tick.ensures.left at (c.in-Err.ensures.err (c.in_err-settled-in-Err.ensures.known k))) (c.in_err-settled-in-Err.ensures.outcome k))
+
+pub deferred::evaluate_chosen-returns-in_err-take_tick-clause-err : goal.deferred::evaluate_chosen-returns-in_err-take_tick-clause-err
+deferred::evaluate_chosen-returns-in_err-take_tick-clause-err t c =
+    let p = err_from_is_err_and c.from_residual.result c.from_residual.ensures.1 in rw (p.1, p.2) (λ k. let h = c.in_err-take_tick.ensures.spent k in rw (c.in_err-take_tick.ensures.kept, h.1) (spent h.0))
+
+pub deferred::evaluate_chosen-returns-in_err-passes-clause-err : goal.deferred::evaluate_chosen-returns-in_err-passes-clause-err
+deferred::evaluate_chosen-returns-in_err-passes-clause-err t c =
+    let p = err_from_is_err_and c.from_residual-in_err-passes.result c.from_residual-in_err-passes.ensures.1 in rw (p.1, p.2) (λ k. test_stopped c.in_ok-take_tick.ensures.taken (rw c.in_ok-take_tick.ensures.left at (c.in_err-passes.ensures.err k)))
+
+pub deferred::evaluate_chosen-returns-then-passes-clause-ok : goal.deferred::evaluate_chosen-returns-then-passes-clause-ok
+deferred::evaluate_chosen-returns-then-passes-clause-ok t c =
+    let test = c.in_ok-passes.ensures.ok in let d = rw c.in_ok-take_tick.ensures.left at test.1 in IfOk-weaker c.evaluate_deferred.result _ _ (λ v h. first_chosen c.in_ok-take_tick.ensures.taken d (test.2 ∙ c.if-passes.true) h) c.evaluate_deferred.ensures.ok
+
+pub deferred::evaluate_chosen-returns-then-passes-clause-err : goal.deferred::evaluate_chosen-returns-then-passes-clause-err
+deferred::evaluate_chosen-returns-then-passes-clause-err t c =
+    let test = c.in_ok-passes.ensures.ok in let d = rw c.in_ok-take_tick.ensures.left at test.1 in if_err c.evaluate_deferred.result (λ e h k. first_chosen c.in_ok-take_tick.ensures.taken d (test.2 ∙ c.if-passes.true) (h k)) c.evaluate_deferred.ensures.err
+
+pub deferred::evaluate_chosen-returns-clause-ok : goal.deferred::evaluate_chosen-returns-clause-ok
+deferred::evaluate_chosen-returns-clause-ok t c =
+    let test = c.in_ok-passes.ensures.ok in let d = rw c.in_ok-take_tick.ensures.left at test.1 in IfOk-weaker c.evaluate_deferred-2.result _ _ (λ v h. second_chosen c.in_ok-take_tick.ensures.taken d (test.2 ∙ c.if-passes.false) h) c.evaluate_deferred-2.ensures.ok
+
+pub deferred::evaluate_chosen-returns-clause-err : goal.deferred::evaluate_chosen-returns-clause-err
+deferred::evaluate_chosen-returns-clause-err t c =
+    let test = c.in_ok-passes.ensures.ok in let d = rw c.in_ok-take_tick.ensures.left at test.1 in if_err c.evaluate_deferred-2.result (λ e h k. second_chosen c.in_ok-take_tick.ensures.taken d (test.2 ∙ c.if-passes.false) (h k)) c.evaluate_deferred-2.ensures.err
+
+pub deferred::evaluate_deferred-returns-in-Conditional-clause-ok : goal.deferred::evaluate_deferred-returns-in-Conditional-clause-ok
+deferred::evaluate_deferred-returns-in-Conditional-clause-ok t c =
+    rw c.in-Conditional.is c.evaluate_chosen.ensures.ok
+
+pub deferred::evaluate_deferred-returns-in-Conditional-clause-err : goal.deferred::evaluate_deferred-returns-in-Conditional-clause-err
+deferred::evaluate_deferred-returns-in-Conditional-clause-err t c =
+    rw c.in-Conditional.is c.evaluate_chosen.ensures.err
+
+pub deferred::evaluate_deferred-returns-in-Some-clause-ok : goal.deferred::evaluate_deferred-returns-in-Some-clause-ok
+deferred::evaluate_deferred-returns-in-Some-clause-ok t c =
+    rw c.in-Some.ensures c.evaluate_longer.ensures.ok
+
+pub deferred::evaluate_deferred-returns-in-Some-clause-err : goal.deferred::evaluate_deferred-returns-in-Some-clause-err
+deferred::evaluate_deferred-returns-in-Some-clause-err t c =
+    rw c.in-Some.ensures c.evaluate_longer.ensures.err
+
+pub deferred::evaluate_deferred-returns-clause-ok : goal.deferred::evaluate_deferred-returns-clause-ok
+deferred::evaluate_deferred-returns-clause-ok t c =
+    c.in_ok-value.ensures.meaning tt
+
+pub deferred::evaluate_deferred-returns-in_err-value-clause-err : goal.deferred::evaluate_deferred-returns-in_err-value-clause-err
+deferred::evaluate_deferred-returns-in_err-value-clause-err t c =
+    let p = err_from_is_err_and c.from_residual.result c.from_residual.ensures.1 in rw (p.1, p.2) (λ k. c.in_err-value.ensures.meaning k)
+
+pub setting::compute_changed-returns-in_ok-into_list-in-Some-clause-ok : goal.setting::compute_changed-returns-in_ok-into_list-in-Some-clause-ok
+setting::compute_changed-returns-in_ok-into_list-in-Some-clause-ok t c =
+    let f : SFits w32 c.compute_longer.new.active.programmer = search rules in rw (c.in-Some.ensures, c.in_ok-into_list-in-Some.ensures) (record { between = c.compute_longer.new.world; holds = c.in_ok-longer-in-Some.ensures.ok; alike = rw (to_z-of_z w32 c.compute_longer.new.active.programmer f) at c.drop_written.ensures })
+
+pub setting::compute_changed-returns-in_err-longer-in-Some-clause-err : goal.setting::compute_changed-returns-in_err-longer-in-Some-clause-err
+setting::compute_changed-returns-in_err-longer-in-Some-clause-err t c =
+    let p = err_from_is_err_and c.from_residual.result c.from_residual.ensures.1 in rw (p.1, p.2) (λ k. rw c.in-Some.ensures (c.in_err-longer-in-Some.ensures.err k))
+
+pub assignment::assign_value-returns-then-is_longer_list-clause-meaning : goal.assignment::assign_value-returns-then-is_longer_list-clause-meaning
+assignment::assign_value-returns-then-is_longer_list-clause-meaning t c =
+    λ k. performed c.in_ok-take_tick.ensures.taken (assigned (rw c.in_ok-take_tick.ensures.left at c.in_ok-chosen.ensures.ok) (same_state (sym c.in_ok-set_deferred.ensures.set) refl))
+
+pub assignment::assign_value-returns-in_err-chosen-clause-meaning : goal.assignment::assign_value-returns-in_err-chosen-clause-meaning
+assignment::assign_value-returns-in_err-chosen-clause-meaning t c =
+    let p = err_from_is_err_and c.from_residual-in_err-chosen.result c.from_residual-in_err-chosen.ensures.1 in rw (p.1, p.2) (λ k. unperformed c.in_ok-take_tick.ensures.taken (unassigned (rw c.in_ok-take_tick.ensures.left at (c.in_err-chosen.ensures.err k))))
+
+pub element::put_at-returns-then-is_longer_list-clause-ok : goal.element::put_at-returns-then-is_longer_list-clause-ok
+element::put_at-returns-then-is_longer_list-clause-ok t c =
+    let h = c.in_ok-set_deferred_at.ensures.ok in put (c.in_ok-container.ensures.value tt) (c.in_ok-place.ensures.meaning tt) c.in_ok-longer.ensures.ok h.1 (same_state (sym h.2) refl)
+
+pub element::put_at-returns-in_err-longer-clause-err : goal.element::put_at-returns-in_err-longer-clause-err
+element::put_at-returns-in_err-longer-clause-err t c =
+    let p = err_from_is_err_and c.from_residual-in_err-longer.result c.from_residual-in_err-longer.ensures.1 in rw (p.1, p.2) (λ k. value_ends (c.in_ok-container.ensures.value tt) (c.in_ok-place.ensures.meaning tt) (c.in_err-longer.ensures.err k))
+
+pub element::put_at-returns-in_err-set_deferred_at-clause-err : goal.element::put_at-returns-in_err-set_deferred_at-clause-err
+element::put_at-returns-in_err-set_deferred_at-clause-err t c =
+    let p = err_from_is_err_and c.from_residual-in_err-set_deferred_at.result c.from_residual-in_err-set_deferred_at.ensures.1 in
+    rw (p.1, p.2) (λ k. subst (λ s. Computes Faults (context_of c.args.stack.now None) (sets_place c.args.name.now (source c.args.place.now) (source c.args.value.now)) (state_of c.args.task.now c.args.world.now c.args.active.now) (Err (failure_of c.in_err-set_deferred_at.field-0.0)) s) (same_state (sym (c.in_err-set_deferred_at.ensures.kept k)) refl) (not_put (c.in_ok-container.ensures.value tt) (c.in_ok-place.ensures.meaning tt) c.in_ok-longer.ensures.ok (c.in_err-set_deferred_at.ensures.err k)))
+
+pub property_element::put_property_element-returns-in_err-longer-clause-err : goal.property_element::put_property_element-returns-in_err-longer-clause-err
+property_element::put_property_element-returns-in_err-longer-clause-err t c =
+    let p = err_from_is_err_and c.from_residual-in_err-longer.result c.from_residual-in_err-longer.ensures.1 in rw (p.1, p.2) (λ k. let f : SFits w32 c.evaluate.new.active.programmer = search rules in value_stops_part (c.in_ok-base.ensures.meaning tt) (literal_read c.in_ok-take_tick.ensures.taken) (rw (to_z-of_z w32 c.evaluate.new.active.programmer f) at (c.in_ok-container.ensures.value tt)) (rw c.in_ok-take_tick.ensures.left at (c.in_ok-place.ensures.meaning tt)) (c.in_err-longer.ensures.err k))
+
+pub property_element::put_property_element-returns-then-is_longer_list-clause-ok : goal.property_element::put_property_element-returns-then-is_longer_list-clause-ok
+property_element::put_property_element-returns-then-is_longer_list-clause-ok t c =
+    known_put (deferred_tree c.in_ok-longer.longer) c.set_property_deferred_at.result (λ k. let f : SFits w32 c.evaluate.new.active.programmer = search rules in let g : SFits w32 c.evaluate_deferred.new.active.programmer = search rules in part_put (c.in_ok-base.ensures.meaning tt) (literal_read c.in_ok-take_tick.ensures.taken) (rw (to_z-of_z w32 c.evaluate.new.active.programmer f) at (c.in_ok-container.ensures.value tt)) (rw c.in_ok-take_tick.ensures.left at (c.in_ok-place.ensures.meaning tt)) c.in_ok-longer.ensures.ok (part_stored _ c.set_property_deferred_at.result refl (rw (to_z-of_z w32 c.evaluate_deferred.new.active.programmer g) at (c.set_property_deferred_at.ensures.world k)) c.set_property_deferred_at.ensures.kept k))
+
+pub property_element::put_property_element-returns-then-is_longer_list-clause-err : goal.property_element::put_property_element-returns-then-is_longer_list-clause-err
+property_element::put_property_element-returns-then-is_longer_list-clause-err t c =
+    known_refused (deferred_tree c.in_ok-longer.longer) c.set_property_deferred_at.result (λ k. let f : SFits w32 c.evaluate.new.active.programmer = search rules in let g : SFits w32 c.evaluate_deferred.new.active.programmer = search rules in part_put (c.in_ok-base.ensures.meaning tt) (literal_read c.in_ok-take_tick.ensures.taken) (rw (to_z-of_z w32 c.evaluate.new.active.programmer f) at (c.in_ok-container.ensures.value tt)) (rw c.in_ok-take_tick.ensures.left at (c.in_ok-place.ensures.meaning tt)) c.in_ok-longer.ensures.ok (part_stored _ c.set_property_deferred_at.result refl (rw (to_z-of_z w32 c.evaluate_deferred.new.active.programmer g) at (c.set_property_deferred_at.ensures.world k)) c.set_property_deferred_at.ensures.kept k))
+
+pub property::put_property-returns-in_err-longer-clause-err : goal.property::put_property-returns-in_err-longer-clause-err
+property::put_property-returns-in_err-longer-clause-err t c =
+    let p = err_from_is_err_and c.from_residual-in_err-longer.result c.from_residual-in_err-longer.ensures.1 in rw (p.1, p.2) (λ k. property.value_stops_put (c.in_ok-base.ensures.meaning tt) (c.in_ok-name.ensures.meaning tt) (c.in_err-longer.ensures.err k))
+
+pub property::put_property-returns-then-is_longer_list-clause-ok : goal.property::put_property-returns-then-is_longer_list-clause-ok
+property::put_property-returns-then-is_longer_list-clause-ok t c =
+    known_put (deferred_tree c.in_ok-longer.longer) c.write_deferred.result (λ k. let f : SFits w32 c.evaluate_deferred.new.active.programmer = search rules in property.put (c.in_ok-base.ensures.meaning tt) (c.in_ok-name.ensures.meaning tt) c.in_ok-longer.ensures.ok (property_put _ (rw (to_z-of_z w32 c.evaluate_deferred.new.active.programmer f) at (c.write_deferred.ensures.world k)) (known_kept _ _ c.write_deferred.result k c.write_deferred.ensures.kept)) refl)
+
+pub property::put_property-returns-then-is_longer_list-clause-err : goal.property::put_property-returns-then-is_longer_list-clause-err
+property::put_property-returns-then-is_longer_list-clause-err t c =
+    known_refused (deferred_tree c.in_ok-longer.longer) c.write_deferred.result (λ k. let f : SFits w32 c.evaluate_deferred.new.active.programmer = search rules in property.put (c.in_ok-base.ensures.meaning tt) (c.in_ok-name.ensures.meaning tt) c.in_ok-longer.ensures.ok (property_put _ (rw (to_z-of_z w32 c.evaluate_deferred.new.active.programmer f) at (c.write_deferred.ensures.world k)) (known_kept _ _ c.write_deferred.result k c.write_deferred.ensures.kept)) refl)

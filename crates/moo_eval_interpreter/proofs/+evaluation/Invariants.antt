@@ -273,7 +273,7 @@ abbrev pub decreases-property::set_property : goal.decreases-property::set_prope
 decreases-property::set_property l = 16 * l.task.now.ticks_left
 
 abbrev pub decreases-property::put_property : goal.decreases-property::put_property
-decreases-property::put_property l = 16 * l.task.now.ticks_left + 4
+decreases-property::put_property l = 16 * l.task.now.ticks_left + 6
 
 abbrev pub decreases-property_element::set_property_element : goal.decreases-property_element::set_property_element
 decreases-property_element::set_property_element l = 16 * l.task.now.ticks_left
@@ -289,9 +289,6 @@ decreases-setting::evaluate_changed l = 16 * l.task.now.ticks_left + 4
 
 abbrev pub decreases-setting::compute_changed : goal.decreases-setting::compute_changed
 decreases-setting::compute_changed l = 16 * l.task.now.ticks_left + 15
-
-abbrev pub decreases-setting::compute_longer : goal.decreases-setting::compute_longer
-decreases-setting::compute_longer l = 16 * l.task.now.ticks_left + 4
 
 abbrev pub decreases-setting::compute_prepended : goal.decreases-setting::compute_prepended
 decreases-setting::compute_prepended l = 16 * l.task.now.ticks_left + 4
@@ -413,3 +410,15 @@ invariant-loops::count-numbers l = record {
 
 abbrev pub decreases-loops::count-numbers : goal.decreases-loops::count-numbers
 decreases-loops::count-numbers l = l.task.ticks_left
+
+abbrev pub decreases-deferred::evaluate_deferred : goal.decreases-deferred::evaluate_deferred
+decreases-deferred::evaluate_deferred l = 16 * l.task.now.ticks_left + 5
+
+abbrev pub decreases-deferred::evaluate_chosen : goal.decreases-deferred::evaluate_chosen
+decreases-deferred::evaluate_chosen l = 16 * l.task.now.ticks_left + 4
+
+abbrev pub decreases-deferred::evaluate_longer : goal.decreases-deferred::evaluate_longer
+decreases-deferred::evaluate_longer l = 16 * l.task.now.ticks_left + 4
+
+abbrev pub decreases-deferred::compute_longer : goal.decreases-deferred::compute_longer
+decreases-deferred::compute_longer l = 16 * l.task.now.ticks_left + 4

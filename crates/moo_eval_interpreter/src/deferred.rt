@@ -1,0 +1,121 @@
+//! Evaluates values that are stored in a place whose old value is let go of first. So `{@l[i], x}` grows a list in
+//! place.
+ghost use Rattle.std.specs.Prelude.{◌≤◌, None, Ok, Err, IfOk, IfErr};
+ghost use Rattle.moo_value.specs.Tree.{list_of};
+ghost use Rattle.moo_syntax_ast.specs.Tree.{conditional, list, splice, element, no_items};
+ghost use Rattle.moo_syntax_lower.specs.Source.{source};
+ghost use Rattle.moo_eval_frame.specs.Seen.{context_of, failure_of, stop_of, HadMemory, HadMemoryIn};
+ghost use Rattle.moo_builtin.specs.Telling.{Faults};
+ghost use Rattle.moo_eval_access.specs.Deferred.{deferred_tree};
+ghost use Rattle.moo_eval_semantics.specs.Meaning.{Computes, Evaluates};
+ghost use Rattle.moo_eval_task.specs.Seen.{state_of};
+
+use crate::conditions::passes;
+use crate::interpreter::evaluate;
+use moo_eval_access::{Deferred, LongerList, as_appended};
+use moo_eval_frame::{Activation, CallStack, Failure, Stop};
+use moo_eval_task::Task;
+use moo_syntax_lower::Node;
+use moo_value::{ErrorCode, Value};
+use moo_world::World;
+
+/// Evaluates a node. If it is `{@list, last}`, the list isn't made yet; so too if it is a conditional expression that
+/// gives such a list. Not inlined, so that nested statements need no stack space for it.
+#[cycle(evaluation)]
+#[inline(never)]
+pub(crate) fn evaluate_deferred(
+    task: &mut Task,
+    world: &mut World,
+    active: &mut Activation,
+    stack: &CallStack<'_>,
+    indexed: Option<&Value>,
+    node: &Node,
+) -> Result<Deferred, Stop>
+    ensures ok { IfOk result (λ value. Evaluates Faults (context_of stack.now indexed.entry) (source node.now) (state_of task.old world.old active.old) (Ok (deferred_tree value)) (state_of task.new world.new active.new)) }
+    ensures err { IfErr result (λ stop. HadMemory stop → Evaluates Faults (context_of stack.now indexed.entry) (source node.now) (state_of task.old world.old active.old) (Err (stop_of stop)) (state_of task.new world.new active.new)) }
+    ensures ticks { task.new.ticks_left ≤ task.old.ticks_left }
+{
+    if let Node::Conditional(test, first, second) = node {
+        return evaluate_chosen(task, world, active, stack, indexed, test, first, second);
+    }
+    if let Some((list, last)) = as_appended(node) {
+        return evaluate_longer(task, world, active, stack, indexed, list, last);
+    }
+    let value = evaluate(task, world, active, stack, indexed, node)?;
+    Ok(Deferred::Value(value))
+}
+
+// Evaluates a conditional expression.
+#[cycle(evaluation)]
+#[inline(always)]
+fn evaluate_chosen(
+    task: &mut Task,
+    world: &mut World,
+    active: &mut Activation,
+    stack: &CallStack<'_>,
+    indexed: Option<&Value>,
+    test: &Node,
+    first: &Node,
+    second: &Node,
+) -> Result<Deferred, Stop>
+    ensures ok { IfOk result (λ value. Evaluates Faults (context_of stack.now indexed.entry) (conditional (source test.now) (source first.now) (source second.now)) (state_of task.old world.old active.old) (Ok (deferred_tree value)) (state_of task.new world.new active.new)) }
+    ensures err { IfErr result (λ stop. HadMemory stop → Evaluates Faults (context_of stack.now indexed.entry) (conditional (source test.now) (source first.now) (source second.now)) (state_of task.old world.old active.old) (Err (stop_of stop)) (state_of task.new world.new active.new)) }
+    ensures ticks { task.new.ticks_left ≤ task.old.ticks_left }
+{
+    task.take_tick(active, stack)?;
+    let passes = passes(task, world, active, stack, indexed, test)?;
+    if passes {
+        return evaluate_deferred(task, world, active, stack, indexed, first);
+    }
+    evaluate_deferred(task, world, active, stack, indexed, second)
+}
+
+// Evaluates `{@spliced, last}`.
+#[cycle(evaluation)]
+#[inline(always)]
+fn evaluate_longer(
+    task: &mut Task,
+    world: &mut World,
+    active: &mut Activation,
+    stack: &CallStack<'_>,
+    indexed: Option<&Value>,
+    spliced: &Node,
+    last: &Node,
+) -> Result<Deferred, Stop>
+    ensures ok { IfOk result (λ value. Evaluates Faults (context_of stack.now indexed.entry) (list (splice (source spliced.now) (element (source last.now) no_items))) (state_of task.old world.old active.old) (Ok (deferred_tree value)) (state_of task.new world.new active.new)) }
+    ensures err { IfErr result (λ stop. HadMemory stop → Evaluates Faults (context_of stack.now indexed.entry) (list (splice (source spliced.now) (element (source last.now) no_items))) (state_of task.old world.old active.old) (Err (stop_of stop)) (state_of task.new world.new active.new)) }
+    ensures ticks { task.new.ticks_left ≤ task.old.ticks_left }
+{
+    task.take_tick(active, stack)?;
+    match compute_longer(task, world, active, stack, indexed, spliced, last) {
+        Ok(longer) => Ok(Deferred::Longer(longer)),
+        Err(failure) => Ok(Deferred::Value(task.settled(active, stack, failure)?)),
+    }
+}
+
+/// Computes `{@spliced, last}`, but for the last value, which isn't appended yet.
+#[cycle(evaluation)]
+#[inline(always)]
+pub(crate) fn compute_longer(
+    task: &mut Task,
+    world: &mut World,
+    active: &mut Activation,
+    stack: &CallStack<'_>,
+    indexed: Option<&Value>,
+    spliced: &Node,
+    last: &Node,
+) -> Result<LongerList, Failure>
+    ensures ok { IfOk result (λ longer. Computes Faults (context_of stack.now indexed.entry) (list (splice (source spliced.now) (element (source last.now) no_items))) (state_of task.old world.old active.old) (Ok (list_of longer)) (state_of task.new world.new active.new)) }
+    ensures err { IfErr result (λ failure. HadMemoryIn failure → Computes Faults (context_of stack.now indexed.entry) (list (splice (source spliced.now) (element (source last.now) no_items))) (state_of task.old world.old active.old) (Err (failure_of failure)) (state_of task.new world.new active.new)) }
+    ensures ticks { task.new.ticks_left ≤ task.old.ticks_left }
+{
+    let found = evaluate(task, world, active, stack, indexed, spliced)?;
+    let Value::List(list) = found else {
+        return Err(Failure::Fails(ErrorCode::TypeMismatch));
+    };
+    let last = evaluate(task, world, active, stack, indexed, last)?;
+    match LongerList::new(list, last) {
+        Some(longer) => Ok(longer),
+        None => Err(Failure::Fails(ErrorCode::Quota)),
+    }
+}

@@ -1,4 +1,4 @@
-"""Plays rows of `changes`, `objects` and `verbs`: databases, and what `moo check` and `moo copy` print of them."""
+"""Plays rows of `changes`, `objects`, `verbs` and `calls`: databases, and what `moo check`, `moo copy` and the scripts of worlds/refused print of them."""
 
 import re
 import subprocess
@@ -151,3 +151,17 @@ def play_verbs(program, row):
         if want != has:
             return [Outcome(row.place, f"{title} {row.text}", want, has)]
     return [Outcome(row.place, row.text, *got[0])]
+
+
+def play_calls(program, row):
+    """Runs worlds/refused/missing.py over a database with these programs, and over a copy of it with CR LF."""
+    given, _, end = row.given.partition(" && ")
+    text = database_of([bytes_of(source) for source in repeated(given).split(" & ")], bytes_of(end) or END.encode())
+    wanted = Result(row.status, bytes_of(row.wanted) + b"\n" if row.wanted else b"")
+    outcomes = []
+    for title, written in ("", text), ("with CR LF: ", text.replace(b"\n", b"\r\n")):
+        with Database(program, written) as old:
+            words = [sys.executable, "-B", TOP / "worlds/refused/missing.py", "--moo", program.path, old.file.name]
+            done = subprocess.run(words, stdout=subprocess.PIPE, stderr=subprocess.DEVNULL, timeout=PATIENCE, check=False)
+            outcomes.append(Outcome(row.place, title + row.text, wanted, Result(done.returncode, done.stdout)))
+    return outcomes

@@ -20,7 +20,7 @@ from row_file import TOP, Broken, parse
 # The files of rows: one that is lost, or is not named here, is a test that failed.
 FILES = {
     "commands": "command_line expr",
-    "databases": "cut fields hierarchies lines refused values",
+    "databases": "calls cut fields hierarchies lines refused values",
     "programs": "answers arguments at_once begins branches calls caught_codes debug_bit element_operands expressions faults frames function_calls functions growing handlers hooks hostile in_place indexes inner_elements inner_lists_grow inner_property_lists integers known_names"
     " lambdacore last_ticks limits listings lists lists_grow_within longer_lists loop_variables loops memory names operands operations owners parts property_lists replaced reused rights scatters second_operands set_elements shared statements table turns updates utilities values verbs world",
     "script": "checkpoints commands connections hooks lines logins many parsing programming shown tasks",
@@ -42,6 +42,7 @@ def units_of(program, block):
         "changes": partial(database_rows.play_change, base=block.database.read_bytes() if block.database else b""),
         "objects": database_rows.play_objects,
         "verbs": database_rows.play_verbs,
+        "calls": database_rows.play_calls,
     }[block.kind]
     return [(row.place, partial(play, program, row)) for row in block.rows]
 

@@ -15,6 +15,7 @@ KINDS = {
     "changes": "always",
     "objects": "never",
     "verbs": "never",
+    "calls": "never",
 }
 
 

@@ -84,21 +84,27 @@ else
 endif
 .
 
-// May this one speak, to WHO (or to all)? Else it reads why not. KIND is what WHO may refuse.
-@program $player:may_speak this none this rxd wiz
-{?who = #-1, ?kind = ""} = args;
-{at, span} = this.muted;
+// May WHO speak, to WHOM (or to all)? Else WHO reads why not. KIND is what WHOM may refuse. The core asks $player itself: a
+// verb of this name on a programmer's own character would take back no mute.
+@program $player:lets_speak this none this rxd wiz
+{who, ?whom = #-1, ?kind = ""} = args;
+{at, span} = `who.muted ! ANY => {0, 0}';
 since = time() - at;
+refused = valid(whom) ? `whom.refusals ! ANY => {}' | {};
 if (span && since >= 0 && since < span)
-  notify(this, tostr("You are muted, for ", $time:span(span - since), " more."));
-elseif (valid(who) && who in this.gagged_by)
-  notify(this, who.name + " hears nothing of you.");
-elseif (valid(who) && ({kind, #-1} in who.refusals || {kind, this} in who.refusals))
-  notify(this, tostr(who.name, " refuses ", kind, {kind, #-1} in who.refusals ? "." | " of yours."));
+  notify(who, tostr("You are muted, for ", $time:span(span - since), " more."));
+elseif (valid(whom) && whom in `who.gagged_by ! ANY => {}')
+  notify(who, whom.name + " hears nothing of you.");
+elseif ({kind, #-1} in refused || {kind, who} in refused)
+  notify(who, tostr(whom.name, " refuses ", kind, {kind, #-1} in refused ? "." | " of yours."));
 else
   return 1;
 endif
 return 0;
+.
+
+@program $player:may_speak this none this rxd
+return $player:lets_speak(this, @args);
 .
 
 // Things come into somebody's hands by `give`, @move and programs: not from one who is gagged, or whose things are refused.
@@ -287,7 +293,7 @@ o = $match:player(args[1]);
 if (!text)
   player:tell("Page whom, and what? For example: page ", player.name, " hello");
   return;
-elseif (!$match:found_player(o, args[1], player) || !player:may_speak(o, "pages"))
+elseif (!$match:found_player(o, args[1], player) || !$player:lets_speak(player, o, "pages"))
   return;
 elseif ((idle = `idle_seconds(o) ! E_INVARG => -1') < 0)
   player:tell(o.name, " isn't connected.", $isa(player, $builder) && $isa(o, $builder) ? tostr(" To leave a letter:  @send ", o.name, " ", text[1..min(30, length(text))], length(text) > 30 ? ".." | "") | "");
@@ -330,7 +336,7 @@ if (o == #-3 && (found = $match:player(name)) in people)
 endif
 if (o == #-3 && valid(here) && $match:player(name) == #-3 && $match:among(name, {@player.contents, @here.contents}) != #-3)
   player:tell("You can whisper only to players.");
-elseif ($match:found(o, name, player) && player:may_speak(o, "whispers"))
+elseif ($match:found(o, name, player) && $player:lets_speak(player, o, "whispers"))
   notify(o, tostr(player.name, " whispers to you: ", text));
   player:tell("You whisper to ", o.name, ".");
 endif
@@ -432,7 +438,7 @@ if (!$match:found(o, p[1], player))
 elseif (!$controls(player, o))
   player:tell($string:subject(o.name), " isn't yours.");
   return;
-elseif (!player:may_speak())
+elseif (!$player:lets_speak(player))
   return;
 endif
 // the words have lost their quotes and backslashes, the line has not
@@ -536,7 +542,7 @@ elseif (!(o in connected_players()) || !valid(o.location))
   player:tell(o.name, " isn't here, nor anywhere.");
 elseif (o.location == player.location)
   player:tell("You are together.");
-elseif (!player:may_speak(o, "visits"))
+elseif (!$player:lets_speak(player, o, "visits"))
   return;
 elseif (!$isa(o.location, $room) || !(`o.location:accept(player) ! ANY => 0'))
   player:tell("You can't go where ", o.name, " is.");
@@ -637,7 +643,7 @@ endif
 @program $player:post any any any rd
 for o in (valid(player.location) ? player.location.contents | {})
   if (!is_player(o) && $isa(o, $board))
-    if (!argstr && $isa(player, $builder) && player:may_speak())
+    if (!argstr && $isa(player, $builder) && $player:lets_speak(player))
       return $editor:start(player, "board", o, "", {});
     endif
     return o:add(argstr);

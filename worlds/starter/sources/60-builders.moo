@@ -31,7 +31,7 @@ elseif (is_player(o) && !(p[1] in {"me", o.name, tostr(o), @(typeof(more = `o.al
   // one connects by this name: it isn't changed by mistake
   player:tell("Type the whole name of a player, or  @rename me to ", p[2]);
   return;
-elseif (!player:may_speak())
+elseif (!$player:lets_speak(player))
   return;
 endif
 names = {};
@@ -93,7 +93,7 @@ endif
 
 // @create PARENT named NAME,OTHER NAME
 @program $builder:@create any any any rd wiz
-if (player != this || !player:may_speak())
+if (player != this || !$player:lets_speak(player))
   return;
 endif
 set_task_perms(player);
@@ -237,7 +237,7 @@ endtry
 
 // @dig NAME; @dig north,n to NAME or #12; @dig north,n|south,s to NAME
 @program $builder:"@dig @link" any any any rd wiz
-if (player != this || !player:may_speak())
+if (player != this || !$player:lets_speak(player))
   return;
 endif
 set_task_perms(player);
@@ -417,7 +417,7 @@ player:tell(n, n == 1 ? " object." | " objects.");
 
 // @set OBJECT.PROPERTY to VALUE: a number, #12, "text" or text
 @program $builder:@set any any any rd wiz
-if (player != this || !player:may_speak())
+if (player != this || !$player:lets_speak(player))
   return;
 endif
 set_task_perms(player);
@@ -549,7 +549,7 @@ elseif (is_player(o) && !player.wizard)
 elseif ($isa(o, $vehicle) && !$isa(to, $room))
   player:tell("A vehicle has to be in a room: its people could not leave it.");
   return;
-elseif (!player:may_speak())
+elseif (!$player:lets_speak(player))
   return;
 endif
 try

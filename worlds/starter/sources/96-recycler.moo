@@ -20,6 +20,8 @@ elseif (!(kind.f || $controls(who, kind)))
   raise(E_PERM);
 endif
 quota = `who.ownership_quota ! E_PROPNF => {}';
+// whoever lets the ticks run out half way has made a thing that doesn't count
+this:spare(3000, "too few ticks are left");
 if (typeof(quota) == INT && quota < 1)
   raise(E_QUOTA);
 elseif (!who.wizard && $isa(who, $player))
@@ -48,13 +50,20 @@ if (o != #-1)
   if (typeof(quota) == INT)
     who.ownership_quota = quota - 1;
   endif
+  o.serial = this:next_serial();
   `o:initialize() ! E_VERBNF';
 else
   o = create(kind, who);
+  o.serial = this:next_serial();
 endif
-this.last_serial = this.last_serial + 1;
-o.serial = this.last_serial;
 return o;
+.
+
+@program $recycler:next_serial this none this rxd wiz
+if (caller != this)
+  raise(E_PERM);
+endif
+return this.last_serial = this.last_serial + 1;
 .
 
 // Why WHO can't make N things more, or "".
@@ -189,10 +198,11 @@ elseif ($isa(o, $room))
 endif
 .
 
-// Raises an error if fewer than N ticks are left: when they are used up, nobody is told what was done.
+// Raises an error, with the text WHY, if fewer than N ticks are left: when they are used up, nobody is told what was done.
 @program $recycler:spare this none this rxd wiz
-if (ticks_left() < args[1])
-  raise(E_QUOTA, "much is in it, or leads there, of which a part is gone by now. Type it again");
+{n, ?why = "much is in it, or leads there, of which a part is gone by now. Type it again"} = args;
+if (ticks_left() < n)
+  raise(E_QUOTA, why);
 endif
 .
 

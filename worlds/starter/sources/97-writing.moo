@@ -187,7 +187,7 @@ try
     fault = lines ? $post:send_list(who, name, lines) | "There is nothing in it.";
   elseif (kind == "board")
     fault = lines ? (what:add(lines) ? "" | "It isn't pinned.") | "There is nothing in it.";
-  elseif (!who:may_speak())
+  elseif (!$player:lets_speak(who))
     fault = "It isn't kept.";
   else
     this:save_text(who, what, name, lines);
@@ -295,7 +295,7 @@ try
   endif
   if (typeof(lines) != LIST || (kind == "text" && !$controls(player, o)))
     player:tell(typeof(lines) == LIST ? $string:subject(o.name) + " isn't yours." | "That is no text that you may edit.");
-  elseif (!player:may_speak())
+  elseif (!$player:lets_speak(player))
     return;
   elseif (verb == "@write")
     $editor:start(player, kind, o, name, {}, 1);
@@ -407,7 +407,7 @@ elseif (length(whom.letters) >= this.most)
   return whom.name + "'s letter box is full.";
 elseif (this:is_enough(who, whom))
   return tostr(whom.name, " has ", this.most_of_one, " letters of yours already.");
-elseif (!who:may_speak(whom, "letters"))
+elseif (!$player:lets_speak(who, whom, "letters"))
   return "It isn't sent.";
 endif
 this:count(who);
@@ -440,7 +440,7 @@ elseif (fault)
   return fault;
 elseif (!(who in this.lists[i][3]))
   return "Only its readers write to a list: @subscribe " + name;
-elseif (!who:may_speak())
+elseif (!$player:lets_speak(who))
   return "It isn't sent.";
 endif
 this:count(who);
@@ -474,7 +474,7 @@ if (verb == "@newlist")
   for l in ($post.lists)
     mine = mine + (l[2] == player);
   endfor
-  if (!player:may_speak())
+  if (!$player:lets_speak(player))
     return;
   elseif (i || length(name) < 2 || length(name) > 16 || index(name, " "))
     player:tell(i ? "There is such a list." | "A list's name has 2 to 16 characters, and no blank. For example: @newlist tea");
@@ -528,7 +528,7 @@ if (index(args[1], "*") == 1)
   return;
 endif
 o = $match:player(args[1]);
-if (!$match:found_player(o, args[1], player) || !player:may_speak(o, "letters"))
+if (!$match:found_player(o, args[1], player) || !$player:lets_speak(player, o, "letters"))
   return;
 elseif (text)
   fault = $post:send(player, o, {text});
@@ -654,7 +654,7 @@ if (caller != this)
   raise(E_PERM);
 elseif (!($controls(player, this) || (this.open_to_all && this.location == player)))
   player:tell("You may not write on it.");
-elseif (!player:may_speak())
+elseif (!$player:lets_speak(player))
   return;
 elseif (!args)
   this.text = {};

@@ -31,7 +31,7 @@ endif
 // drive WAY: through an exit of the room where it stands, if the driver himself may go there
 @program $vehicle:drive any any any rd
 here = this.location;
-if (player.location != this || !player:may_speak())
+if (player.location != this || !$player:lets_speak(player))
   return;
 elseif (!$isa(here, $room))
   player:tell("It is nowhere.");

@@ -415,7 +415,7 @@ endwhile
 player:tell(n, n == 1 ? " object." | " objects.");
 .
 
-// @set OBJECT.PROPERTY to VALUE: a number, #12, "text" or text
+// @set OBJECT.PROPERTY to VALUE: a number, #12, "text" or text; of a programmer also a list, {1, 2}
 @program $builder:@set any any any rd wiz
 if (player != this || !$player:lets_speak(player))
   return;
@@ -444,6 +444,10 @@ elseif (text && text[1] == "#" && tostr(toobj(text)) == text)
   value = toobj(text);
 elseif (length(text) > 1 && text[1] == "\"" && text[length(text)] == "\"")
   value = text[2..length(text) - 1];
+elseif (player.programmer && text && text[1] == "{" && text[length(text)] == "}")
+  // a programmer's list, as in a program
+  r = eval("me = player; here = me.location; return " + text + ";");
+  value = r[1] ? r[2] | text;
 else
   value = text;
 endif

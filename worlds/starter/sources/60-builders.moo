@@ -85,7 +85,10 @@ endif
 if (is_player(o))
   $match:enter(o);
 endif
-player:tell(o == player ? "You are" | "It is", " called ", $string:join(names, ", "), " (", o, ") now.");
+player:tell(o == player ? "You are" | (is_player(o) ? before + " is" | "It is"), " called ", $string:join(names, ", "), " (", o, ") now.");
+if (is_player(o) && o != player && before != o.name)
+  notify(o, tostr(player.name, " has given you the name ", o.name, ": you connect by it from now on."));
+endif
 if ($isa(o, $exit))
   this:warn_of(names, `o.source ! ANY => #-1');
 endif
@@ -191,6 +194,23 @@ if ($match:found_player(o, argstr, player))
 endif
 .
 
+// Why others may need O, or "": it is the core's, there are things of its kind, or people are in it, of whom twenty are named.
+@program $builder:needed_for this none this rxd
+{o} = args;
+if ($recycler:is_core(o))
+  return " belongs to the core of this world, whose programs may need it.";
+elseif (kids = length(children(o)))
+  return tostr(" has ", kids, kids == 1 ? " child." | " children.");
+endif
+people = {};
+for p in (o.contents)
+  people = is_player(p) && p != player ? {@people, p} | people;
+endfor
+n = length(people);
+names = $string:names(people[1..min(20, n)]);
+return people ? tostr(" has people in it: ", $string:english(n > 20 ? {@names, tostr(n - 20, " more")} | names), ".") | "";
+.
+
 // @recycle THING asks if others need the thing; @recycle! THING does it
 @program $builder:"@recycle @recycle!" any any any rd wiz
 if (player != this)
@@ -211,20 +231,9 @@ elseif (o <= #3 || o == $login.start)
   return;
 endif
 name = tostr(o.name, " (", o, ")");
-fault = "";
-if ($recycler:is_core(o))
-  fault = " belongs to the core of this world, whose programs may need it.";
-elseif (kids = length(children(o)))
-  fault = tostr(" has ", kids, kids == 1 ? " child." | " children.");
-else
-  for p in (o.contents)
-    if (is_player(p) && p != player)
-      fault = tostr(" has people in it: ", p.name, ".");
-    endif
-  endfor
-endif
-if (fault && verb != "@recycle!")
-  player:tell(name, fault, " If you are sure, type  @recycle! ", argstr);
+fault = verb == "@recycle!" ? "" | this:needed_for(o);
+if (fault)
+  player:tell_lines({@$string:wrap(name + fault), "If you are sure, type  @recycle! " + argstr});
   return;
 endif
 try
@@ -452,7 +461,7 @@ else
   value = text;
 endif
 // what the core's kinds have as a number, an object or a text stays one: their verbs reckon with it
-k = parent(p[1]);
+k = p[1] <= $login.core_end ? p[1] | parent(p[1]);
 while (valid(k) && !(p[2] in (`properties(k) ! E_PERM => {}')))
   k = parent(k);
 endwhile
@@ -460,6 +469,9 @@ kind = valid(k) && k <= $login.core_end ? typeof(`k.(p[2]) ! ANY => ""') | typeo
 value = kind == STR && typeof(value) != STR ? text | value;
 if (kind in {INT, OBJ} && typeof(value) != kind && $controls(player, p[1]))
   player:tell(p[1].name, ".", p[2], kind == INT ? " has to be a number." | " has to be an object, as #12.");
+  return;
+elseif (kind == LIST && k == p[1] && typeof(value) != LIST && $controls(player, k))
+  player:tell(k.name, ".", p[2], " has to be a list. For lines of text: @edit ", k, ".", p[2]);
   return;
 endif
 try
@@ -578,17 +590,57 @@ elseif (!(player in `who.gags ! ANY => {}'))
 endif
 .
 
-// @eject NAME: out of a room of one's own; @eject EXIT: an exit that somebody else made there
+// Where O goes that is sent away from HERE: to no place whose verbs could keep it. HERE if there is none.
+@program $builder:place_for this none this rxd wiz
+{o, here} = args;
+dest = is_player(o) ? $login.start | #-1;
+if (is_player(o) && $isa(home = `o.home ! ANY => #-1', $room) && home != here && $recycler:is_safe(home))
+  return home;
+elseif ($isa(o, $vehicle))
+  // in somebody's hands its people could not leave it
+  return $login.start;
+elseif (!is_player(o) && $isa(o.owner, $player) && $recycler:is_safe(o.owner))
+  return o.owner;
+endif
+return dest;
+.
+
+// @eject NAME: out of a room of one's own; @eject EXIT: an exit that somebody else made there; @eject things of NAME: all his
+// things that are there
 @program $builder:@eject any any any rd wiz
 if (player != this)
   return $builder:refuse(verb);
 elseif (!argstr)
-  player:tell("For example: @eject NAME   (out of a room of yours)");
+  player:tell("For example: @eject NAME   or: @eject things of NAME   (out of a room of yours)");
   return;
 endif
 here = player.location;
+p = $string:split(args, "of");
 if (!valid(here) || !$controls(player, here))
   player:tell("This place isn't yours.");
+elseif (p && p[1] == "things" && !valid(dobj))
+  who = $match:player(p[2]);
+  if (!$match:found_player(who, p[2], player))
+    return;
+  endif
+  n = 0;
+  for o in (here.contents)
+    if (o.owner == who && !is_player(o) && (dest = this:place_for(o, here)) != here)
+      move(o, dest);
+      n = n + (o.location != here);
+    endif
+    if (ticks_left() < 10000)
+      player:tell("There may be more: type it again.");
+      break;
+    endif
+  endfor
+  player:tell(n, n == 1 ? " thing" | " things", " of ", who.name, n == 1 ? " is" | " are", " gone from here.");
+  if (n)
+    here:announce(tostr(player.name, " sends away what ", who.name, " left here."), {player, who});
+    if (who != player)
+      notify(who, tostr(player.name, " sends away what you left in ", here.name, "."));
+    endif
+  endif
 elseif (dobj == #-3 && $isa(here, $room) && valid(e = $match:among($string:unquoted(argstr), here.exits)))
   // it is its owner's still, who can recycle it
   if (e.owner == player)
@@ -605,16 +657,7 @@ elseif (dobj.wizard)
   player:tell("Wizards can't be sent away.");
 else
   name = $string:subject(dobj.name);
-  // to no place whose verbs could keep it here
-  dest = is_player(dobj) ? $login.start | #-1;
-  if (is_player(dobj) && $isa(home = `dobj.home ! ANY => #-1', $room) && home != here && $recycler:is_safe(home))
-    dest = home;
-  elseif ($isa(dobj, $vehicle))
-    // in somebody's hands its people could not leave it
-    dest = $login.start;
-  elseif (!is_player(dobj) && $isa(dobj.owner, $player) && $recycler:is_safe(dobj.owner))
-    dest = dobj.owner;
-  endif
+  dest = this:place_for(dobj, here);
   if (dest == here)
     player:tell("There is nowhere to send it.");
     return;

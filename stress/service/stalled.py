@@ -1,5 +1,6 @@
 #!/usr/bin/env python3
-"""A log that nobody reads: stalled.py MOO. Standard error is a pipe that is full. Play goes on, and the log says later how many lines it lacks."""
+"""A log that nobody reads: stalled.py MOO. Standard error is a pipe that is full, first by a line that is longer than the pipe. Play goes on, and
+the log says later how many lines it lacks."""
 import fcntl
 from service import *
 
@@ -13,6 +14,7 @@ process = subprocess.Popen([moo, "serve", path, "0"], stdin=subprocess.DEVNULL, 
 os.close(writing)
 found = re.fullmatch(rb"listening on .*:(\d+)\n", process.stdout.readline())
 player = wizard(int(found[1]))
+player.say(';s = "long "; for i in [1..16] s = s + s; endfor server_log(s);')
 for number in range(60):
     player.say(';for i in [1..100] server_log("a line of the log that nobody reads " + "so far"); endfor')
 player.say(';"went" + "on"')
@@ -43,7 +45,7 @@ while b"read again" not in seen and time.time() < end:
     time.sleep(0.02)
 checks.check("the log goes on", b"read again" in seen, seen[-300:])
 checks.check("and says how many lines it lacks", re.search(rb"\d+ lines of the log were dropped", seen) is not None, seen[-300:])
-checks.check("no line is cut", all(line.startswith(b"[") for line in seen.splitlines()), [line for line in seen.splitlines() if not line.startswith(b"[")][:3])
+checks.check("each line begins as one", all(line.startswith(b"[") for line in seen.splitlines()), [line for line in seen.splitlines() if not line.startswith(b"[")][:3])
 process.kill()
 process.wait()
 checks.end()

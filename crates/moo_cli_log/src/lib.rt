@@ -4,6 +4,7 @@
 
 mod local;
 mod sink;
+mod standard_error;
 
 pub use local::LocalTime;
 pub use sink::{LogTimes, TimedLog};

@@ -20,9 +20,10 @@ use std::{env, io};
 /// The exit status of a command line that asks for nothing that the program does.
 const USAGE: u8 = 2;
 
-/// The names of the streams in messages about their faults.
+/// The name of standard input in the lines on its faults.
 const INPUT: &str = "standard input";
 
+/// The name of standard output in the lines on its faults.
 const OUTPUT: &str = "standard output";
 
 fn main(rt: HostRuntime) -> ExitCode {

@@ -49,7 +49,7 @@ impl Survey {
         }
     }
 
-    /// Checks the program of a verb whose dot has come, and drops its lines.
+    /// Notes the program of a verb whose dot has come if it is refused, and drops its lines. Fails only if memory runs out.
     fn note(&mut self, alloc: Global, object: u32, verb: u32) -> Result<(), DbFault>
         ensures noted { OnOk result ((source : List Line) → entry_at (sources_at self.old.records) object verb ≡ Some source → IsNoted self.old.faults.items self.new.faults.items (taken_of self.old.records).lines object verb source) }
         ensures memory { IfErr result (λ e. e.kind ≡ DbFaultKind.Memory) }
@@ -73,7 +73,7 @@ impl Survey {
         }
     }
 
-    /// Takes the next piece of the text.
+    /// Takes the next piece of the text. Returns the fault of the first line that is wrong where it is, or `Memory`.
     pub(crate) fn feed(&mut self, alloc: Global, piece: &[u8]) -> Result<(), DbFault>
         ensures goes { (bytes : List ℕ) → IsBehind self.old bytes → OnOk result (IsBehind self.new (bytes ++ piece.now)) }
         ensures stops { (bytes : List ℕ) → IsBehind self.old bytes → IfErr result (IsEnded (bytes ++ piece.now) self.new.faults.items) }

@@ -9,10 +9,12 @@ use std::{fs, io};
 /// The bit of a folder's mode by which only the owner of a file, or of the folder, may remove or replace the file.
 const STICKY: u32 = 0o1000;
 
-/// The reason why no checkpoint can be written: the path of a file or folder, and the system's error.
+/// The reason why no checkpoint can be written.
 #[derive(Drop)]
 pub struct Unwritable<'a> {
+    /// The path of the file or folder.
     pub path: &'a str,
+    /// The system's error.
     pub error: io::Error,
 }
 

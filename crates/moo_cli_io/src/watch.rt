@@ -133,7 +133,7 @@ impl Watch {
         }
     }
 
-    /// Writes a text, and flushes the output. Returns the output's error if it fails.
+    /// Writes a text, and flushes the output. If the output fails, records it and returns the output's error.
     pub fn print<O: Write>(&mut self, output: &mut O, text: &[u8]) -> io::Result<()>
         ensures text { OnOk result (Appends (O.contents output.old) (O.contents output.new) text.now) }
         ensures failed { OnErr result (HasFailed self.new) }

@@ -4,7 +4,7 @@ ghost use Rattle.moo_cli_script.specs.ScriptLines.{IsAddressed};
 
 use crate::number::number;
 
-/// Parses a connection's number, a blank and a text.
+/// Parses a connection's number, a blank and a text. Returns `None` if the argument has another form.
 #[tactic(auto, using(crate::proofs::Splits::no_blank, crate::proofs::Splits::no_number, crate::proofs::Splits::address))]
 pub fn addressed(argument: &[u8]) -> Option<(u16, &[u8])>
     ensures { MatchOption result ((c : ℕ) (text : List ℕ) → ¬ IsAddressed argument.now c text) (λ found. IsAddressed argument.now found.0 found.1.now) }

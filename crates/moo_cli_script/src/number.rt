@@ -3,7 +3,7 @@ ghost use Rattle.std.specs.Prelude.{◌≡◌, ℕ, ◌+◌, ◌*◌, ◌<◌, �
 ghost use Rattle.std.specs.Char.{digit_value};
 ghost use Rattle.moo_cli_script.specs.ScriptLines.{IsNumber};
 
-/// Parses a decimal number that is at most `most`.
+/// Parses a decimal number that is at most `most`. Returns `None` if the digits are no such number.
 #[tactic(auto, using(crate::proofs::Numbers::nothing_read, crate::proofs::Numbers::one_more_read, crate::proofs::Numbers::no_digit, crate::proofs::Numbers::too_large, crate::proofs::Numbers::all_read))]
 pub fn number(digits: &[u8], most: u64) -> Option<u64>
     ensures { MatchOption result ((n : ℕ) → ¬ IsNumber most digits.now n) (IsNumber most digits.now) }
@@ -24,7 +24,7 @@ pub fn number(digits: &[u8], most: u64) -> Option<u64>
     Some(value)
 }
 
-/// Returns the value of a digit below the radix, which is from 2 to 36.
+/// Returns the value of a digit below the radix, which is from 2 to 36. Returns `None` if the byte is no such digit.
 pub fn digit(byte: u8, radix: u8) -> Option<u8>
     requires least { 2 ≤ radix }
     requires most { radix ≤ 36 }
@@ -45,7 +45,8 @@ fn appended(value: u64, digit: u8, most: u64) -> Option<u64>
     Some(number)
 }
 
-/// Parses the number of at most `most` that follows a word at the start of the line.
+/// Parses the number of at most `most` that follows a word at the start of the line. Returns `None` if the line has another
+/// form.
 pub fn number_behind(line: &[u8], word: &[u8], most: u64) -> Option<u64>
     ensures { MatchOption result ((rest : List ℕ) (n : ℕ) → line.now ≡ word.now ++ rest → ¬ IsNumber most rest n) (λ n. (rest : List ℕ) × (line.now ≡ word.now ++ rest) × IsNumber most rest n) }
 {
@@ -55,7 +56,7 @@ pub fn number_behind(line: &[u8], word: &[u8], most: u64) -> Option<u64>
     number(rest, most)
 }
 
-/// Returns what follows a word at the start of the line.
+/// Returns what follows a word at the start of the line. Returns `None` if the line begins with something else.
 pub fn following<'a>(line: &'a [u8], word: &[u8]) -> Option<&'a [u8]>
     ensures { MatchOption result ((rest : List ℕ) → ¬ (line.now ≡ word.now ++ rest)) (λ rest. line.now ≡ word.now ++ rest.now) }
 {

@@ -22,7 +22,8 @@ pub(crate) enum Stop {
     Refused(Refused),
 }
 
-/// Prints why a script ends at the line of this number, counted from 1, and returns the exit status.
+/// Prints why a script ends at the line of this number, counted from 1, and returns the exit status. Returns the refusal if
+/// the output fails or memory runs out.
 pub(crate) fn report_stop<O: Write>(
     alloc: Global,
     stop: Stop,
@@ -43,7 +44,7 @@ pub(crate) fn report_stop<O: Write>(
     }
 }
 
-/// Prints why a line isn't done, and returns the exit status.
+/// Prints why a line isn't done, and returns the exit status. Returns the refusal if the output fails or memory runs out.
 fn report_refused<O: Write>(
     alloc: Global,
     refused: Refused,
@@ -67,7 +68,7 @@ fn report_refused<O: Write>(
     }
 }
 
-/// Prints why there is no server, and returns the exit status.
+/// Prints why there is no server, and returns the exit status. Returns the refusal if the output fails or memory runs out.
 pub(crate) fn report_opening<O: Write>(
     alloc: Global,
     fault: OpenFault,

@@ -11,7 +11,7 @@ use moo_cli_sockets::{CONSOLE, put};
 use moo_server_core::{Event, ServerCore, StartApplication};
 use std::alloc::{AllocError, Global};
 
-/// The greatest number of bytes in one read, as for a socket.
+/// The greatest number of bytes in one read.
 const READ_MOST: usize = 256;
 
 /// The greatest number of bytes in one write. A pipe that takes any takes so many at once.

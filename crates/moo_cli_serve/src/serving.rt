@@ -65,7 +65,8 @@ pub struct Serving<S: StartApplication, D: Disk> {
 
 impl<S: StartApplication, D: Disk + Watched> Serving<S, D> {
     /// Opens a server over a disk, and listens on a port of an address, and for browsers if they are served. Port 0 takes any that
-    /// is free. If the disk can't be read, logs the reason and returns the fault.
+    /// is free. Fails if the database is refused or can't be read, if an address is not available, or if memory runs out. Logs the
+    /// reason if the disk can't be read.
     pub fn open<N: Net + Clock + Log>(
         rt: &N,
         alloc: Global,
@@ -111,7 +112,7 @@ impl<S: StartApplication, D: Disk + Watched> Serving<S, D> {
         })
     }
 
-    /// Returns the address on which it listens.
+    /// Returns the address on which it listens. Fails if the system doesn't report it.
     pub fn address(&self) -> Result<SocketAddr, ServeFault>
         ensures { IfErr result IsOutside }
     {
@@ -250,7 +251,7 @@ impl<S: StartApplication, D: Disk + Watched> Serving<S, D> {
         Round::Idle
     }
 
-    /// Waits until a socket is ready, for a second at most.
+    /// Waits until a socket is ready, for a second at most. Fails if the system can't report which are, or if memory runs out.
     pub fn wait(&mut self) -> Result<(), ServeFault>
         ensures waits { Waits self.old self.new }
         ensures outside { IfErr result IsOutside }

@@ -25,7 +25,7 @@ use std::net::SocketAddr;
 /// The exit status of a server that must save and has not.
 const UNSAVED: u8 = 3;
 
-/// Prints the address on which a server listens.
+/// Prints the address on which a server listens. Fails if the output fails, or if memory runs out.
 pub(crate) fn tell_address<O: Write>(
     alloc: Global,
     output: &mut O,

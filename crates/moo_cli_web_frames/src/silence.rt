@@ -11,6 +11,7 @@ pub const GONE_SECONDS: u64 = 90;
 /// What is to be done about a silent side.
 #[derive(Clone, Copy, Debug, PartialEq, Eq)]
 pub enum Due {
+    /// Nothing is to be done.
     Nothing,
     /// A ping is to be sent.
     Ping,

@@ -86,8 +86,8 @@ pub enum Times {
     Local,
 }
 
-/// Parses the words of the command line, the program's name first. Returns `None` if they name no command. If help
-/// was asked for, returns an error whose `use_stderr` is false.
+/// Parses the words of the command line, the program's name first. Returns `None` if they name no command. If the help or
+/// the version was asked for, returns an error whose `use_stderr` is false.
 pub fn read_words<'a>(alloc: Global, words: &'a [String]) -> Result<Option<Work<'a>>, Error> {
     let matches = command(alloc)?.try_get_matches_from(words)?;
     match matches.subcommand() {
@@ -253,8 +253,8 @@ fn check<'a>(alloc: Global) -> Result<Command<'a>, AllocError> {
     let all = Arg::new(alloc, "all")
         .long("all")
         .action(ArgAction::SetTrue)
-        .help("Tell every program that is refused, not the first alone");
-    over_database(alloc, "check", "Tell what a database holds")?.arg(all)
+        .help("Report every program that is refused, not the first alone");
+    over_database(alloc, "check", "Report what a database holds")?.arg(all)
 }
 
 fn serve<'a>(alloc: Global) -> Result<Command<'a>, AllocError> {
@@ -265,12 +265,12 @@ fn serve<'a>(alloc: Global) -> Result<Command<'a>, AllocError> {
     let host = Arg::new(alloc, "host")
         .long("host")
         .value_name("ADDRESS")
-        .help("The address at which connections are taken")
+        .help("The address to listen on: a number, or localhost")
         .default_value(HOST);
     let rounds = Arg::new(alloc, "rounds")
         .long("rounds")
         .value_name("N")
-        .help("The most rounds of reading and writing")
+        .help("The most rounds of reading and writing, after which the server ends without a last checkpoint")
         .value_parser(value_parser!(u64))
         .default_value(ROUNDS);
     let most_waiting = Arg::new(alloc, "most-waiting")
@@ -337,7 +337,7 @@ fn idle_seconds<'a>(alloc: Global) -> Arg<'a> {
     Arg::new(alloc, "idle-seconds")
         .long("idle-seconds")
         .value_name("N")
-        .help("A connection that has sent nothing for N seconds is hung up; 0 for no limit")
+        .help("A connection that has sent nothing for more than N seconds is hung up; 0 for no limit")
         .value_parser(value_parser!(u64))
         .default_value("0")
 }
@@ -360,7 +360,7 @@ fn must_save<'a>(alloc: Global) -> Arg<'a> {
     Arg::new(alloc, "must-save")
         .long("must-save")
         .action(ArgAction::SetTrue)
-        .help("End with status 3 if there is no last checkpoint that is done")
+        .help("End with status 3 if the server ends without a last checkpoint")
 }
 
 fn log_logins<'a>(alloc: Global) -> Arg<'a> {

@@ -14,8 +14,8 @@ use std::path::Path;
 use std::rt::Files;
 use std::{fs, io};
 
-/// The permissions of a spare until it has those of main: only the owner may use it.
-const OWNERS_ALONE: u32 = 0o600;
+/// The permissions of a lock's file, and of a spare until it has those of main: only the owner may use it.
+pub(crate) const OWNERS_ALONE: u32 = 0o600;
 
 /// The file or folder of a call.
 #[derive(Clone, Copy, Debug, PartialEq, Eq)]

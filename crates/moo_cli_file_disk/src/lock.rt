@@ -1,4 +1,5 @@
 //! The lock on a database, which keeps a second server from it.
+use crate::file_disk::OWNERS_ALONE;
 use std::alloc::Global;
 use std::fs::{File, OpenOptions, TryLockError};
 use std::io::{ErrorKind, Read, Write};
@@ -7,13 +8,10 @@ use std::path::Path;
 use std::rt::Files;
 use std::{fs, io};
 
-/// The permissions of a lock's file.
-const OWNERS_ALONE: u32 = 0o600;
-
 /// The greatest number of bytes of a process number and its line end.
 const NUMBER_MOST: usize = 16;
 
-/// Holds the lock on a database until it is dropped. The lock is the system's, on a file beside the database whose
+/// Holds the lock on a database until it is dropped. The lock is the system's, on a file next to the database whose
 /// name ends in `.lock`. The system frees it when the process ends, however it ends. The file stays.
 #[derive(Drop)]
 pub struct Lock {
@@ -67,7 +65,8 @@ fn lock_name<R: Files>(alloc: Global, files: &R, path: &str) -> io::Result<Strin
     Ok(format!(in alloc; "{}.lock", main.as_str())?)
 }
 
-// Opens a lock's file, or creates it. Refuses a symbolic link, since its file may be anybody's.
+// Opens a lock's file, or creates it. Refuses a symbolic link, since its file may be anybody's, and a pipe or a device,
+// whose process number can't be read.
 fn open_lock<R: Files<File = File>>(files: &R, name: &str) -> io::Result<File> {
     if Path::new(name).is_symlink(files) {
         return is_link();
@@ -82,6 +81,9 @@ fn open_lock<R: Files<File = File>>(files: &R, name: &str) -> io::Result<File> {
     let named = fs::symlink_metadata(files, name)?;
     if opened.dev() != named.dev() || opened.ino() != named.ino() {
         return is_link();
+    }
+    if !opened.is_file() {
+        return Err(io::Error::new(ErrorKind::Other, "not a regular file"));
     }
     Ok(file)
 }

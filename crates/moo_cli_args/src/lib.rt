@@ -91,10 +91,10 @@ pub enum Times {
 pub fn read_words<'a>(alloc: Global, words: &'a [String]) -> Result<Option<Work<'a>>, Error> {
     let matches = command(alloc)?.try_get_matches_from(words)?;
     match matches.subcommand() {
-        Some(("serve", found)) => match host_of(found) {
-            Some(_) if !has_origins(found) => Err(no_origin(alloc)?),
-            Some(host) => Ok(service_of(alloc, found, host)?.map(Work::Serve)),
-            None => Err(no_address(alloc)?),
+        Some(("serve", found)) => match (host_of(found), refused_origin(found)) {
+            (None, _) => Err(no_address(alloc, found)?),
+            (Some(_), Some(origin)) => Err(no_origin(alloc, origin)?),
+            (Some(host), None) => Ok(service_of(alloc, found, host)?.map(Work::Serve)),
         },
         Some((name, found)) => Ok(work_of(name, found)),
         None => Ok(None),
@@ -110,12 +110,10 @@ fn host_of(found: &ArgMatches) -> Option<IpAddr> {
     }
 }
 
-// Returns whether each value of `--web-origin` is an origin.
-fn has_origins(found: &ArgMatches) -> bool {
-    match found.get_strs("web-origin") {
-        Some(origins) => origins.iter().all(|origin| is_origin(origin)),
-        None => true,
-    }
+// Returns the first value of `--web-origin` that is no origin.
+fn refused_origin<'a>(found: &ArgMatches<'a>) -> Option<&'a str> {
+    let origins = found.get_strs("web-origin")?;
+    origins.iter().find(|origin| !is_origin(origin)).copied()
 }
 
 // Is true for a scheme, `://` and a host, perhaps with a port. One slash may come after them.
@@ -208,15 +206,28 @@ pub fn not_utf8(alloc: Global) -> Result<Error, AllocError> {
     command(alloc)?.error(ErrorKind::InvalidValue, "an argument isn't UTF-8")
 }
 
-fn no_address(alloc: Global) -> Result<Error, AllocError> {
-    let message = "the value of '--host <ADDRESS>' is no IP address";
-    command(alloc)?.error(ErrorKind::ValueValidation, message)
+// Returns the usage fault of a value of `--host` that is no address.
+fn no_address(alloc: Global, found: &ArgMatches) -> Result<Error, AllocError> {
+    let host = found.get_str("host").unwrap_or("");
+    let message = format!(in alloc;
+        "invalid value '{host}' for '--host <ADDRESS>': neither an IP address nor localhost"
+    )?;
+    serve_fault(alloc, message.as_str())
 }
 
-fn no_origin(alloc: Global) -> Result<Error, AllocError> {
-    let message =
-        "the value of '--web-origin <ORIGIN>' must be an origin, such as https://moo.example.org";
-    command(alloc)?.error(ErrorKind::ValueValidation, message)
+// Returns the usage fault of a value of `--web-origin` that is no origin.
+fn no_origin(alloc: Global, origin: &str) -> Result<Error, AllocError> {
+    let message = format!(in alloc;
+        "invalid value '{origin}' for '--web-origin <ORIGIN>': no origin, such as https://moo.example.org"
+    )?;
+    serve_fault(alloc, message.as_str())
+}
+
+// Returns a fault of the command line of `moo serve`, with its usage.
+fn serve_fault(alloc: Global, message: &str) -> Result<Error, AllocError> {
+    serve(alloc)?
+        .bin_name("moo serve")?
+        .error(ErrorKind::ValueValidation, message)
 }
 
 fn command<'a>(alloc: Global) -> Result<Command<'a>, AllocError> {
@@ -270,7 +281,9 @@ fn serve<'a>(alloc: Global) -> Result<Command<'a>, AllocError> {
     let rounds = Arg::new(alloc, "rounds")
         .long("rounds")
         .value_name("N")
-        .help("The most rounds of reading and writing, after which the server ends without a last checkpoint")
+        .help(
+            "The most rounds of reading and writing, after which the server ends without a last checkpoint",
+        )
         .value_parser(value_parser!(u64))
         .default_value(ROUNDS);
     let most_waiting = Arg::new(alloc, "most-waiting")
@@ -337,7 +350,9 @@ fn idle_seconds<'a>(alloc: Global) -> Arg<'a> {
     Arg::new(alloc, "idle-seconds")
         .long("idle-seconds")
         .value_name("N")
-        .help("A connection that has sent nothing for more than N seconds is hung up; 0 for no limit")
+        .help(
+            "A connection that has sent nothing for more than N seconds is hung up; 0 for no limit",
+        )
         .value_parser(value_parser!(u64))
         .default_value("0")
 }

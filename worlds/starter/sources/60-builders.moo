@@ -73,7 +73,7 @@ if ($isa(o, $exit) && valid(from = `o.source ! ANY => #-1') && (n = `from:taken_
   player:tell("There is an exit ", $string:quoted(n), " in ", from.name, " already.");
   return;
 endif
-// only a wizard sets a player's name; so the verb is a wizard's, behind the questions above
+// only a wizard sets a player's name; so the verb is a wizard's, after the questions above
 before = o.name;
 o.name = names[1];
 if (!is_player(o))
@@ -149,7 +149,7 @@ except e (ANY)
 endtry
 .
 
-// The names in TEXT, or {} where one is no name (the player is told).
+// The names in TEXT, or {} if one is no name (the player gets a line).
 @program $builder:names_of this none this rxd
 names = {};
 if (length(args[1]) > 600)

@@ -198,7 +198,7 @@ elseif ($isa(o, $room))
 endif
 .
 
-// Raises an error, with the text WHY, if fewer than N ticks are left: when they are used up, nobody is told what was done.
+// Raises an error, with the text WHY, if fewer than N ticks are left: when they are used up, nobody reads what was done.
 @program $recycler:spare this none this rxd wiz
 {n, ?why = "much is in it, or leads there, of which a part is gone by now. Type it again"} = args;
 if (ticks_left() < n)

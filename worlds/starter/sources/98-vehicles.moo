@@ -28,7 +28,7 @@ else
 endif
 .
 
-// drive WAY: through an exit of the room where it stands, if the driver himself may go there
+// drive WAY: through an exit of the room that it is in, if the driver himself may go there
 @program $vehicle:drive any any any rd
 here = this.location;
 if (player.location != this || !$player:lets_speak(player))

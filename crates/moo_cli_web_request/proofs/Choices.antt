@@ -1,14 +1,14 @@
 -- A choice of two facts, a handshake that fails, and a whole head.
-use Rattle.std.proofs.Common.{◌≡◌, ◌≤◌, inr, ℕ, Bool, true, List, length, take, drop, map, Result, Ok, Err, refl, sym, ◌∙◌, ap, subst, arith}
+use Rattle.std.proofs.Common.{◌≡◌, ◌≤◌, inr, ℕ, Bool, true, List, length, take, drop, map, Result, Ok, Err, refl, ap, subst, arith}
 use Rattle.std.proofs.lemmas.List.{length-map, length-take}
-use Rattle.httparse.specs.Grammar.{Field, RequestHead, print_request}
-use Rattle.httparse.specs.Spans.{IsRequestAt, IsRequestOf, header_bytes, name_and_value, span_bytes}
+use Rattle.httparse.specs.Grammar.{Field}
+use Rattle.httparse.specs.Spans.{IsRequestOf, header_bytes, name_and_value, span_bytes}
 use Rattle.httparse.specs.declared.spans.HeaderSpan.{HeaderSpan}
 use Rattle.httparse.specs.declared.spans.RequestSpans.{RequestSpans}
 use Rattle.websocket.specs.Headers.{Fields}
 use Rattle.websocket.specs.Handshake.{Answers}
 use Rattle.websocket.specs.declared.handshake.failure.HandshakeError.{HandshakeError}
-use Rattle.moo_cli_web_request.specs.Requests.{AcceptsKey, AsksFor, Choose, HeadRequests, IsOfHead, Requests, RequestsBy, fields_in}
+use Rattle.moo_cli_web_request.specs.Requests.{AcceptsKey, AsksFor, Choose, HeadRequests, IsOfHead, RequestsBy, fields_in}
 use Rattle.moo_cli_web_request.specs.declared.allowed.Allowed.{Allowed}
 use Rattle.moo_cli_web_request.specs.declared.request.Request.{Request}
 use Rattle.moo_cli_web_request.specs.declared.request.Request.TheVariants as the
@@ -25,7 +25,7 @@ not_accepted (Err f) e n h = refl
 of_head : (allowed : Allowed) (bytes : List ℕ) (asked : Request) → IsOfHead asked → HeadRequests allowed bytes asked → AsksFor allowed bytes asked
 of_head allowed bytes the.Incomplete is head = absurd is
 of_head allowed bytes (the.Refused refused.TooLarge) is head = absurd is
-of_head allowed bytes (the.Refused refused.BadRequest) is head = absurd is
+of_head allowed bytes (the.Refused refused.BadRequest) is head = inr head
 of_head allowed bytes (the.Refused refused.Forbidden) is head = head
 of_head allowed bytes (the.Refused refused.NotFound) is head = head
 of_head allowed bytes (the.Refused refused.MethodNotAllowed) is head = head

@@ -1,6 +1,6 @@
 -- What a request asks for, by the grammar of its head, and which hosts and origins may ask.
-use Rattle.std.specs.Prelude.{◌≡◌, ◌⊎◌, ◌≤◌, ◌<◌, ℕ, Bool, true, false, not, List, codes, bytes_eq, take, map, length, Option, None, Some, Result, Ok, Err}
-use Rattle.std.specs.List.{list_any}
+use Rattle.std.specs.Prelude.{◌≡◌, ◌⊎◌, ◌≤◌, ◌<◌, ℕ, Bool, true, false, not, cond, ◌&&◌, ◌||◌, ◌==◌, nat_le, List, [], ◌∷◌, codes, bytes_eq, take, drop, map, length, count_by, Option, None, Some, Result, Ok, Err}
+use Rattle.std.specs.List.{list_any, position_or_len}
 use Rattle.std.specs.Global.{Vec}
 use Rattle.httparse.specs.Grammar.{HasNoRequest, NeverHasRequest, ReadsRequest, RequestHead, print_request}
 use Rattle.httparse.specs.Spans.{RequestExceeds, name_and_value}
@@ -22,6 +22,39 @@ is_one_of names text = list_any (λ name. eq_ignore_case name.items text) names
 abbrev pub is_among : List (Vec ℕ) → Option (List ℕ) → Bool
 is_among values None = false
 is_among values (Some value) = is_one_of values value
+
+-- the number of fields of this name
+abbrev pub count_named : Fields → List ℕ → ℕ
+count_named fields name = count_by (λ field. eq_ignore_case field.0 name) fields
+
+-- there is one `Host`, or none in a request of HTTP/1.0
+abbrev pub has_right_host : ℕ → Fields → Bool
+has_right_host minor fields = count_named fields (codes "Host") == 1 || (count_named fields (codes "Host") == 0 && minor == 0)
+
+-- an absolute target: it begins with `http://`, in letters of any case
+abbrev pub is_absolute : List ℕ → Bool
+is_absolute target = nat_le 7 (length target) && eq_ignore_case (take 7 target) (codes "http://")
+
+-- `/` and `?` end the authority of an absolute target
+abbrev pub ends_authority : ℕ → Bool
+ends_authority b = b == 47 || b == 63
+
+-- the number of bytes of the authority at the front
+abbrev pub authority_length : List ℕ → ℕ
+authority_length bytes = position_or_len ends_authority bytes
+
+-- the host that a request is for: that of an absolute target, else that of the field `Host`
+abbrev pub host_for : List ℕ → Fields → Option (List ℕ)
+host_for target fields = cond (is_absolute target) (Some (take (authority_length (drop 7 target)) (drop 7 target))) (header_value fields (codes "Host"))
+
+-- an absolute target that ends after its authority has the path `/`
+abbrev pub or_root : List ℕ → List ℕ
+or_root [] = codes "/"
+or_root (b ∷ path) = b ∷ path
+
+-- the path of a target, with its query
+abbrev pub path_of : List ℕ → List ℕ
+path_of target = cond (is_absolute target) (or_root (drop (authority_length (drop 7 target)) (drop 7 target))) target
 
 -- the first field of this name has one of these values
 abbrev pub is_named : Fields → List ℕ → List (Vec ℕ) → Bool
@@ -50,11 +83,12 @@ Upgrades allowed method version fields n asked =
 -- what a head of these parts and this length asks for
 abbrev pub RequestsBy : Allowed → List ℕ → List ℕ → ℕ → Fields → ℕ → Request → Type 0
 RequestsBy allowed method target version fields n asked =
-    Choose (not (is_named fields (codes "Host") allowed.hosts.items)) (asked ≡ the.Refused refused.Forbidden)
+    Choose (not (has_right_host version fields)) (asked ≡ the.Refused refused.BadRequest)
+    (Choose (not (is_among allowed.hosts.items (host_for target fields))) (asked ≡ the.Refused refused.Forbidden)
     (Choose (not (bytes_eq method (codes "GET"))) (asked ≡ the.Refused refused.MethodNotAllowed)
-    (Choose (bytes_eq target (codes "/")) (asked ≡ the.Page)
-    (Choose (bytes_eq target (codes "/ws")) (Upgrades allowed method version fields n asked)
-    (asked ≡ the.Refused refused.NotFound))))
+    (Choose (bytes_eq (path_of target) (codes "/")) (asked ≡ the.Page)
+    (Choose (bytes_eq (path_of target) (codes "/ws")) (Upgrades allowed method version fields n asked)
+    (asked ≡ the.Refused refused.NotFound)))))
 
 -- what a head asks for
 abbrev pub Requests : Allowed → RequestHead → Request → Type 0
@@ -65,18 +99,17 @@ abbrev pub HeadRequests : Allowed → List ℕ → Request → Type 0
 HeadRequests allowed bytes asked =
     (h : RequestHead) × (rest : List ℕ) × ReadsRequest bytes h rest × (length h.fields ≤ 64) × (length (print_request h) ≤ 8192) × Requests allowed h asked
 
--- only a whole head within the limits asks for this
+-- a whole head within the limits may ask for this
 abbrev pub IsOfHead : Request → Type 0
 IsOfHead the.Incomplete = ⊥
 IsOfHead (the.Refused refused.TooLarge) = ⊥
-IsOfHead (the.Refused refused.BadRequest) = ⊥
 IsOfHead asked = Unit {0}
 
 -- what the bytes that have come ask for
 abbrev pub AsksFor : Allowed → List ℕ → Request → Type 0
 AsksFor allowed bytes the.Incomplete = HasNoRequest bytes × (length bytes < 8192)
 AsksFor allowed bytes (the.Refused refused.TooLarge) = (8192 ≤ length bytes) ⊎ RequestExceeds 64 bytes
-AsksFor allowed bytes (the.Refused refused.BadRequest) = NeverHasRequest bytes
+AsksFor allowed bytes (the.Refused refused.BadRequest) = NeverHasRequest bytes ⊎ HeadRequests allowed bytes (the.Refused refused.BadRequest)
 AsksFor allowed bytes asked = HeadRequests allowed bytes asked
 
 -- the status line of the response to a refusal

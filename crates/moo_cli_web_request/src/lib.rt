@@ -6,6 +6,7 @@ mod allowed;
 mod reading;
 mod refusal;
 mod request;
+mod target;
 
 pub use allowed::Allowed;
 pub use reading::{HEAD_MOST, read_request};

@@ -3,11 +3,12 @@ ghost use Rattle.std.specs.Prelude.{◌≡◌, ◌≤◌, ℕ, List, length, All
 ghost use Rattle.httparse.specs.Grammar.{ReadsRequest, RequestHead, print_request};
 ghost use Rattle.httparse.specs.Spans.{IsHeaderWithin, IsRequestWithin, span_bytes};
 ghost use Rattle.websocket.specs.Headers.{fields_of, header_value};
-ghost use Rattle.moo_cli_web_request.specs.Requests.{AsksFor, IsOfHead, Requests, Upgrades, RequestsBy, fields_in, is_named};
+ghost use Rattle.moo_cli_web_request.specs.Requests.{AsksFor, IsOfHead, Requests, Upgrades, RequestsBy, count_named, fields_in, has_right_host, host_for, is_among, is_named};
 
 use crate::allowed::{Allowed, is_one_of, is_same};
 use crate::refusal::Refusal;
 use crate::request::Request;
+use crate::target::{authority_of, path_of};
 use httparse::spans::{EMPTY_HEADER_SPAN, HeaderSpan, RequestSpans, parse_request};
 use httparse::{Error, Status};
 use websocket::handshake::server::check_request;
@@ -44,13 +45,17 @@ fn request_by(bytes: &[u8], head: &RequestSpans, spans: &[HeaderSpan], allowed: 
     ensures whole { IsOfHead result }
 {
     let fields = &spans[..head.headers];
-    if !has_field(bytes, fields, b"Host", &allowed.hosts) {
+    if !has_right_host(bytes, fields, head.version) {
+        return Request::Refused(Refusal::BadRequest);
+    }
+    let target = head.path.of(bytes);
+    if !is_for(bytes, fields, target, &allowed.hosts) {
         return Request::Refused(Refusal::Forbidden);
     }
     if head.method.of(bytes) != b"GET".as_slice() {
         return Request::Refused(Refusal::MethodNotAllowed);
     }
-    match head.path.of(bytes) {
+    match path_of(target) {
         b"/" => Request::Page,
         b"/ws" => upgrade_by(bytes, head, spans, allowed),
         _ => Request::Refused(Refusal::NotFound),
@@ -70,6 +75,40 @@ fn upgrade_by(bytes: &[u8], head: &RequestSpans, spans: &[HeaderSpan], allowed: 
     match check_request(bytes, head, spans) {
         Ok(accept) => Request::Upgrade(accept, head.len),
         Err(_) => Request::Refused(Refusal::UpgradeRequired),
+    }
+}
+
+// Returns whether there is one `Host`, or none in a request of HTTP/1.0.
+fn has_right_host(bytes: &[u8], fields: &[HeaderSpan], minor: u8) -> bool
+    requires { All (IsHeaderWithin (length bytes.now)) fields.now }
+    ensures { result ≡ has_right_host minor (fields_of bytes.now fields.now) }
+{
+    let count = count_named(bytes, fields, b"Host");
+    count == 1 || (count == 0 && minor == 0)
+}
+
+// Returns the number of fields of this name.
+fn count_named(bytes: &[u8], fields: &[HeaderSpan], name: &[u8]) -> usize
+    requires { All (IsHeaderWithin (length bytes.now)) fields.now }
+    ensures { result ≡ count_named (fields_of bytes.now fields.now) name.now }
+{
+    let mut count = 0;
+    for field in fields {
+        if is_same(field.name.of(bytes), name) {
+            count += 1;
+        }
+    }
+    count
+}
+
+// Returns whether a request is for one of these hosts: by its target, or else by its field `Host`. The case of letters doesn't matter.
+fn is_for(bytes: &[u8], fields: &[HeaderSpan], target: &[u8], hosts: &[Vec<u8>]) -> bool
+    requires { All (IsHeaderWithin (length bytes.now)) fields.now }
+    ensures { result ≡ is_among hosts.now (host_for target.now (fields_of bytes.now fields.now)) }
+{
+    match authority_of(target) {
+        Some(host) => is_one_of(hosts, host),
+        None => has_field(bytes, fields, b"Host", hosts),
     }
 }
 

@@ -56,9 +56,9 @@ impl Sockets {
         let Some(web) = &mut self.web else {
             return Ok(());
         };
-        let is_busy = web.serve(self.poll.registry(), self.most_descriptors)?;
-        self.is_busy = self.is_busy || is_busy;
         let now = seconds(clock);
+        let is_busy = web.serve(self.poll.registry(), self.most_descriptors, now)?;
+        self.is_busy = self.is_busy || is_busy;
         if now != self.tended {
             self.tended = now;
             self.tend_all(now)?;

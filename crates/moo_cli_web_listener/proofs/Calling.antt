@@ -1,5 +1,5 @@
 -- The callers of a slab.
-use Rattle.std.proofs.Common.{◌≡◌, ◌≢◌, ◌⊎◌, ℕ, suc, ◌+◌, ◌<◌, ◌≤◌, List, [], ◌∷◌, ◌++◌, append_assoc, length, take, drop, get_or, cond, Bor, count_by, is_some, Option, None, Some, inl, inr, refl, sym, ◌∙◌, ap, subst, arith}
+use Rattle.std.proofs.Common.{◌≡◌, ◌≢◌, ◌⊎◌, ℕ, suc, ◌+◌, ◌<◌, ◌≤◌, List, [], ◌∷◌, ◌++◌, append_assoc, append-nil, length, take, drop, get_or, cond, Bor, count_by, is_some, Option, None, Some, inl, inr, refl, sym, ◌∙◌, ap, subst, arith}
 use Rattle.std.specs.declared.alloc.AllocError.{AllocError}
 use Rattle.std.specs.Prelude.{IfOk, IfSome, IsSome, OnSome, Result, Ok, Err, true}
 use Rattle.std.proofs.lemmas.Bool.{cases_eq}
@@ -15,7 +15,7 @@ use Rattle.moo_cli_web_listener.specs.declared.caller.Stage.{Stage}
 use Rattle.moo_cli_web_listener.specs.declared.caller.Stage.TheVariants as stage
 use Rattle.moo_cli_web_listener.specs.declared.caller.Upgrade.{Upgrade}
 use Rattle.moo_cli_web_listener.specs.declared.listener.WebListener.{WebListener}
-use Rattle.moo_cli_web_listener.specs.Callers.{AreCallers, HandsOn, IsAt, IsCaller, IsFirst, MakesRoom, Takes}
+use Rattle.moo_cli_web_listener.specs.Callers.{AreCallers, HandsOn, IsAt, IsCaller, IsFirst, MakesRoom, Takes, place_of}
 
 abbrev one_if : Option Caller → ℕ
 one_if slot = cond (is_some slot) 1 0
@@ -75,44 +75,44 @@ first_past callers n None none is = λ k less. by_key k less (cases_eq k n)
     by_key k less (inr differs) = is k (omega (arith, less, differs))
 first_past callers n (Some first) none is = (is.0, is.1, is.2, λ k less. by_key k less (cases_eq k n))
   where
-    by_key : (k : ℕ) → k < n + 1 → (k ≡ n) ⊎ (k ≢ n) → IfSome (get callers k) (λ other. first.0 ≤ other.arrival)
+    by_key : (k : ℕ) → k < n + 1 → (k ≡ n) ⊎ (k ≢ n) → IfSome (get callers k) (λ other. first.0 ≤ place_of other)
     by_key k less (inl same) =
-        subst (λ (slot : Option Caller). IfSome slot (λ other. first.0 ≤ other.arrival)) (sym (ap (λ (j : ℕ). get callers j) same ∙ sym none)) tt
+        subst (λ (slot : Option Caller). IfSome slot (λ other. first.0 ≤ place_of other)) (sym (ap (λ (j : ℕ). get callers j) same ∙ sym none)) tt
     by_key k less (inr differs) = is.3 k (omega (arith, less, differs))
 
 -- a caller that came later, at the next key
-pub first_stays : (callers : Slab Caller) (n : ℕ) (first : ℕ × ℕ) (caller : Caller) → Some caller ≡ get callers n → first.0 ≤ caller.arrival
+pub first_stays : (callers : Slab Caller) (n : ℕ) (first : ℕ × ℕ) (caller : Caller) → Some caller ≡ get callers n → first.0 ≤ place_of caller
     → IsFirst callers n (Some first) → IsFirst callers (n + 1) (Some first)
 first_stays callers n first caller found later is = (is.0, is.1, is.2, λ k less. by_key k less (cases_eq k n))
   where
-    by_key : (k : ℕ) → k < n + 1 → (k ≡ n) ⊎ (k ≢ n) → IfSome (get callers k) (λ other. first.0 ≤ other.arrival)
+    by_key : (k : ℕ) → k < n + 1 → (k ≡ n) ⊎ (k ≢ n) → IfSome (get callers k) (λ other. first.0 ≤ place_of other)
     by_key k less (inl same) =
-        subst (λ (slot : Option Caller). IfSome slot (λ other. first.0 ≤ other.arrival)) (sym (ap (λ (j : ℕ). get callers j) same ∙ sym found)) later
+        subst (λ (slot : Option Caller). IfSome slot (λ other. first.0 ≤ place_of other)) (sym (ap (λ (j : ℕ). get callers j) same ∙ sym found)) later
     by_key k less (inr differs) = is.3 k (omega (arith, less, differs))
 
 -- the only caller so far
 pub first_none : (callers : Slab Caller) (n : ℕ) (caller : Caller) → Some caller ≡ get callers n
-    → IsFirst callers n None → IsFirst callers (n + 1) (Some (caller.arrival, n))
+    → IsFirst callers n None → IsFirst callers (n + 1) (Some (place_of caller, n))
 first_none callers n caller found is = (caller, sym found, refl, λ k less. by_key k less (cases_eq k n))
   where
-    by_key : (k : ℕ) → k < n + 1 → (k ≡ n) ⊎ (k ≢ n) → IfSome (get callers k) (λ other. caller.arrival ≤ other.arrival)
+    by_key : (k : ℕ) → k < n + 1 → (k ≡ n) ⊎ (k ≢ n) → IfSome (get callers k) (λ other. place_of caller ≤ place_of other)
     by_key k less (inl same) =
-        subst (λ (slot : Option Caller). IfSome slot (λ other. caller.arrival ≤ other.arrival)) (sym (ap (λ (j : ℕ). get callers j) same ∙ sym found)) (omega arith)
+        subst (λ (slot : Option Caller). IfSome slot (λ other. place_of caller ≤ place_of other)) (sym (ap (λ (j : ℕ). get callers j) same ∙ sym found)) (omega arith)
     by_key k less (inr differs) =
-        subst (λ (slot : Option Caller). IfSome slot (λ other. caller.arrival ≤ other.arrival)) (sym (is k (omega (arith, less, differs)))) tt
+        subst (λ (slot : Option Caller). IfSome slot (λ other. place_of caller ≤ place_of other)) (sym (is k (omega (arith, less, differs)))) tt
 
 -- a caller that came earlier
-pub first_earlier : (callers : Slab Caller) (n : ℕ) (first : ℕ × ℕ) (caller : Caller) → Some caller ≡ get callers n → caller.arrival < first.0
-    → IsFirst callers n (Some first) → IsFirst callers (n + 1) (Some (caller.arrival, n))
+pub first_earlier : (callers : Slab Caller) (n : ℕ) (first : ℕ × ℕ) (caller : Caller) → Some caller ≡ get callers n → place_of caller < first.0
+    → IsFirst callers n (Some first) → IsFirst callers (n + 1) (Some (place_of caller, n))
 first_earlier callers n first caller found earlier is = (caller, sym found, refl, λ k less. by_key k less (cases_eq k n))
   where
-    weaker : (slot : Option Caller) → IfSome slot (λ other. first.0 ≤ other.arrival) → IfSome slot (λ other. caller.arrival ≤ other.arrival)
+    weaker : (slot : Option Caller) → IfSome slot (λ other. first.0 ≤ place_of other) → IfSome slot (λ other. place_of caller ≤ place_of other)
     weaker None later = tt
     weaker (Some other) later = omega (arith, earlier, later)
 
-    by_key : (k : ℕ) → k < n + 1 → (k ≡ n) ⊎ (k ≢ n) → IfSome (get callers k) (λ other. caller.arrival ≤ other.arrival)
+    by_key : (k : ℕ) → k < n + 1 → (k ≡ n) ⊎ (k ≢ n) → IfSome (get callers k) (λ other. place_of caller ≤ place_of other)
     by_key k less (inl same) =
-        subst (λ (slot : Option Caller). IfSome slot (λ other. caller.arrival ≤ other.arrival)) (sym (ap (λ (j : ℕ). get callers j) same ∙ sym found)) (omega arith)
+        subst (λ (slot : Option Caller). IfSome slot (λ other. place_of caller ≤ place_of other)) (sym (ap (λ (j : ℕ). get callers j) same ∙ sym found)) (omega arith)
     by_key k less (inr differs) = weaker (get callers k) (is.3 k (omega (arith, less, differs)))
 
 none_counted : (slots : List (Option Caller)) → ((k : ℕ) → k < length slots → get_or slots k None ≡ None) → count_by is_some slots ≡ 0
@@ -147,6 +147,28 @@ rest_keeps allowed bytes before rest left count writing left_is is =
             ∙ sym (append_assoc was.2.sent (take count rest.now) (drop count rest.now)) ∙ ap (λ (bs : List ℕ). (was.2.sent ++ take count rest.now) ++ bs) (sym left_is);
       },
     )
+
+-- all of the response is out
+pub all_out : (allowed : Allowed) (bytes : List ℕ) (before : Stage) (rest : Bor (List ℕ)) (left since : ℕ) → before ≡ stage.Writing rest
+    → IsAt allowed bytes before → IsAt allowed bytes (stage.Lingering left since)
+all_out allowed bytes before rest left since writing is =
+    let was : IsAt allowed bytes (stage.Writing rest) = subst (λ (s : Stage). IsAt allowed bytes s) writing is in (
+      was.0,
+      was.1,
+      record { response = was.2.response; sent = was.2.response; is_response = was.2.is_response; all = sym (append-nil was.2.response) },
+    )
+
+-- the writing side may have ended
+pub linger_keeps : (allowed : Allowed) (old new : Caller) (rest : Bor (List ℕ)) (now : ℕ) → old.stage ≡ stage.Writing rest
+    → (new ≡ old) ⊎ (new ≡ record old { stage = stage.Lingering 65536 now }) → IsCaller allowed old → IsCaller allowed new
+linger_keeps allowed old new rest now writing (inl same) is = subst (λ (caller : Caller). IsCaller allowed caller) (sym same) is
+linger_keeps allowed old new rest now writing (inr same) is =
+    subst (λ (caller : Caller). IsCaller allowed caller) (sym same) (all_out allowed old.input.items old.stage rest 65536 now writing is)
+
+-- fewer bytes are left to drop
+pub lingers_on : (allowed : Allowed) (bytes : List ℕ) (before : Stage) (left more since : ℕ) → before ≡ stage.Lingering left since
+    → IsAt allowed bytes before → IsAt allowed bytes (stage.Lingering more since)
+lingers_on allowed bytes before left more since lingering is = subst (λ (s : Stage). IsAt allowed bytes s) lingering is
 
 -- a caller that waits for its WebSocket
 upgrades : (allowed : Allowed) (caller : Caller) (upgrade : Upgrade) (n : ℕ) → caller.stage ≡ stage.Upgrading upgrade.accept n → IsCaller allowed caller

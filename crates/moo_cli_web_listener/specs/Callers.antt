@@ -1,5 +1,5 @@
 -- The callers of a listener: what came of their requests, and how far the responses are.
-use Rattle.std.specs.Prelude.{◌≡◌, ◌⊎◌, ℕ, ◌<◌, ◌≤◌, Bool, false, true, List, [], ◌++◌, drop, Option, None, Some, IfSome}
+use Rattle.std.specs.Prelude.{◌≡◌, ◌⊎◌, ℕ, ◌-◌, ◌<◌, ◌≤◌, nat_le, Bool, false, true, List, [], ◌++◌, drop, Option, None, Some, IfSome}
 use Rattle.std.specs.Io.{StartsWith}
 use Rattle.slab.specs.Slab.{SameValues, Slab, Updates, get, slab_len}
 use Rattle.moo_cli_web_page.specs.declared.page.TheConstants.{PAGE}
@@ -31,6 +31,7 @@ abbrev pub IsAt : Allowed → List ℕ → Stage → Type 0
 IsAt allowed bytes stage.Reading = (bytes ≡ []) ⊎ AsksFor allowed bytes the.Incomplete
 IsAt allowed bytes (stage.Writing rest) = (asked : Request) × AsksFor allowed bytes asked × IsRest asked rest.now
 IsAt allowed bytes (stage.Upgrading accept n) = AsksFor allowed bytes (the.Upgrade accept n)
+IsAt allowed bytes (stage.Lingering left since) = (asked : Request) × AsksFor allowed bytes asked × IsRest asked []
 
 -- a caller is as far as its bytes ask for
 abbrev pub IsCaller : Allowed → Caller → Type 0
@@ -57,14 +58,25 @@ pub record Takes (old new : WebListener) (upgrade : Upgrade) : Type 0 where
   pub hands : HandsOn caller length upgrade
   pub taken : Updates old.callers new.callers key None
 
--- the arrival and the key of the caller that came first, among those with keys below n
+-- the place of a caller of this stage and arrival in the order in which callers make room
+abbrev pub place_at : Stage → ℕ → ℕ
+place_at (stage.Lingering left since) arrival = 0
+place_at stage.Reading arrival = arrival
+place_at (stage.Writing rest) arrival = arrival
+place_at (stage.Upgrading accept n) arrival = arrival
+
+-- Callers whose response is out make room first, and then the one that came first.
+abbrev pub place_of : Caller → ℕ
+place_of caller = place_at caller.stage caller.arrival
+
+-- the place and the key of the caller that makes room first, among those with keys below n
 abbrev pub IsFirst : Slab Caller → ℕ → Option (ℕ × ℕ) → Type 0
 IsFirst callers n None = (k : ℕ) → k < n → get callers k ≡ None
 IsFirst callers n (Some first) =
-    (caller : Caller) × (get callers first.1 ≡ Some caller) × (caller.arrival ≡ first.0)
-    × ((k : ℕ) → k < n → IfSome (get callers k) (λ other. first.0 ≤ other.arrival))
+    (caller : Caller) × (get callers first.1 ≡ Some caller) × (place_of caller ≡ first.0)
+    × ((k : ℕ) → k < n → IfSome (get callers k) (λ other. first.0 ≤ place_of other))
 
--- There is room for one more: there was, or the caller that came first of all was taken out.
+-- There is room for one more: there was, or the first caller of that order was taken out.
 pub record MakesRoom (old new : Slab Caller) : Type 0 where
   pub room : slab_len new < 64
   pub kept : (new ≡ old) ⊎ ((64 ≤ slab_len old) × (first : ℕ × ℕ) × IsFirst old old.capacity (Some first) × Updates old new first.1 None)
@@ -82,15 +94,45 @@ abbrev pub is_upgrading : Stage → Bool
 is_upgrading stage.Reading = false
 is_upgrading (stage.Writing rest) = false
 is_upgrading (stage.Upgrading accept n) = true
+is_upgrading (stage.Lingering left since) = false
+
+-- its response has been out for two seconds
+abbrev pub is_over : ℕ → Stage → Bool
+is_over now (stage.Lingering left since) = nat_le 2 (now - since)
+is_over now stage.Reading = false
+is_over now (stage.Writing rest) = false
+is_over now (stage.Upgrading accept n) = false
+
+-- After a response at most 65,536 bytes are dropped, from this second on.
+abbrev pub BeginsToLinger : ℕ → Stage → Type 0
+BeginsToLinger now (stage.Lingering left since) = (left ≤ 65536) × (since ≡ now)
+BeginsToLinger now new = Unit {0}
+
+-- no more bytes are dropped than before, and the time doesn't begin anew
+abbrev pub GoesOnLingering : ℕ → ℕ → Stage → Type 0
+GoesOnLingering left since (stage.Lingering now_left now_since) = (now_left ≤ left) × (now_since ≡ since)
+GoesOnLingering left since new = ⊥
+
+-- what a step in this second does to one whose response is out, and when it begins to be one
+abbrev pub Lingers : ℕ → Stage → Stage → Type 0
+Lingers now (stage.Lingering left since) new = GoesOnLingering left since new
+Lingers now stage.Reading new = BeginsToLinger now new
+Lingers now (stage.Writing rest) new = BeginsToLinger now new
+Lingers now (stage.Upgrading accept n) new = BeginsToLinger now new
 
 -- A caller keeps its stream and its place in the order, or its connection is closed. One that waits to become a WebSocket stays as it is.
-abbrev pub IsStepped : Option Caller → Option Caller → Type 0
-IsStepped None is = is ≡ None
-IsStepped (Some was) is =
-    (is_upgrading was.stage ≡ true → is ≡ Some was) × IfSome is (λ caller. (caller.stream ≡ was.stream) × (caller.arrival ≡ was.arrival))
+abbrev pub IsStepped : ℕ → Option Caller → Option Caller → Type 0
+IsStepped now None is = is ≡ None
+IsStepped now (Some was) is =
+    (is_upgrading was.stage ≡ true → is ≡ Some was)
+    × IfSome is (λ caller. (caller.stream ≡ was.stream) × (caller.arrival ≡ was.arrival) × Lingers now was.stage caller.stage)
 
 -- One more may be accepted, and then each makes a step.
-pub record Serves (old new : Slab Caller) : Type 0 where
+pub record Serves (now : ℕ) (old new : Slab Caller) : Type 0 where
   pub accepted : Slab Caller
   pub accepts : Accepts old accepted
-  pub steps : (key : ℕ) → IsStepped (get accepted key) (get new key)
+  pub steps : (key : ℕ) → IsStepped now (get accepted key) (get new key)
+
+-- if there is a caller, its response has not been out for two seconds
+abbrev pub IsTimely : ℕ → Option Caller → Type 0
+IsTimely now slot = IfSome slot (λ caller. is_over now caller.stage ≡ false)

@@ -1,8 +1,8 @@
 //! The connection of a browser whose request isn't answered yet.
-ghost use Rattle.std.specs.Prelude.{◌≡◌, ◌≤◌, List, [], ℕ, drop, length, true, IfOk, IfSome};
+ghost use Rattle.std.specs.Prelude.{◌≡◌, ◌≢◌, ◌⊎◌, ◌≤◌, List, [], ℕ, drop, length, true, false, IfOk, IfSome};
 ghost use Rattle.moo_cli_web_request.specs.Requests.{AsksFor};
 ghost use Rattle.moo_cli_web_request.specs.declared.allowed.Allowed.{Allowed};
-ghost use Rattle.moo_cli_web_listener.specs.Callers.{HandsOn, IsAt, IsCaller, is_upgrading};
+ghost use Rattle.moo_cli_web_listener.specs.Callers.{BeginsToLinger, GoesOnLingering, HandsOn, IsAt, IsCaller, Lingers, is_over, is_upgrading, place_of};
 
 use mio::net::TcpStream;
 use moo_cli_web_page::PAGE;
@@ -10,9 +10,16 @@ use moo_cli_web_request::{Allowed, Request, read_request};
 use std::alloc::{AllocError, Global};
 use std::io;
 use std::io::{ErrorKind, Read, Write};
+use std::net::Shutdown;
 
 /// The greatest number of bytes in one read of a request.
 const READ_MOST: usize = 1024;
+
+/// The greatest number of bytes that are dropped after a response.
+const DROPPED_MOST: usize = 65536;
+
+/// The seconds after a response in which the client may end the connection.
+const LINGER_SECONDS: u64 = 2;
 
 /// How far the answer to a request is.
 #[derive(Clone, Copy)]
@@ -23,6 +30,9 @@ pub enum Stage {
     Writing(&'static [u8]),
     /// It waits to become a WebSocket: the value that accepts its key, and the length of its head.
     Upgrading([u8; 28], usize),
+    /// The response is out. Up to so many bytes more are dropped, for two seconds from this one on: if the connection were closed
+    /// before bytes that come, the client might lose the response.
+    Lingering(usize, u64),
 }
 
 /// What a step of a caller did.
@@ -87,19 +97,45 @@ impl Caller {
         matches!(self.stage, Stage::Upgrading(_, _))
     }
 
-    /// Reads once of its request, or writes once of the response. Fails only if memory runs out.
-    pub fn step(&mut self, allowed: &Allowed) -> Result<Progress, AllocError>
+    /// Returns its place in the order in which callers make room for others.
+    pub fn place(&self) -> u64
+        ensures { result ≡ place_of self.now }
+    {
+        match self.stage {
+            Stage::Lingering(_, _) => 0,
+            _ => self.arrival,
+        }
+    }
+
+    /// Reads once of its request, or writes once of the response, or drops once what comes after that. Fails only if memory runs out.
+    pub fn step(&mut self, allowed: &Allowed, now: u64) -> Result<Progress, AllocError>
         ensures keeps { IsCaller allowed.now self.old → IsCaller allowed.now self.new }
         ensures same { (self.new.stream ≡ self.old.stream) × (self.new.arrival ≡ self.old.arrival) }
         ensures waits { is_upgrading self.old.stage ≡ true → (self.new ≡ self.old) × (result ≡ Ok Progress.None) }
+        ensures lingers { Lingers now self.old.stage self.new.stage }
+        ensures timely { IfOk result (λ progress. progress ≢ Progress.Done → is_over now self.new.stage ≡ false) }
     {
+        if self.is_over(now) {
+            return Ok(Progress::Done);
+        }
         if !self.is_ready {
             return Ok(Progress::None);
         }
         match self.stage {
             Stage::Reading => self.read(allowed),
-            Stage::Writing(rest) => Ok(self.write(rest)),
+            Stage::Writing(rest) => Ok(self.write(rest, now)),
             Stage::Upgrading(_, _) => Ok(Progress::None),
+            Stage::Lingering(left, since) => Ok(self.drop_input(left, since)),
+        }
+    }
+
+    // Returns whether its response has been out for two seconds.
+    fn is_over(&self, now: u64) -> bool
+        ensures { result ≡ is_over now self.now.stage }
+    {
+        match self.stage {
+            Stage::Lingering(_, since) => now.saturating_sub(since) >= LINGER_SECONDS,
+            _ => false,
         }
     }
 
@@ -108,6 +144,8 @@ impl Caller {
         requires { self.old.stage ≡ Stage.Reading }
         ensures keeps { IsCaller allowed.now self.old → IsCaller allowed.now self.new }
         ensures same { (self.new.stream ≡ self.old.stream) × (self.new.arrival ≡ self.old.arrival) }
+        ensures lingers { (now : ℕ) → BeginsToLinger now self.new.stage }
+        ensures timely { (now : ℕ) → is_over now self.new.stage ≡ false }
     {
         let mut buffer = [0u8; READ_MOST];
         let count = match self.stream.read(&mut buffer) {
@@ -120,16 +158,47 @@ impl Caller {
         Ok(Progress::Some)
     }
 
-    // Writes once of the response.
-    fn write(&mut self, rest: &'static [u8]) -> Progress
+    // Writes once of the response. Once all of it is out, nothing more is written.
+    fn write(&mut self, rest: &'static [u8], now: u64) -> Progress
         requires { self.old.stage ≡ Stage.Writing rest }
         ensures keeps { (allowed : Allowed) → IsCaller allowed self.old → IsCaller allowed self.new }
         ensures same { (self.new.stream ≡ self.old.stream) × (self.new.arrival ≡ self.old.arrival) }
+        ensures lingers { BeginsToLinger now self.new.stage }
+        ensures timely { is_over now self.new.stage ≡ false }
     {
         match self.stream.write(rest) {
-            Ok(count) if count == rest.len() => Progress::Done,
+            Ok(count) if count == rest.len() => self.linger(now),
             Ok(count) => {
                 self.stage = Stage::Writing(skip_front(rest, count));
+                Progress::Some
+            }
+            Err(error) => self.wait(&error),
+        }
+    }
+
+    // Ends the writing side of the connection.
+    fn linger(&mut self, now: u64) -> Progress
+        ensures { (self.new ≡ self.old) ⊎ (self.new ≡ record self.old { stage = Stage.Lingering 65536 now }) }
+    {
+        if self.stream.shutdown(Shutdown::Write).is_err() {
+            return Progress::Done;
+        }
+        self.stage = Stage::Lingering(DROPPED_MOST, now);
+        Progress::Some
+    }
+
+    // Reads once, and drops what came.
+    fn drop_input(&mut self, left: usize, since: u64) -> Progress
+        requires { self.old.stage ≡ Stage.Lingering left since }
+        ensures keeps { (allowed : Allowed) → IsCaller allowed self.old → IsCaller allowed self.new }
+        ensures same { (self.new.stream ≡ self.old.stream) × (self.new.arrival ≡ self.old.arrival) }
+        ensures lingers { GoesOnLingering left since self.new.stage }
+    {
+        let mut buffer = [0u8; READ_MOST];
+        match self.stream.read(&mut buffer) {
+            Ok(count) if count == 0 || count >= left => Progress::Done,
+            Ok(count) => {
+                self.stage = Stage::Lingering(left - count, since);
                 Progress::Some
             }
             Err(error) => self.wait(&error),
@@ -177,7 +246,9 @@ impl Caller {
 
 // Returns how far the answer to a request is that was just read.
 fn begin_answer(request: Request) -> Stage
-    ensures { (allowed : Allowed) (bytes : List ℕ) → AsksFor allowed bytes request → IsAt allowed bytes result }
+    ensures answers { (allowed : Allowed) (bytes : List ℕ) → AsksFor allowed bytes request → IsAt allowed bytes result }
+    ensures lingers { (now : ℕ) → BeginsToLinger now result }
+    ensures timely { (now : ℕ) → is_over now result ≡ false }
 {
     match request {
         Request::Incomplete => Stage::Reading,

@@ -1,7 +1,7 @@
 //! The listener for browsers.
-ghost use Rattle.std.specs.Prelude.{◌≡◌, ◌≤◌, ◌+◌, ℕ, map, None, IfOk, IfSome};
+ghost use Rattle.std.specs.Prelude.{◌≡◌, ◌≤◌, ◌+◌, ℕ, map, None, IfOk, IfSome, OnOk};
 ghost use Rattle.slab.specs.Slab.{get, slab_len};
-ghost use Rattle.moo_cli_web_listener.specs.Callers.{Accepts, AreCallers, IsFirst, IsStepped, MakesRoom, Serves, Takes};
+ghost use Rattle.moo_cli_web_listener.specs.Callers.{Accepts, AreCallers, IsFirst, IsStepped, IsTimely, MakesRoom, Serves, Takes};
 ghost use Rattle.moo_cli_web_listener.specs.Names.{AllowsNames};
 
 use crate::caller::{Caller, Progress, Upgrade};
@@ -15,7 +15,7 @@ use std::io;
 use std::net::{IpAddr, Net, SocketAddr};
 use std::os::fd::AsRawFd;
 
-/// The greatest number of callers. The next takes the place of the one that came first.
+/// The greatest number of callers. The next takes the place of one whose response is out, or else of the one that came first.
 const CALLERS_MOST: usize = 64;
 
 /// The token of the listener.
@@ -88,16 +88,22 @@ impl WebListener {
     }
 
     /// Accepts a browser, if one waits, unless its descriptor would be at this number or a higher one. Then makes a step of each
-    /// caller. Returns whether anything was done. Fails only if memory runs out.
+    /// caller in the second `now`. Returns whether anything was done. Fails only if memory runs out.
     #[tactic(auto, using(crate::proofs::Stepping::stepped_on, crate::proofs::Stepping::stepped_same))]
-    pub fn serve(&mut self, registry: &Registry, most_descriptors: u64) -> Result<bool, AllocError>
-        ensures serves { AreCallers self.old.allowed self.old.callers → Serves self.old.callers self.new.callers }
+    pub fn serve(
+        &mut self,
+        registry: &Registry,
+        most_descriptors: u64,
+        now: u64,
+    ) -> Result<bool, AllocError>
+        ensures serves { AreCallers self.old.allowed self.old.callers → Serves now self.old.callers self.new.callers }
+        ensures timely { OnOk result ((key : ℕ) → IsTimely now (get self.new.callers key)) }
         ensures callers { AreCallers self.old.allowed self.old.callers → AreCallers self.new.allowed self.new.callers }
         ensures allowed { self.new.allowed ≡ self.old.allowed }
     {
         let mut is_busy = self.accept(registry, most_descriptors)?;
         for key in 0..self.callers.capacity() {
-            let progress = self.step(key)?;
+            let progress = self.step(key, now)?;
             is_busy = is_busy || progress != Progress::None;
         }
         Ok(is_busy)
@@ -105,15 +111,16 @@ impl WebListener {
 
     // Makes a step of a caller, and closes its connection once it is done.
     #[tactic(auto, using(crate::proofs::Stepping::stepped_same, crate::proofs::Stepping::stepped_written, crate::proofs::Stepping::stepped_removed))]
-    fn step(&mut self, key: usize) -> Result<Progress, AllocError>
-        ensures steps { (k : ℕ) → IsStepped (get self.old.callers k) (get self.new.callers k) }
+    fn step(&mut self, key: usize, now: u64) -> Result<Progress, AllocError>
+        ensures steps { (k : ℕ) → IsStepped now (get self.old.callers k) (get self.new.callers k) }
+        ensures timely { OnOk result (IsTimely now (get self.new.callers key)) }
         ensures callers { AreCallers self.old.allowed self.old.callers → AreCallers self.new.allowed self.new.callers }
         ensures allowed { self.new.allowed ≡ self.old.allowed }
     {
         let Some(caller) = self.callers.get_mut(key) else {
             return Ok(Progress::None);
         };
-        let progress = caller.step(&self.allowed)?;
+        let progress = caller.step(&self.allowed, now)?;
         if progress == Progress::Done {
             self.callers.try_remove(key);
         }
@@ -163,7 +170,7 @@ impl WebListener {
         Ok(())
     }
 
-    // Closes the connection of the caller that came first, if there are as many callers as there may be.
+    // Closes the connection of the caller that makes room first, if there are as many callers as there may be.
     fn make_room(&mut self)
         ensures room { AreCallers self.old.allowed self.old.callers → MakesRoom self.old.callers self.new.callers }
         ensures callers { AreCallers self.old.allowed self.old.callers → AreCallers self.new.allowed self.new.callers }
@@ -199,7 +206,7 @@ impl WebListener {
     }
 }
 
-// Returns the arrival and the key of the caller that came first, if there are callers.
+// Returns the place and the key of the caller that makes room first, if there are callers.
 #[tactic(auto, using(crate::proofs::Calling::no_callers))]
 fn first_caller(callers: &Slab<Caller>) -> Option<(u64, usize)>
     ensures first { IsFirst callers.now callers.now.capacity result }
@@ -212,7 +219,7 @@ fn first_caller(callers: &Slab<Caller>) -> Option<(u64, usize)>
     first
 }
 
-// Returns the caller that came first: this one, or the one at this key, if there is one.
+// Returns the caller that makes room first: this one, or the one at this key, if there is one.
 #[tactic(auto, using(crate::proofs::Calling::first_earlier, crate::proofs::Calling::first_none, crate::proofs::Calling::first_past, crate::proofs::Calling::first_stays))]
 fn earlier(callers: &Slab<Caller>, key: usize, first: Option<(u64, usize)>) -> Option<(u64, usize)>
     ensures { IsFirst callers.now key first → IsFirst callers.now (key + 1) result }
@@ -220,10 +227,10 @@ fn earlier(callers: &Slab<Caller>, key: usize, first: Option<(u64, usize)>) -> O
     let Some(caller) = callers.get(key) else {
         return first;
     };
-    let arrival = caller.arrival;
+    let place = caller.place();
     match first {
-        None => Some((arrival, key)),
-        Some(first) if first.0 <= arrival => Some(first),
-        Some(_) => Some((arrival, key)),
+        None => Some((place, key)),
+        Some(first) if first.0 <= place => Some(first),
+        Some(_) => Some((place, key)),
     }
 }

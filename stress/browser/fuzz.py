@@ -84,7 +84,8 @@ def cut(chance, data):
 
 def try_request(chance, port):
     here = f"127.0.0.1:{port}"
-    request = chance.choice([get("/", here), get("/ws", here), upgrade(here, "http://" + here), upgrade(here, "https://evil.test")])
+    request = chance.choice([get("/", here), get("/", here, "Host: " + here), get(f"http://{here}/", here), get("/ws", here),
+                             upgrade(here, "http://" + here), upgrade(here, "https://evil.test")])
     seen = answer(port, cut(chance, change(chance, request)))
     same("status", not seen or seen[9:12] in STATUSES, True)
 

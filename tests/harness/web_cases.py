@@ -10,8 +10,9 @@ import socket
 import subprocess
 import tempfile
 import threading
+import time
 
-from outcome import Skipped
+from outcome import PATIENCE, Skipped
 from row_file import TOP
 from serve_cases import GREETING, LAST, LOOKED, units_of
 from serving import DATA, Server, same, sees, starting
@@ -25,7 +26,23 @@ REQUESTS = [
     (get("/", "moo.example.org"), 200),
     (get("/", "evil.test:PORT"), 403),
     (get("/", "127.0.0.1"), 403),
-    (get("/", None), 403),
+    (get("/", None), 400),
+    (get("/", "HERE", "Host: HERE"), 400),
+    (get("/", "HERE", "host: evil.test"), 400),
+    (get("/", "HERE").replace(b"HTTP/1.1", b"HTTP/1.0"), 200),
+    (get("/", None).replace(b"HTTP/1.1", b"HTTP/1.0"), 403),
+    (get("/", "HERE", "Host: HERE").replace(b"HTTP/1.1", b"HTTP/1.0"), 400),
+    (get("http://HERE/", "HERE"), 200),
+    (get("HTTP://LocalHost:PORT", "HERE"), 200),
+    (get("http://HERE/", "evil.test:PORT"), 200),
+    (get("http://evil.test:PORT/", "HERE"), 403),
+    (get("http://x@HERE/", "HERE"), 403),
+    (get("http://HERE", None), 400),
+    (get("http://HERE/", "HERE", "Host: HERE"), 400),
+    (get("http://HERE/", None).replace(b"HTTP/1.1", b"HTTP/1.0"), 200),
+    (get("http://HERE/x", "HERE"), 404),
+    (get("http://HERE?x", "HERE"), 404),
+    (get("https://HERE/", "HERE"), 404),
     (get("/x", "HERE"), 404),
     (get("/?x", "HERE"), 404),
     (get("/", "HERE", method="POST"), 405),
@@ -43,6 +60,9 @@ REQUESTS = [
     (upgrade("HERE", "http://HERE1"), 403),
     (upgrade("evil.test:PORT", "http://evil.test:PORT"), 403),
     (upgrade("moo.example.org", "http://moo.example.org"), 403),
+    (upgrade("HERE", "http://HERE").replace(b"/ws", b"http://evil.test:PORT/ws"), 403),
+    (upgrade("HERE", "https://evil.test").replace(b"/ws", b"http://HERE/ws"), 403),
+    (upgrade("HERE", "http://HERE").replace(b"HTTP/1.1", b"HTTP/1.0"), 426),
 ]
 
 # Frames that break the protocol, and the code of the close.
@@ -149,6 +169,73 @@ def a_page_of_another_origin_that_is_allowed_plays(moo):
         browser = WebSocket(server.web, upgrade("moo.example.org", "https://moo.example.org"))
         browser.say(b"look\n")
         browser.sees(GREETING + LOOKED)
+
+
+def a_websocket_is_opened_by_an_absolute_target(moo):
+    with Page(moo) as server:
+        here = f"127.0.0.1:{server.web}"
+        browser = WebSocket(server.web, upgrade(here, "http://" + here).replace(b"/ws", b"http://" + here.encode() + b"/ws"))
+        browser.say(b"look\n")
+        browser.sees(GREETING + LOOKED)
+
+
+def one_who_sends_more_gets_the_whole_response(moo):
+    """What comes after the response has begun is dropped: no reset takes the response away."""
+    page = (TOP / "web/index.html").read_bytes()
+    with Page(moo) as server:
+        for request, status, ends in [
+            (get("/", "HERE", "Content-Length: 50000", method="POST"), 405, b"\r\n\r\n"),
+            (get("/", "HERE", "X: " + "x" * 9000), 431, b"\r\n\r\n"),
+            (get("/", "evil.test"), 403, b"see --web-origin.\n"),
+            (get("/", "HERE"), 200, page[-100:]),
+        ]:
+            with socket.create_connection(("127.0.0.1", server.web), PATIENCE) as client:
+                client.sendall(at_port(request, server.web) + b"x" * 25000)
+                seen = client.recv(1)
+                client.sendall(b"x" * 25000)
+                while data := client.recv(65536):
+                    seen += data
+                same(f"{status}", [seen[:13], seen.endswith(ends)], [b"HTTP/1.1 %d " % status, True])
+                client.sendall(b"x")
+
+
+def one_who_goes_on_after_the_response_is_closed(moo):
+    """The connection is closed after 65,536 bytes, or after two seconds."""
+    with Page(moo) as server:
+        for size, pause in [(100_000, 0), (1, 0.05)]:
+            with socket.create_connection(("127.0.0.1", server.web), PATIENCE) as client:
+                client.sendall(get("/", "evil.test"))
+                while client.recv(65536):
+                    pass
+                end = time.monotonic() + 60
+                try:
+                    while time.monotonic() < end:
+                        client.sendall(b"x" * size)
+                        time.sleep(pause)
+                except OSError:
+                    pass
+                same(f"{size} bytes", time.monotonic() < end, True)
+
+
+def those_who_have_their_response_make_room_first(moo):
+    """Of 140 connections those that were answered are closed before 40 that came earlier and have sent half a request."""
+    with Page(moo) as server:
+        request = get("/", f"127.0.0.1:{server.web}")
+        waiting = [socket.create_connection(("127.0.0.1", server.web), PATIENCE) for _ in range(40)]
+        for client in waiting:
+            client.sendall(request[:20])
+        answered = []
+        for _ in range(100):
+            client = socket.create_connection(("127.0.0.1", server.web), PATIENCE)
+            client.sendall(get("/", "evil.test"))
+            while client.recv(65536):
+                pass
+            answered.append(client)
+        for client in waiting:
+            client.sendall(request[20:])
+            same("response", client.recv(15), b"HTTP/1.1 200 OK")
+        for client in waiting + answered:
+            client.close()
 
 
 def frames_may_follow_the_request_at_once(moo):
@@ -294,6 +381,10 @@ CASES = [
     (a_handshake_and_frames_come_in_pieces_of_every_size, ()),
     (a_browser_plays, ()),
     (a_page_of_another_origin_that_is_allowed_plays, ()),
+    (a_websocket_is_opened_by_an_absolute_target, ()),
+    (one_who_sends_more_gets_the_whole_response, ()),
+    (one_who_goes_on_after_the_response_is_closed, ()),
+    (those_who_have_their_response_make_room_first, ()),
     (frames_may_follow_the_request_at_once, ()),
     (a_browser_and_a_telnet_client_share_the_world, ()),
     (what_breaks_the_protocol_ends_a_websocket, ()),

@@ -1,4 +1,4 @@
--- The browsers whose requests aren't answered yet.
+-- The connections of browsers that are no WebSockets yet.
 pub mod Callers
 -- Who may ask.
 pub mod Names

@@ -1,4 +1,4 @@
-//! The connection of a browser whose request isn't answered yet.
+//! The connection of a browser, from its request to the end of the response.
 ghost use Rattle.std.specs.Prelude.{◌≡◌, ◌≢◌, ◌⊎◌, ◌≤◌, List, [], ℕ, drop, length, true, false, IfOk, IfSome};
 ghost use Rattle.moo_cli_web_request.specs.Requests.{AsksFor};
 ghost use Rattle.moo_cli_web_request.specs.declared.allowed.Allowed.{Allowed};
@@ -56,7 +56,7 @@ pub struct Upgrade {
     pub frames: Vec<u8>,
 }
 
-/// The connection of a browser whose request isn't answered yet.
+/// The connection of a browser, from its request to the end of the response.
 #[derive(Drop)]
 pub struct Caller {
     stream: TcpStream,

@@ -1,4 +1,4 @@
-//! The listener for browsers, and those of them whose request isn't answered yet.
+//! The listener for browsers, and their connections up to the end of a response.
 //! An internal crate of the program `moo`.
 #![tactic(auto)]
 

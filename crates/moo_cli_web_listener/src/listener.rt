@@ -24,7 +24,7 @@ const LISTENER: Token = Token(usize::MAX - 1);
 /// The token of the first caller. The tokens of connections are lower.
 const FIRST_CALLER: usize = 1 << 20;
 
-/// Holds the listener for browsers, and the callers: browsers whose request isn't answered yet.
+/// Holds the listener for browsers, and the callers: browsers that ask for something, or that have had their response.
 #[derive(Drop)]
 pub struct WebListener {
     alloc: Global,

@@ -2,7 +2,7 @@
 //! place.
 ghost use Rattle.std.specs.Prelude.{◌≤◌, None, Ok, Err, IfOk, IfErr};
 ghost use Rattle.moo_value.specs.Tree.{list_of};
-ghost use Rattle.moo_syntax_ast.specs.Tree.{conditional, list, splice, element, no_items};
+ghost use Rattle.moo_syntax_ast.specs.Tree.{list, splice, element, no_items};
 ghost use Rattle.moo_syntax_lower.specs.Source.{source};
 ghost use Rattle.moo_eval_frame.specs.Seen.{context_of, failure_of, stop_of, HadMemory, HadMemoryIn};
 ghost use Rattle.moo_builtin.specs.Telling.{Faults};
@@ -36,58 +36,19 @@ pub(crate) fn evaluate_deferred(
     ensures ticks { task.new.ticks_left ≤ task.old.ticks_left }
 {
     if let Node::Conditional(test, first, second) = node {
-        return evaluate_chosen(task, world, active, stack, indexed, test, first, second);
+        task.take_tick(active, stack)?;
+        let passes = passes(task, world, active, stack, indexed, test)?;
+        if passes {
+            return evaluate_deferred(task, world, active, stack, indexed, first);
+        }
+        return evaluate_deferred(task, world, active, stack, indexed, second);
     }
-    if let Some((list, last)) = as_appended(node) {
-        return evaluate_longer(task, world, active, stack, indexed, list, last);
-    }
-    let value = evaluate(task, world, active, stack, indexed, node)?;
-    Ok(Deferred::Value(value))
-}
-
-// Evaluates a conditional expression.
-#[cycle(evaluation)]
-#[inline(always)]
-fn evaluate_chosen(
-    task: &mut Task,
-    world: &mut World,
-    active: &mut Activation,
-    stack: &CallStack<'_>,
-    indexed: Option<&Value>,
-    test: &Node,
-    first: &Node,
-    second: &Node,
-) -> Result<Deferred, Stop>
-    ensures ok { IfOk result (λ value. Evaluates Faults (context_of stack.now indexed.entry) (conditional (source test.now) (source first.now) (source second.now)) (state_of task.old world.old active.old) (Ok (deferred_tree value)) (state_of task.new world.new active.new)) }
-    ensures err { IfErr result (λ stop. HadMemory stop → Evaluates Faults (context_of stack.now indexed.entry) (conditional (source test.now) (source first.now) (source second.now)) (state_of task.old world.old active.old) (Err (stop_of stop)) (state_of task.new world.new active.new)) }
-    ensures ticks { task.new.ticks_left ≤ task.old.ticks_left }
-{
+    let Some((list, last)) = as_appended(node) else {
+        let value = evaluate(task, world, active, stack, indexed, node)?;
+        return Ok(Deferred::Value(value));
+    };
     task.take_tick(active, stack)?;
-    let passes = passes(task, world, active, stack, indexed, test)?;
-    if passes {
-        return evaluate_deferred(task, world, active, stack, indexed, first);
-    }
-    evaluate_deferred(task, world, active, stack, indexed, second)
-}
-
-// Evaluates `{@spliced, last}`.
-#[cycle(evaluation)]
-#[inline(always)]
-fn evaluate_longer(
-    task: &mut Task,
-    world: &mut World,
-    active: &mut Activation,
-    stack: &CallStack<'_>,
-    indexed: Option<&Value>,
-    spliced: &Node,
-    last: &Node,
-) -> Result<Deferred, Stop>
-    ensures ok { IfOk result (λ value. Evaluates Faults (context_of stack.now indexed.entry) (list (splice (source spliced.now) (element (source last.now) no_items))) (state_of task.old world.old active.old) (Ok (deferred_tree value)) (state_of task.new world.new active.new)) }
-    ensures err { IfErr result (λ stop. HadMemory stop → Evaluates Faults (context_of stack.now indexed.entry) (list (splice (source spliced.now) (element (source last.now) no_items))) (state_of task.old world.old active.old) (Err (stop_of stop)) (state_of task.new world.new active.new)) }
-    ensures ticks { task.new.ticks_left ≤ task.old.ticks_left }
-{
-    task.take_tick(active, stack)?;
-    match compute_longer(task, world, active, stack, indexed, spliced, last) {
+    match compute_longer(task, world, active, stack, indexed, list, last) {
         Ok(longer) => Ok(Deferred::Longer(longer)),
         Err(failure) => Ok(Deferred::Value(task.settled(active, stack, failure)?)),
     }

@@ -414,11 +414,14 @@ decreases-loops::count-numbers l = l.task.ticks_left
 abbrev pub decreases-deferred::evaluate_deferred : goal.decreases-deferred::evaluate_deferred
 decreases-deferred::evaluate_deferred l = 16 * l.task.now.ticks_left + 5
 
-abbrev pub decreases-deferred::evaluate_chosen : goal.decreases-deferred::evaluate_chosen
-decreases-deferred::evaluate_chosen l = 16 * l.task.now.ticks_left + 4
-
-abbrev pub decreases-deferred::evaluate_longer : goal.decreases-deferred::evaluate_longer
-decreases-deferred::evaluate_longer l = 16 * l.task.now.ticks_left + 4
-
 abbrev pub decreases-deferred::compute_longer : goal.decreases-deferred::compute_longer
 decreases-deferred::compute_longer l = 16 * l.task.now.ticks_left + 4
+
+abbrev pub decreases-element::put_longer_at : goal.decreases-element::put_longer_at
+decreases-element::put_longer_at l = 16 * l.task.now.ticks_left + 6
+
+abbrev pub decreases-property_element::put_longer_element : goal.decreases-property_element::put_longer_element
+decreases-property_element::put_longer_element l = 16 * l.task.now.ticks_left + 4
+
+abbrev pub decreases-assignment::assign_longer : goal.decreases-assignment::assign_longer
+decreases-assignment::assign_longer l = 16 * l.task.now.ticks_left + 6

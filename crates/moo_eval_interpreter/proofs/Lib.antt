@@ -8,4 +8,4 @@ mod Prepended
 mod Updated
 mod Spliced
 mod Choosing
-pub mod Deferred
+mod Conditional

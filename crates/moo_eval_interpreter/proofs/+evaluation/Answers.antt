@@ -40,7 +40,7 @@ use Rattle.moo_builtin_operator.specs.Truth.{is_true, truth_value}
 use Rattle.moo_eval_interpreter.proofs.ObjectCalls.{named}
 use Rattle.moo_eval_interpreter.proofs.Passing.{undecided, decided, operand_stops, negated, not_stops, truth_of, if_err}
 use Rattle.moo_eval_interpreter.proofs.Choosing.{passed}
-use Rattle.moo_eval_interpreter.proofs.Deferred.{test_stopped, first_chosen, second_chosen}
+use Rattle.moo_eval_interpreter.proofs.Conditional.{test_stopped, first_chosen, second_chosen}
 use Rattle.moo_eval_access.specs.Deferred.{deferred_tree}
 use Rattle.moo_eval_interpreter.proofs.Spliced.{plain_rest, not_spliced}
 use Rattle.moo_eval_interpreter.proofs.Known.{codes_given, errors_given, errors_end, seen_listed}
@@ -823,7 +823,7 @@ assignment::assign-returns-in_ok-set-in-Variable-clause-meaning t c =
 
 pub assignment::assign-returns-in_err-value-in-Variable-clause-meaning : goal.assignment::assign-returns-in_err-value-in-Variable-clause-meaning
 assignment::assign-returns-in_err-value-in-Variable-clause-meaning t c =
-    let p = err_from_is_err_and c.from_residual.result c.from_residual.ensures.1 in rw (p.1, p.2) (λ k. rw c.in-Variable.is (unassigned (c.in_err-value-in-Variable.ensures.meaning k)))
+    let p = err_from_is_err_and c.from_residual-in_err-value-in-Variable.result c.from_residual-in_err-value-in-Variable.ensures.1 in rw (p.1, p.2) (λ k. rw c.in-Variable.is (unassigned (c.in_err-value-in-Variable.ensures.meaning k)))
 
 pub assignment::assign_value-returns-clause-meaning : goal.assignment::assign_value-returns-clause-meaning
 assignment::assign_value-returns-clause-meaning t c =
@@ -1594,14 +1594,6 @@ pub deferred::compute_longer-returns-in-None-clause-err : goal.deferred::compute
 deferred::compute_longer-returns-in-None-clause-err t c =
     λ k. too_long c.in-List.list (rw c.in-List.is at (c.in_ok-found.ensures.meaning tt)) (c.in_ok-last.ensures.meaning tt) (ap answers c.in-None.ensures.none)
 
-pub setting::compute_changed-returns-in_ok-into_list-in-Some-clause-ok : goal.setting::compute_changed-returns-in_ok-into_list-in-Some-clause-ok
-setting::compute_changed-returns-in_ok-into_list-in-Some-clause-ok t c =
-    let f : SFits w32 c.compute_longer.new.active.programmer = search rules in rw (c.in-Some.ensures, c.in_ok-into_list-in-Some.ensures) (record { between = c.compute_longer.new.world; holds = c.in_ok-longer-in-Some.ensures.ok; alike = rw (to_z-of_z w32 c.compute_longer.new.active.programmer f) at c.drop_written.ensures })
-
-pub setting::compute_changed-returns-in_err-longer-in-Some-clause-err : goal.setting::compute_changed-returns-in_err-longer-in-Some-clause-err
-setting::compute_changed-returns-in_err-longer-in-Some-clause-err t c =
-    let p = err_from_is_err_and c.from_residual.result c.from_residual.ensures.1 in rw (p.1, p.2) (λ k. rw c.in-Some.ensures (c.in_err-longer-in-Some.ensures.err k))
-
 pub property::put_property-returns-in_err-longer-clause-err : goal.property::put_property-returns-in_err-longer-clause-err
 property::put_property-returns-in_err-longer-clause-err t c =
     let p = err_from_is_err_and c.from_residual-in_err-longer.result c.from_residual-in_err-longer.ensures.1 in rw (p.1, p.2) (λ k. property.value_stops_put (c.in_ok-base.ensures.meaning tt) (c.in_ok-name.ensures.meaning tt) (c.in_err-longer.ensures.err k))
@@ -1671,17 +1663,9 @@ pub element::set_element-returns-then-is_longer_list-clause-meaning : goal.eleme
 element::set_element-returns-then-is_longer_list-clause-meaning t c =
     λ k. does_from (c.in_ok-is_longer.ensures.kept c.if-is_longer.false c.args.world.now) (c.end_statement.ensures _ _ _ c.in_ok-take_tick.ensures.taken (on_ok_weaker c.put_longer_at-done.result (λ h. (_, h.computes)) (rw c.in_ok-take_tick.ensures.left at c.put_longer_at-done.ensures.ok)) (rw c.in_ok-take_tick.ensures.left at c.put_longer_at-done.ensures.err) k)
 
-pub assignment::assign_longer-returns-in_ok-set_deferred-clause-ok : goal.assignment::assign_longer-returns-in_ok-set_deferred-clause-ok
-assignment::assign_longer-returns-in_ok-set_deferred-clause-ok t c =
-    rw c.in_ok-set_deferred.ensures.value (_, c.in_ok-longer.ensures.ok, same_state (sym c.in_ok-set_deferred.ensures.set) refl)
-
 pub assignment::assign_longer-returns-in_err-longer-clause-err : goal.assignment::assign_longer-returns-in_err-longer-clause-err
 assignment::assign_longer-returns-in_err-longer-clause-err t c =
     let p = err_from_is_err_and c.from_residual.result c.from_residual.ensures.1 in rw (p.1, p.2) (λ k. c.in_err-longer.ensures.err k)
-
-pub assignment::assign-returns-in_ok-assign_longer-in-Variable-clause-meaning : goal.assignment::assign-returns-in_ok-assign_longer-in-Variable-clause-meaning
-assignment::assign-returns-in_ok-assign_longer-in-Variable-clause-meaning t c =
-    λ k. let h = c.in_ok-assign_longer-in-Variable.ensures.ok in rw c.in-Variable.is (assigned h.1 h.2)
 
 pub assignment::assign-returns-in_err-assign_longer-in-Variable-clause-meaning : goal.assignment::assign-returns-in_err-assign_longer-in-Variable-clause-meaning
 assignment::assign-returns-in_err-assign_longer-in-Variable-clause-meaning t c =
@@ -1695,50 +1679,62 @@ pub assignment::assign_value-returns-in_err-assign_longer-clause-meaning : goal.
 assignment::assign_value-returns-in_err-assign_longer-clause-meaning t c =
     let p = err_from_is_err_and c.from_residual-in_err-assign_longer.result c.from_residual-in_err-assign_longer.ensures.1 in rw (p.1, p.2) (λ k. unperformed c.in_ok-take_tick.ensures.taken (unassigned (rw c.in_ok-take_tick.ensures.left at (c.in_err-assign_longer.ensures.err k))))
 
-pub deferred::evaluate_deferred-returns-in_err-take_tick-in-Conditional-clause-err : goal.deferred::evaluate_deferred-returns-in_err-take_tick-in-Conditional-clause-err
-deferred::evaluate_deferred-returns-in_err-take_tick-in-Conditional-clause-err t c =
-    let p = err_from_is_err_and c.from_residual.result c.from_residual.ensures.1 in rw (p.1, p.2) (λ k. let h = c.in_err-take_tick-in-Conditional.ensures.spent k in rw (c.in_err-take_tick-in-Conditional.ensures.kept, h.1) (spent h.0))
+pub deferred::evaluate_deferred-returns-in_err-take_tick-clause-err : goal.deferred::evaluate_deferred-returns-in_err-take_tick-clause-err
+deferred::evaluate_deferred-returns-in_err-take_tick-clause-err t c =
+    let p = err_from_is_err_and c.from_residual.result c.from_residual.ensures.1 in rw (p.1, p.2) (λ k. let h = c.in_err-take_tick.ensures.spent k in rw (c.in_err-take_tick.ensures.kept, h.1) (spent h.0))
 
-pub deferred::evaluate_deferred-returns-in_err-passes-in-Conditional-clause-err : goal.deferred::evaluate_deferred-returns-in_err-passes-in-Conditional-clause-err
-deferred::evaluate_deferred-returns-in_err-passes-in-Conditional-clause-err t c =
-    let p = err_from_is_err_and c.from_residual-in_err-passes-in-Conditional.result c.from_residual-in_err-passes-in-Conditional.ensures.1 in rw (p.1, p.2) (λ k. rw c.in-Conditional.is (test_stopped c.in_ok-take_tick-in-Conditional.ensures.taken (rw c.in_ok-take_tick-in-Conditional.ensures.left at (c.in_err-passes-in-Conditional.ensures.err k))))
+pub deferred::evaluate_deferred-returns-in_err-passes-clause-err : goal.deferred::evaluate_deferred-returns-in_err-passes-clause-err
+deferred::evaluate_deferred-returns-in_err-passes-clause-err t c =
+    let p = err_from_is_err_and c.from_residual-in_err-passes.result c.from_residual-in_err-passes.ensures.1 in rw (p.1, p.2) (λ k. rw (c.in-Conditional.is, ← c.deref.ensures) (test_stopped c.in_ok-take_tick.ensures.taken (rw c.in_ok-take_tick.ensures.left at (c.in_err-passes.ensures.err k))))
 
-pub deferred::evaluate_deferred-returns-then-passes-in-Conditional-clause-ok : goal.deferred::evaluate_deferred-returns-then-passes-in-Conditional-clause-ok
-deferred::evaluate_deferred-returns-then-passes-in-Conditional-clause-ok t c =
-    let test = c.in_ok-passes-in-Conditional.ensures.ok in let d = rw c.in_ok-take_tick-in-Conditional.ensures.left at test.1 in rw c.in-Conditional.is (IfOk-weaker c.evaluate_deferred.result _ _ (λ v h. first_chosen c.in_ok-take_tick-in-Conditional.ensures.taken d (test.2 ∙ c.if-passes-in-Conditional.true) h) c.evaluate_deferred.ensures.ok)
+pub deferred::evaluate_deferred-returns-then-passes-clause-ok : goal.deferred::evaluate_deferred-returns-then-passes-clause-ok
+deferred::evaluate_deferred-returns-then-passes-clause-ok t c =
+    let test = c.in_ok-passes.ensures.ok in let d = rw c.in_ok-take_tick.ensures.left at test.1 in rw (c.in-Conditional.is, ← c.deref.ensures, ← c.deref-then-passes.ensures) (IfOk-weaker c.evaluate_deferred.result _ _ (λ v h. first_chosen c.in_ok-take_tick.ensures.taken d (test.2 ∙ c.if-passes.true) h) c.evaluate_deferred.ensures.ok)
 
-pub deferred::evaluate_deferred-returns-then-passes-in-Conditional-clause-err : goal.deferred::evaluate_deferred-returns-then-passes-in-Conditional-clause-err
-deferred::evaluate_deferred-returns-then-passes-in-Conditional-clause-err t c =
-    let test = c.in_ok-passes-in-Conditional.ensures.ok in let d = rw c.in_ok-take_tick-in-Conditional.ensures.left at test.1 in rw c.in-Conditional.is (if_err c.evaluate_deferred.result (λ e h k. first_chosen c.in_ok-take_tick-in-Conditional.ensures.taken d (test.2 ∙ c.if-passes-in-Conditional.true) (h k)) c.evaluate_deferred.ensures.err)
+pub deferred::evaluate_deferred-returns-then-passes-clause-err : goal.deferred::evaluate_deferred-returns-then-passes-clause-err
+deferred::evaluate_deferred-returns-then-passes-clause-err t c =
+    let test = c.in_ok-passes.ensures.ok in let d = rw c.in_ok-take_tick.ensures.left at test.1 in rw (c.in-Conditional.is, ← c.deref.ensures, ← c.deref-then-passes.ensures) (if_err c.evaluate_deferred.result (λ e h k. first_chosen c.in_ok-take_tick.ensures.taken d (test.2 ∙ c.if-passes.true) (h k)) c.evaluate_deferred.ensures.err)
 
 pub deferred::evaluate_deferred-returns-in-Conditional-clause-ok : goal.deferred::evaluate_deferred-returns-in-Conditional-clause-ok
 deferred::evaluate_deferred-returns-in-Conditional-clause-ok t c =
-    let test = c.in_ok-passes-in-Conditional.ensures.ok in let d = rw c.in_ok-take_tick-in-Conditional.ensures.left at test.1 in rw c.in-Conditional.is (IfOk-weaker c.evaluate_deferred-2.result _ _ (λ v h. second_chosen c.in_ok-take_tick-in-Conditional.ensures.taken d (test.2 ∙ c.if-passes-in-Conditional.false) h) c.evaluate_deferred-2.ensures.ok)
+    let test = c.in_ok-passes.ensures.ok in let d = rw c.in_ok-take_tick.ensures.left at test.1 in rw (c.in-Conditional.is, ← c.deref.ensures, ← c.deref-in-Conditional.ensures) (IfOk-weaker c.evaluate_deferred-in-Conditional.result _ _ (λ v h. second_chosen c.in_ok-take_tick.ensures.taken d (test.2 ∙ c.if-passes.false) h) c.evaluate_deferred-in-Conditional.ensures.ok)
 
 pub deferred::evaluate_deferred-returns-in-Conditional-clause-err : goal.deferred::evaluate_deferred-returns-in-Conditional-clause-err
 deferred::evaluate_deferred-returns-in-Conditional-clause-err t c =
-    let test = c.in_ok-passes-in-Conditional.ensures.ok in let d = rw c.in_ok-take_tick-in-Conditional.ensures.left at test.1 in rw c.in-Conditional.is (if_err c.evaluate_deferred-2.result (λ e h k. second_chosen c.in_ok-take_tick-in-Conditional.ensures.taken d (test.2 ∙ c.if-passes-in-Conditional.false) (h k)) c.evaluate_deferred-2.ensures.err)
-
-pub deferred::evaluate_deferred-returns-in_default-clause-ok : goal.deferred::evaluate_deferred-returns-in_default-clause-ok
-deferred::evaluate_deferred-returns-in_default-clause-ok t c =
-    c.in_ok-value.ensures.meaning tt
+    let test = c.in_ok-passes.ensures.ok in let d = rw c.in_ok-take_tick.ensures.left at test.1 in rw (c.in-Conditional.is, ← c.deref.ensures, ← c.deref-in-Conditional.ensures) (if_err c.evaluate_deferred-in-Conditional.result (λ e h k. second_chosen c.in_ok-take_tick.ensures.taken d (test.2 ∙ c.if-passes.false) (h k)) c.evaluate_deferred-in-Conditional.ensures.err)
 
 pub deferred::evaluate_deferred-returns-in_err-value-clause-err : goal.deferred::evaluate_deferred-returns-in_err-value-clause-err
 deferred::evaluate_deferred-returns-in_err-value-clause-err t c =
     let p = err_from_is_err_and c.from_residual-in_err-value.result c.from_residual-in_err-value.ensures.1 in rw (p.1, p.2) (λ k. c.in_err-value.ensures.meaning k)
 
-pub deferred::evaluate_deferred-returns-in_err-take_tick-clause-err : goal.deferred::evaluate_deferred-returns-in_err-take_tick-clause-err
-deferred::evaluate_deferred-returns-in_err-take_tick-clause-err t c =
-    let p = err_from_is_err_and c.from_residual-in_err-take_tick.result c.from_residual-in_err-take_tick.ensures.1 in rw (p.1, p.2) (λ k. let h = c.in_err-take_tick.ensures.spent k in rw (c.in_err-take_tick.ensures.kept, h.1) (spent h.0))
+pub deferred::evaluate_deferred-returns-in_err-take_tick-2-clause-err : goal.deferred::evaluate_deferred-returns-in_err-take_tick-2-clause-err
+deferred::evaluate_deferred-returns-in_err-take_tick-2-clause-err t c =
+    let p = err_from_is_err_and c.from_residual-in_err-take_tick-2.result c.from_residual-in_err-take_tick-2.ensures.1 in rw (p.1, p.2) (λ k. let h = c.in_err-take_tick-2.ensures.spent k in rw (c.in_err-take_tick-2.ensures.kept, h.1) (spent h.0))
 
 pub deferred::evaluate_deferred-returns-in-Ok-clause-ok : goal.deferred::evaluate_deferred-returns-in-Ok-clause-ok
 deferred::evaluate_deferred-returns-in-Ok-clause-ok t c =
-    rw c.in-Some.ensures (begins c.in_ok-take_tick.ensures.taken (rw c.in_ok-take_tick.ensures.left at c.in-Ok.ensures.ok) refl)
+    rw c.in-Some.ensures (begins c.in_ok-take_tick-2.ensures.taken (rw c.in_ok-take_tick-2.ensures.left at c.in-Ok.ensures.ok) refl)
 
 pub deferred::evaluate_deferred-returns-in_ok-settled-in-Err-clause-ok : goal.deferred::evaluate_deferred-returns-in_ok-settled-in-Err-clause-ok
 deferred::evaluate_deferred-returns-in_ok-settled-in-Err-clause-ok t c =
-    rw c.in-Some.ensures (begins c.in_ok-take_tick.ensures.taken (rw c.in_ok-take_tick.ensures.left at (c.in-Err.ensures.err (c.in_ok-settled-in-Err.ensures.known tt))) (c.in_ok-settled-in-Err.ensures.outcome tt))
+    rw c.in-Some.ensures (begins c.in_ok-take_tick-2.ensures.taken (rw c.in_ok-take_tick-2.ensures.left at (c.in-Err.ensures.err (c.in_ok-settled-in-Err.ensures.known tt))) (c.in_ok-settled-in-Err.ensures.outcome tt))
 
 pub deferred::evaluate_deferred-returns-in_err-settled-in-Err-clause-err : goal.deferred::evaluate_deferred-returns-in_err-settled-in-Err-clause-err
 deferred::evaluate_deferred-returns-in_err-settled-in-Err-clause-err t c =
-    let p = err_from_is_err_and c.from_residual-in_err-settled-in-Err.result c.from_residual-in_err-settled-in-Err.ensures.1 in rw (p.1, p.2) (λ k. rw c.in-Some.ensures (begins c.in_ok-take_tick.ensures.taken (rw c.in_ok-take_tick.ensures.left at (c.in-Err.ensures.err (c.in_err-settled-in-Err.ensures.known k))) (c.in_err-settled-in-Err.ensures.outcome k)))
+    let p = err_from_is_err_and c.from_residual-in_err-settled-in-Err.result c.from_residual-in_err-settled-in-Err.ensures.1 in rw (p.1, p.2) (λ k. rw c.in-Some.ensures (begins c.in_ok-take_tick-2.ensures.taken (rw c.in_ok-take_tick-2.ensures.left at (c.in-Err.ensures.err (c.in_err-settled-in-Err.ensures.known k))) (c.in_err-settled-in-Err.ensures.outcome k)))
+
+pub assignment::assign_longer-returns-clause-ok : goal.assignment::assign_longer-returns-clause-ok
+assignment::assign_longer-returns-clause-ok t c =
+    rw c.in_ok-set_deferred.ensures.value (_, c.in_ok-longer.ensures.ok, same_state (sym c.in_ok-set_deferred.ensures.set) refl)
+
+pub assignment::assign-returns-then-is_longer_list-clause-meaning : goal.assignment::assign-returns-then-is_longer_list-clause-meaning
+assignment::assign-returns-then-is_longer_list-clause-meaning t c =
+    λ k. let h = c.in_ok-assign_longer-in-Variable.ensures.ok in rw c.in-Variable.is (assigned h.1 h.2)
+
+pub setting::compute_changed-returns-in-Some-clause-ok : goal.setting::compute_changed-returns-in-Some-clause-ok
+setting::compute_changed-returns-in-Some-clause-ok t c =
+    let f : SFits w32 c.compute_longer.new.active.programmer = search rules in rw (c.in-Some.ensures, c.in_ok-into_list.ensures) (record { between = c.compute_longer.new.world; holds = c.in_ok-longer.ensures.ok; alike = rw (to_z-of_z w32 c.compute_longer.new.active.programmer f) at c.drop_written.ensures })
+
+pub setting::compute_changed-returns-in_err-longer-clause-err : goal.setting::compute_changed-returns-in_err-longer-clause-err
+setting::compute_changed-returns-in_err-longer-clause-err t c =
+    let p = err_from_is_err_and c.from_residual.result c.from_residual.ensures.1 in rw (p.1, p.2) (λ k. rw c.in-Some.ensures (c.in_err-longer.ensures.err k))

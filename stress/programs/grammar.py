@@ -43,7 +43,7 @@ GRAMMAR = {
         (3, "<container>[<place>..<place>]"), (8, "<object>.<property>"), (2, "(<expression>).(<expression>)"), (6, "{<items>}"),
         (4, "(<expression> ? <expression> | <expression>)"), (3, "(<expression> && <expression>)"), (3, "(<expression> || <expression>)"),
         (2, "!<expression>"), (1, "-(<expression>)"), (4, "`<expression> ! <codes>'"), (4, "`<expression> ! <codes> => <expression>'"),
-        (5, "(<target> = <expression>)"), (5, "<function>(<items>)"), (6, "<object>:<verb>(<items>)"), (1, "<object>:(u)(<items>)"),
+        (5, "(<target> = <expression>)"), (1, "(l = {@l, <expression>})"), (5, "<function>(<items>)"), (6, "<object>:<verb>(<items>)"), (1, "<object>:(u)(<items>)"),
         (3, "<caller>"),
     ],
     "simple": [
@@ -55,6 +55,8 @@ GRAMMAR = {
         (1, "m = listinsert(m, <item>);"), (2, "<variable> = <function>(<variable>, <items>);"),
         (2, "o.q = {@o.q, <expression>};"), (2, "o.q = {<expression>, @o.q};"), (2, "o.q = <function>(o.q, <expression>);"), (2, "o.q[<place>] = <expression>;"),
         (1, "<object>.<property> = {@<object>.<property>, <expression>};"), (1, "<object>.<property>[<place>] = <expression>;"),
+        (2, "m[<place>] = {@m[<place>], <expression>};"), (1, "o.q[<place>] = {@o.q[<place>], <expression>};"), (1, "o.(u) = {@o.(u), <expression>};"),
+        (2, "l = <expression> ? {@l, <expression>} | {@<container>, <expression>};"), (1, "<expression> ? l = {@l, <expression>} | m = {@m, <item>};"),
     ],
     "arm": [(6, ""), (3, "else <block>"), (3, "elseif (<expression>) <block>"), (2, "elseif (<number>) <block> else <block>")],
     "leaving": [(5, ""), (2, "break;"), (2, "continue;"), (1, "if (<number>) break; else continue; endif"), (1, "return <expression>;")],

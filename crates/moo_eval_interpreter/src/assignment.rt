@@ -1,13 +1,11 @@
 //! Runs assignments.
-ghost use Rattle.std.specs.Prelude.{◌≡◌, ◌≤◌, ◌∷◌, [], None, Ok, Err, IfOk, IfErr};
+ghost use Rattle.std.specs.Prelude.{◌≤◌, None, Ok};
 ghost use Rattle.moo_syntax_ast.specs.Tree.{variable, assign, performs};
 ghost use Rattle.moo_syntax_lower.specs.Source.{source};
 ghost use Rattle.moo_value.specs.View.{tree as value_tree};
 ghost use Rattle.moo_eval_access.specs.Target.{Path};
-ghost use Rattle.moo_eval_access.specs.State.{State, bound};
-ghost use Rattle.moo_eval_slot.specs.Bindings.{bind};
-ghost use Rattle.moo_eval_semantics.specs.Meaning.{Computes, Evaluates, Does, Locates, Finds, Steps, Stores};
-ghost use Rattle.moo_eval_frame.specs.Seen.{context_of, seen_answer, seen_by, seen_done, seen_flow, stop_of, HadMemory, IsKnown, IsKnownFailure};
+ghost use Rattle.moo_eval_semantics.specs.Meaning.{Computes, Does, Locates, Finds, Steps, Stores};
+ghost use Rattle.moo_eval_frame.specs.Seen.{context_of, seen_answer, seen_by, seen_done, seen_flow, IsKnown, IsKnownFailure};
 ghost use Rattle.moo_builtin.specs.Telling.{Faults};
 ghost use Rattle.moo_eval_task.specs.Seen.{state_of};
 ghost use Rattle.moo_eval_access.specs.SeenTarget.{root_seen, step_of, steps_of, path_of, spot_of};
@@ -46,7 +44,8 @@ pub(crate) fn assign(
     match target {
         Node::Variable(name) => {
             if is_longer_list(value) {
-                return Ok(assign_longer(task, world, active, stack, indexed, name, value)?);
+                let longer = evaluate_deferred(task, world, active, stack, indexed, value)?;
+                return Ok(set_deferred(task.alloc(), &mut active.variables, name, longer)?);
             }
             let value = evaluate(task, world, active, stack, indexed, value)?;
             let copy = value.try_clone()?;
@@ -55,27 +54,6 @@ pub(crate) fn assign(
         }
         _ => assign_path(task, world, active, stack, indexed, target, value),
     }
-}
-
-// Evaluates a value that is a longer list, sets a variable to it, and returns it. The variable lets go of its old value
-// before the list grows. Not inlined, so that other assignments need no stack space for it.
-#[cycle(evaluation)]
-#[inline(never)]
-fn assign_longer(
-    task: &mut Task,
-    world: &mut World,
-    active: &mut Activation,
-    stack: &CallStack<'_>,
-    indexed: Option<&Value>,
-    name: &Name,
-    value: &Node,
-) -> Result<Value, Stop>
-    ensures ok { IfOk result (λ v. (between : State) × Evaluates Faults (context_of stack.now indexed.entry) (source value.now) (state_of task.old world.old active.old) (Ok (value_tree v)) between × (bound (bind name.now (value_tree v) ∷ []) between ≡ state_of task.new world.new active.new)) }
-    ensures err { IfErr result (λ stop. HadMemory stop → Evaluates Faults (context_of stack.now indexed.entry) (source value.now) (state_of task.old world.old active.old) (Err (stop_of stop)) (state_of task.new world.new active.new)) }
-    ensures ticks { task.new.ticks_left ≤ task.old.ticks_left }
-{
-    let longer = evaluate_deferred(task, world, active, stack, indexed, value)?;
-    Ok(set_deferred(task.alloc(), &mut active.variables, name, longer)?)
 }
 
 // Finds the target first, then evaluates the value, then stores it.
@@ -123,7 +101,8 @@ pub(crate) fn assign_value(
     }
     task.take_tick(active, stack)?;
     if is_longer_list(value) {
-        assign_longer(task, world, active, stack, None, name, value)?;
+        let longer = evaluate_deferred(task, world, active, stack, None, value)?;
+        set_deferred(task.alloc(), &mut active.variables, name, longer)?;
         return Ok(Flow::Next);
     }
     let value = evaluate_tried(task, world, active, stack, None, value)?;

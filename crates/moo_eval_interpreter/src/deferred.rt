@@ -1,13 +1,11 @@
 //! Evaluates values that are stored in a place whose old value is let go of first. So `{@l[i], x}` grows a list in
 //! place.
-ghost use Rattle.std.specs.Prelude.{◌≤◌, None, Ok, Err, IfOk, IfErr};
-ghost use Rattle.moo_value.specs.Tree.{list_of};
-ghost use Rattle.moo_syntax_ast.specs.Tree.{list, splice, element, no_items};
+ghost use Rattle.std.specs.Prelude.{◌≤◌, Ok, Err, IfOk, IfErr};
 ghost use Rattle.moo_syntax_lower.specs.Source.{source};
-ghost use Rattle.moo_eval_frame.specs.Seen.{context_of, failure_of, stop_of, HadMemory, HadMemoryIn};
+ghost use Rattle.moo_eval_frame.specs.Seen.{context_of, stop_of, HadMemory};
 ghost use Rattle.moo_builtin.specs.Telling.{Faults};
 ghost use Rattle.moo_eval_access.specs.Deferred.{deferred_tree};
-ghost use Rattle.moo_eval_semantics.specs.Meaning.{Computes, Evaluates};
+ghost use Rattle.moo_eval_semantics.specs.Meaning.{Evaluates};
 ghost use Rattle.moo_eval_task.specs.Seen.{state_of};
 
 use crate::conditions::passes;
@@ -43,40 +41,22 @@ pub(crate) fn evaluate_deferred(
         }
         return evaluate_deferred(task, world, active, stack, indexed, second);
     }
-    let Some((list, last)) = as_appended(node) else {
+    let Some((spliced, last)) = as_appended(node) else {
         let value = evaluate(task, world, active, stack, indexed, node)?;
         return Ok(Deferred::Value(value));
     };
     task.take_tick(active, stack)?;
-    match compute_longer(task, world, active, stack, indexed, list, last) {
-        Ok(longer) => Ok(Deferred::Longer(longer)),
-        Err(failure) => Ok(Deferred::Value(task.settled(active, stack, failure)?)),
-    }
-}
-
-/// Computes `{@spliced, last}`, but for the last value, which isn't appended yet.
-#[cycle(evaluation)]
-#[inline(always)]
-pub(crate) fn compute_longer(
-    task: &mut Task,
-    world: &mut World,
-    active: &mut Activation,
-    stack: &CallStack<'_>,
-    indexed: Option<&Value>,
-    spliced: &Node,
-    last: &Node,
-) -> Result<LongerList, Failure>
-    ensures ok { IfOk result (λ longer. Computes Faults (context_of stack.now indexed.entry) (list (splice (source spliced.now) (element (source last.now) no_items))) (state_of task.old world.old active.old) (Ok (list_of longer)) (state_of task.new world.new active.new)) }
-    ensures err { IfErr result (λ failure. HadMemoryIn failure → Computes Faults (context_of stack.now indexed.entry) (list (splice (source spliced.now) (element (source last.now) no_items))) (state_of task.old world.old active.old) (Err (failure_of failure)) (state_of task.new world.new active.new)) }
-    ensures ticks { task.new.ticks_left ≤ task.old.ticks_left }
-{
     let found = evaluate(task, world, active, stack, indexed, spliced)?;
     let Value::List(list) = found else {
-        return Err(Failure::Fails(ErrorCode::TypeMismatch));
+        let failure = Failure::Fails(ErrorCode::TypeMismatch);
+        return Ok(Deferred::Value(task.settled(active, stack, failure)?));
     };
     let last = evaluate(task, world, active, stack, indexed, last)?;
     match LongerList::new(list, last) {
-        Some(longer) => Ok(longer),
-        None => Err(Failure::Fails(ErrorCode::Quota)),
+        Some(longer) => Ok(Deferred::Longer(longer)),
+        None => {
+            let failure = Failure::Fails(ErrorCode::Quota);
+            Ok(Deferred::Value(task.settled(active, stack, failure)?))
+        }
     }
 }

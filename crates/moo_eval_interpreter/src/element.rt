@@ -38,10 +38,6 @@ pub(crate) fn set_element(
         return Ok(Flow::Next);
     }
     task.take_tick(active, stack)?;
-    if is_longer_list(value) {
-        let done = put_longer_at(task, world, active, stack, name, place, value);
-        return task.end_statement(active, stack, done);
-    }
     let done = put_at(task, world, active, stack, name, place, value);
     task.end_statement(active, stack, done)
 }
@@ -64,6 +60,18 @@ fn put_at(
 {
     let container = read_variable(active, name)?;
     let place = evaluate(task, world, active, stack, Some(&container), place)?;
+    if is_longer_list(value) {
+        let longer = evaluate_deferred(task, world, active, stack, None, value)?;
+        set_deferred_at(
+            task.alloc(),
+            &mut active.variables,
+            name,
+            container,
+            place,
+            longer,
+        )?;
+        return Ok(());
+    }
     let value = evaluate(task, world, active, stack, None, value)?;
     set_at(
         task.alloc(),
@@ -72,37 +80,6 @@ fn put_at(
         container,
         &place,
         value,
-    )?;
-    Ok(())
-}
-
-// Does what `put_at` does. The variable lets go of its value before a list that is the value grows. Not inlined, so
-// that other assignments need no stack space for it.
-#[cycle(evaluation)]
-#[inline(never)]
-fn put_longer_at(
-    task: &mut Task,
-    world: &mut World,
-    active: &mut Activation,
-    stack: &CallStack<'_>,
-    name: &Name,
-    place: &Node,
-    value: &Node,
-) -> Result<(), Failure>
-    ensures ok { OnOk result (IsPut Faults (context_of stack.now None) name.now (source place.now) (source value.now) (state_of task.old world.old active.old) (state_of task.new world.new active.new)) }
-    ensures err { IfErr result (λ failure. HadMemoryIn failure → Computes Faults (context_of stack.now None) (sets_place name.now (source place.now) (source value.now)) (state_of task.old world.old active.old) (Err (failure_of failure)) (state_of task.new world.new active.new)) }
-    ensures ticks { task.new.ticks_left ≤ task.old.ticks_left }
-{
-    let container = read_variable(active, name)?;
-    let place = evaluate(task, world, active, stack, Some(&container), place)?;
-    let longer = evaluate_deferred(task, world, active, stack, None, value)?;
-    set_deferred_at(
-        task.alloc(),
-        &mut active.variables,
-        name,
-        container,
-        place,
-        longer,
     )?;
     Ok(())
 }

@@ -36,10 +36,6 @@ pub(crate) fn set_property_element(
     ensures ticks { task.new.ticks_left ≤ task.old.ticks_left }
 {
     task.take_tick(active, stack)?;
-    if is_longer_list(value) {
-        let done = put_longer_element(task, world, active, stack, base, name, place, value);
-        return task.end_statement(active, stack, done);
-    }
     let done = put_property_element(task, world, active, stack, base, name, place, value);
     task.end_statement(active, stack, done)
 }
@@ -66,6 +62,19 @@ fn put_property_element(
     task.take_tick(active, stack)?;
     let container = read_written(task.alloc(), world, active.programmer, &base, name)?;
     let place = evaluate(task, world, active, stack, Some(&container), place)?;
+    if is_longer_list(value) {
+        let longer = evaluate_deferred(task, world, active, stack, None, value)?;
+        return set_property_deferred_at(
+            task.alloc(),
+            world,
+            active.programmer,
+            &base,
+            name,
+            container,
+            place,
+            longer,
+        );
+    }
     let value = evaluate(task, world, active, stack, None, value)?;
     set_property_at(
         task.alloc(),
@@ -76,40 +85,5 @@ fn put_property_element(
         container,
         &place,
         value,
-    )
-}
-
-// Does what `put_property_element` does. The property lets go of its value before a list that is the value grows. Not
-// inlined, so that other assignments need no stack space for it.
-#[cycle(evaluation)]
-#[inline(never)]
-fn put_longer_element(
-    task: &mut Task,
-    world: &mut World,
-    active: &mut Activation,
-    stack: &CallStack<'_>,
-    base: &Node,
-    name: &Text,
-    place: &Node,
-    value: &Node,
-) -> Result<(), Failure>
-    ensures ok { OnOk result ((v : Tree) × Computes Faults (context_of stack.now None) (sets_part (source base.now) name.now (source place.now) (source value.now)) (state_of task.old world.old active.old) (Ok v) (state_of task.new world.new active.new)) }
-    ensures err { IfErr result (λ failure. HadMemoryIn failure → Computes Faults (context_of stack.now None) (sets_part (source base.now) name.now (source place.now) (source value.now)) (state_of task.old world.old active.old) (Err (failure_of failure)) (state_of task.new world.new active.new)) }
-    ensures ticks { task.new.ticks_left ≤ task.old.ticks_left }
-{
-    let base = evaluate(task, world, active, stack, None, base)?;
-    task.take_tick(active, stack)?;
-    let container = read_written(task.alloc(), world, active.programmer, &base, name)?;
-    let place = evaluate(task, world, active, stack, Some(&container), place)?;
-    let longer = evaluate_deferred(task, world, active, stack, None, value)?;
-    set_property_deferred_at(
-        task.alloc(),
-        world,
-        active.programmer,
-        &base,
-        name,
-        container,
-        place,
-        longer,
     )
 }

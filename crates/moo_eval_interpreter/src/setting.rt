@@ -11,11 +11,13 @@ ghost use Rattle.moo_eval_semantics.specs.Meaning.{Computes, Evaluates};
 ghost use Rattle.moo_eval_task.specs.Reached.{IsReached};
 ghost use Rattle.moo_eval_task.specs.Seen.{state_of};
 
-use crate::deferred::compute_longer;
+use crate::deferred::evaluate_deferred;
 use crate::functions::call_with;
 use crate::interpreter::{evaluate, evaluate_all};
 use crate::nodes::compute;
-use moo_eval_access::{as_appended, as_call, as_prepended, drop_written, is_of_property};
+use moo_eval_access::{
+    Deferred, as_call, as_prepended, drop_written, is_longer_list, is_of_property,
+};
 use moo_eval_call::{has_list, make_list};
 use moo_eval_frame::{Activation, CallStack, Failure, Gathered, Stop};
 use moo_eval_slot::{has_room_for, prepended};
@@ -65,6 +67,15 @@ fn evaluate_changed(
     ensures err { IfErr result (λ stop. HadMemory stop → Evaluates Faults (context_of stack.now None) (source node.now) (state_of task.old world.old active.old) (Err (stop_of stop)) (state_of task.new world.new active.new)) }
     ensures ticks { task.new.ticks_left ≤ task.old.ticks_left }
 {
+    if is_longer_list(node) {
+        return match evaluate_deferred(task, world, active, stack, None, node)? {
+            Deferred::Value(value) => Ok(value),
+            Deferred::Longer(longer) => {
+                drop_written(world, active.programmer, base, name);
+                Ok(Value::List(longer.into_list(task.alloc())?))
+            }
+        };
+    }
     task.take_tick(active, stack)?;
     match compute_changed(task, world, active, stack, base, name, node) {
         Ok(value) => Ok(value),
@@ -88,11 +99,6 @@ fn compute_changed(
     ensures err { IfErr result (λ failure. HadMemoryIn failure → Computes Faults (context_of stack.now None) (source node.now) (state_of task.old world.old active.old) (Err (failure_of failure)) (state_of task.new world.new active.new)) }
     ensures ticks { task.new.ticks_left ≤ task.old.ticks_left }
 {
-    if let Some((list, last)) = as_appended(node) {
-        let longer = compute_longer(task, world, active, stack, None, list, last)?;
-        drop_written(world, active.programmer, base, name);
-        return Ok(Value::List(longer.into_list(task.alloc())?));
-    }
     if let Some((first, list)) = as_prepended(node) {
         return compute_prepended(task, world, active, stack, base, name, first, list);
     }

@@ -983,7 +983,7 @@ element::set_element-returns-then-is_longer-clause-meaning t c =
 
 pub element::set_element-returns-clause-meaning : goal.element::set_element-returns-clause-meaning
 element::set_element-returns-clause-meaning t c =
-    λ k. does_from (c.in_ok-is_longer.ensures.kept c.if-is_longer.false c.args.world.now) (c.end_statement-2.ensures _ _ _ c.in_ok-take_tick.ensures.taken (on_ok_weaker c.put_at-done.result (λ h. (_, h.computes)) (rw c.in_ok-take_tick.ensures.left at c.put_at-done.ensures.ok)) (rw c.in_ok-take_tick.ensures.left at c.put_at-done.ensures.err) k)
+    λ k. does_from (c.in_ok-is_longer.ensures.kept c.if-is_longer.false c.args.world.now) (c.end_statement.ensures _ _ _ c.in_ok-take_tick.ensures.taken (on_ok_weaker c.put_at-done.result (λ h. (_, h.computes)) (rw c.in_ok-take_tick.ensures.left at c.put_at-done.ensures.ok)) (rw c.in_ok-take_tick.ensures.left at c.put_at-done.ensures.err) k)
 
 pub element::set_element-returns-in_err-take_tick-clause-meaning : goal.element::set_element-returns-in_err-take_tick-clause-meaning
 element::set_element-returns-in_err-take_tick-clause-meaning t c =
@@ -1296,7 +1296,7 @@ property_element::set_property_element-returns-in_err-take_tick-clause-meaning t
 
 pub property_element::set_property_element-returns-clause-meaning : goal.property_element::set_property_element-returns-clause-meaning
 property_element::set_property_element-returns-clause-meaning t c =
-    λ k. c.end_statement-2.ensures _ _ _ c.in_ok-take_tick.ensures.taken (rw c.in_ok-take_tick.ensures.left at c.put_property_element-done.ensures.ok) (rw c.in_ok-take_tick.ensures.left at c.put_property_element-done.ensures.err) k
+    λ k. c.end_statement.ensures _ _ _ c.in_ok-take_tick.ensures.taken (rw c.in_ok-take_tick.ensures.left at c.put_property_element-done.ensures.ok) (rw c.in_ok-take_tick.ensures.left at c.put_property_element-done.ensures.err) k
 
 pub property_element::put_property_element-returns-in_err-base-clause-err : goal.property_element::put_property_element-returns-in_err-base-clause-err
 property_element::put_property_element-returns-in_err-base-clause-err t c =
@@ -1348,7 +1348,7 @@ setting::evaluate_changed-returns-in-Err-clause-err t c =
 
 pub setting::evaluate_changed-returns-in_err-take_tick-clause-err : goal.setting::evaluate_changed-returns-in_err-take_tick-clause-err
 setting::evaluate_changed-returns-in_err-take_tick-clause-err t c =
-    let p = err_from_is_err_and c.from_residual.result c.from_residual.ensures.1 in rw (p.1, p.2) (λ k. let h = c.in_err-take_tick.ensures.spent k in rw (c.in_err-take_tick.ensures.kept, h.1) (spent h.0))
+    let p = err_from_is_err_and c.from_residual-in_err-take_tick.result c.from_residual-in_err-take_tick.ensures.1 in rw (p.1, p.2) (λ k. let h = c.in_err-take_tick.ensures.spent k in rw (c.in_err-take_tick.ensures.kept, h.1) (spent h.0))
 
 pub setting::compute_changed-returns-clause-ok : goal.setting::compute_changed-returns-clause-ok
 setting::compute_changed-returns-clause-ok t c =
@@ -1574,26 +1574,6 @@ pub conditions::node_passes-returns-in-Some-try_property_test-clause-ok : goal.c
 conditions::node_passes-returns-in-Some-try_property_test-clause-ok t c =
     rw c.in_default-try_comparison.ensures.none at (c.in-Some-try_property_test.ensures.some (context_of c.args.stack.now c.args.indexed))
 
-pub deferred::compute_longer-returns-in_err-found-clause-err : goal.deferred::compute_longer-returns-in_err-found-clause-err
-deferred::compute_longer-returns-in_err-found-clause-err t c =
-    let p = err_from_is_err_and c.from_residual.result c.from_residual.ensures.1 in rw (p.1, p.2) (λ k. first_stops (c.in_err-found.ensures.meaning k))
-
-pub deferred::compute_longer-returns-in_default-clause-err : goal.deferred::compute_longer-returns-in_default-clause-err
-deferred::compute_longer-returns-in_default-clause-err t c =
-    λ k. first_fails (c.in_ok-found.ensures.meaning tt) (unspliced _ c.in_default.not-List)
-
-pub deferred::compute_longer-returns-in_err-last-clause-err : goal.deferred::compute_longer-returns-in_err-last-clause-err
-deferred::compute_longer-returns-in_err-last-clause-err t c =
-    let p = err_from_is_err_and c.from_residual-in_err-last.result c.from_residual-in_err-last.ensures.1 in rw (p.1, p.2) (λ k. second_stops c.in-List.list (rw c.in-List.is at (c.in_ok-found.ensures.meaning tt)) (c.in_err-last.ensures.meaning k))
-
-pub deferred::compute_longer-returns-in-Some-clause-ok : goal.deferred::compute_longer-returns-in-Some-clause-ok
-deferred::compute_longer-returns-in-Some-clause-ok t c =
-    longer c.in-List.list (rw c.in-List.is at (c.in_ok-found.ensures.meaning tt)) (c.in_ok-last.ensures.meaning tt) c.in-Some.ensures.some
-
-pub deferred::compute_longer-returns-in-None-clause-err : goal.deferred::compute_longer-returns-in-None-clause-err
-deferred::compute_longer-returns-in-None-clause-err t c =
-    λ k. too_long c.in-List.list (rw c.in-List.is at (c.in_ok-found.ensures.meaning tt)) (c.in_ok-last.ensures.meaning tt) (ap answers c.in-None.ensures.none)
-
 pub property::put_property-returns-in_err-longer-clause-err : goal.property::put_property-returns-in_err-longer-clause-err
 property::put_property-returns-in_err-longer-clause-err t c =
     let p = err_from_is_err_and c.from_residual-in_err-longer.result c.from_residual-in_err-longer.ensures.1 in rw (p.1, p.2) (λ k. property.value_stops_put (c.in_ok-base.ensures.meaning tt) (c.in_ok-name.ensures.meaning tt) (c.in_err-longer.ensures.err k))
@@ -1605,79 +1585,6 @@ property::put_property-returns-then-is_longer_list-clause-ok t c =
 pub property::put_property-returns-then-is_longer_list-clause-err : goal.property::put_property-returns-then-is_longer_list-clause-err
 property::put_property-returns-then-is_longer_list-clause-err t c =
     known_refused (deferred_tree c.in_ok-longer.longer) c.write_deferred.result (λ k. let f : SFits w32 c.evaluate_deferred.new.active.programmer = search rules in property.put (c.in_ok-base.ensures.meaning tt) (c.in_ok-name.ensures.meaning tt) c.in_ok-longer.ensures.ok (property_put _ (rw (to_z-of_z w32 c.evaluate_deferred.new.active.programmer f) at (c.write_deferred.ensures.world k)) (known_kept _ _ c.write_deferred.result k c.write_deferred.ensures.kept)) refl)
-
-pub element::put_longer_at-returns-clause-ok : goal.element::put_longer_at-returns-clause-ok
-element::put_longer_at-returns-clause-ok t c =
-    let h = c.in_ok-set_deferred_at.ensures.ok in put (c.in_ok-container.ensures.value tt) (c.in_ok-place.ensures.meaning tt) c.in_ok-longer.ensures.ok h.1 (same_state (sym h.2) refl)
-
-pub element::put_longer_at-returns-in_err-container-clause-err : goal.element::put_longer_at-returns-in_err-container-clause-err
-element::put_longer_at-returns-in_err-container-clause-err t c =
-    let p = err_from_is_err_and c.from_residual.result c.from_residual.ensures.1 in rw (p.1, p.2) (λ k. unheld (c.in_err-container.ensures.value k))
-
-pub element::put_longer_at-returns-in_err-place-clause-err : goal.element::put_longer_at-returns-in_err-place-clause-err
-element::put_longer_at-returns-in_err-place-clause-err t c =
-    let p = err_from_is_err_and c.from_residual-in_err-place.result c.from_residual-in_err-place.ensures.1 in rw (p.1, p.2) (λ k. place_ends (c.in_ok-container.ensures.value tt) (c.in_err-place.ensures.meaning k))
-
-pub element::put_longer_at-returns-in_err-longer-clause-err : goal.element::put_longer_at-returns-in_err-longer-clause-err
-element::put_longer_at-returns-in_err-longer-clause-err t c =
-    let p = err_from_is_err_and c.from_residual-in_err-longer.result c.from_residual-in_err-longer.ensures.1 in rw (p.1, p.2) (λ k. value_ends (c.in_ok-container.ensures.value tt) (c.in_ok-place.ensures.meaning tt) (c.in_err-longer.ensures.err k))
-
-pub element::put_longer_at-returns-in_err-set_deferred_at-clause-err : goal.element::put_longer_at-returns-in_err-set_deferred_at-clause-err
-element::put_longer_at-returns-in_err-set_deferred_at-clause-err t c =
-    let p = err_from_is_err_and c.from_residual-in_err-set_deferred_at.result c.from_residual-in_err-set_deferred_at.ensures.1 in
-    rw (p.1, p.2) (λ k. subst (λ s. Computes Faults (context_of c.args.stack.now None) (sets_place c.args.name.now (source c.args.place.now) (source c.args.value.now)) (state_of c.args.task.now c.args.world.now c.args.active.now) (Err (failure_of c.in_err-set_deferred_at.field-0.0)) s) (same_state (sym (c.in_err-set_deferred_at.ensures.kept k)) refl) (not_put (c.in_ok-container.ensures.value tt) (c.in_ok-place.ensures.meaning tt) c.in_ok-longer.ensures.ok (c.in_err-set_deferred_at.ensures.err k)))
-
-pub property_element::put_longer_element-returns-in_err-base-clause-err : goal.property_element::put_longer_element-returns-in_err-base-clause-err
-property_element::put_longer_element-returns-in_err-base-clause-err t c =
-    let p = err_from_is_err_and c.from_residual.result c.from_residual.ensures.1 in rw (p.1, p.2) (λ k. object_stops_part (c.in_err-base.ensures.meaning k))
-
-pub property_element::put_longer_element-returns-in_err-take_tick-clause-err : goal.property_element::put_longer_element-returns-in_err-take_tick-clause-err
-property_element::put_longer_element-returns-in_err-take_tick-clause-err t c =
-    let p = err_from_is_err_and c.from_residual-in_err-take_tick.result c.from_residual-in_err-take_tick.ensures.1 in rw (p.1, p.2) (λ k. let h = c.in_err-take_tick.ensures.spent k in rw (c.in_err-take_tick.ensures.kept, h.1) (name_stops_part (c.in_ok-base.ensures.meaning tt) (spent h.0)))
-
-pub property_element::put_longer_element-returns-in_err-container-clause-err : goal.property_element::put_longer_element-returns-in_err-container-clause-err
-property_element::put_longer_element-returns-in_err-container-clause-err t c =
-    let p = err_from_is_err_and c.from_residual-in_err-container.result c.from_residual-in_err-container.ensures.1 in rw (p.1, p.2) (λ k. let f : SFits w32 c.evaluate.new.active.programmer = search rules in rw c.in_ok-take_tick.ensures.left (unread_part (c.in_ok-base.ensures.meaning tt) (literal_read c.in_ok-take_tick.ensures.taken) (rw (to_z-of_z w32 c.evaluate.new.active.programmer f) at (c.in_err-container.ensures.value k))))
-
-pub property_element::put_longer_element-returns-in_err-place-clause-err : goal.property_element::put_longer_element-returns-in_err-place-clause-err
-property_element::put_longer_element-returns-in_err-place-clause-err t c =
-    let p = err_from_is_err_and c.from_residual-in_err-place.result c.from_residual-in_err-place.ensures.1 in rw (p.1, p.2) (λ k. let f : SFits w32 c.evaluate.new.active.programmer = search rules in place_stops_part (c.in_ok-base.ensures.meaning tt) (literal_read c.in_ok-take_tick.ensures.taken) (rw (to_z-of_z w32 c.evaluate.new.active.programmer f) at (c.in_ok-container.ensures.value tt)) (rw c.in_ok-take_tick.ensures.left at (c.in_err-place.ensures.meaning k)))
-
-pub property_element::put_longer_element-returns-in_err-longer-clause-err : goal.property_element::put_longer_element-returns-in_err-longer-clause-err
-property_element::put_longer_element-returns-in_err-longer-clause-err t c =
-    let p = err_from_is_err_and c.from_residual-in_err-longer.result c.from_residual-in_err-longer.ensures.1 in rw (p.1, p.2) (λ k. let f : SFits w32 c.evaluate.new.active.programmer = search rules in value_stops_part (c.in_ok-base.ensures.meaning tt) (literal_read c.in_ok-take_tick.ensures.taken) (rw (to_z-of_z w32 c.evaluate.new.active.programmer f) at (c.in_ok-container.ensures.value tt)) (rw c.in_ok-take_tick.ensures.left at (c.in_ok-place.ensures.meaning tt)) (c.in_err-longer.ensures.err k))
-
-pub property_element::put_longer_element-returns-clause-ok : goal.property_element::put_longer_element-returns-clause-ok
-property_element::put_longer_element-returns-clause-ok t c =
-    known_put (deferred_tree c.in_ok-longer.longer) c.set_property_deferred_at.result (λ k. let f : SFits w32 c.evaluate.new.active.programmer = search rules in let g : SFits w32 c.evaluate_deferred.new.active.programmer = search rules in part_put (c.in_ok-base.ensures.meaning tt) (literal_read c.in_ok-take_tick.ensures.taken) (rw (to_z-of_z w32 c.evaluate.new.active.programmer f) at (c.in_ok-container.ensures.value tt)) (rw c.in_ok-take_tick.ensures.left at (c.in_ok-place.ensures.meaning tt)) c.in_ok-longer.ensures.ok (part_stored _ c.set_property_deferred_at.result refl (rw (to_z-of_z w32 c.evaluate_deferred.new.active.programmer g) at (c.set_property_deferred_at.ensures.world k)) c.set_property_deferred_at.ensures.kept k))
-
-pub property_element::put_longer_element-returns-clause-err : goal.property_element::put_longer_element-returns-clause-err
-property_element::put_longer_element-returns-clause-err t c =
-    known_refused (deferred_tree c.in_ok-longer.longer) c.set_property_deferred_at.result (λ k. let f : SFits w32 c.evaluate.new.active.programmer = search rules in let g : SFits w32 c.evaluate_deferred.new.active.programmer = search rules in part_put (c.in_ok-base.ensures.meaning tt) (literal_read c.in_ok-take_tick.ensures.taken) (rw (to_z-of_z w32 c.evaluate.new.active.programmer f) at (c.in_ok-container.ensures.value tt)) (rw c.in_ok-take_tick.ensures.left at (c.in_ok-place.ensures.meaning tt)) c.in_ok-longer.ensures.ok (part_stored _ c.set_property_deferred_at.result refl (rw (to_z-of_z w32 c.evaluate_deferred.new.active.programmer g) at (c.set_property_deferred_at.ensures.world k)) c.set_property_deferred_at.ensures.kept k))
-
-pub property_element::set_property_element-returns-then-is_longer_list-clause-meaning : goal.property_element::set_property_element-returns-then-is_longer_list-clause-meaning
-property_element::set_property_element-returns-then-is_longer_list-clause-meaning t c =
-    λ k. c.end_statement.ensures _ _ _ c.in_ok-take_tick.ensures.taken (rw c.in_ok-take_tick.ensures.left at c.put_longer_element-done.ensures.ok) (rw c.in_ok-take_tick.ensures.left at c.put_longer_element-done.ensures.err) k
-
-pub element::set_element-returns-then-is_longer_list-clause-meaning : goal.element::set_element-returns-then-is_longer_list-clause-meaning
-element::set_element-returns-then-is_longer_list-clause-meaning t c =
-    λ k. does_from (c.in_ok-is_longer.ensures.kept c.if-is_longer.false c.args.world.now) (c.end_statement.ensures _ _ _ c.in_ok-take_tick.ensures.taken (on_ok_weaker c.put_longer_at-done.result (λ h. (_, h.computes)) (rw c.in_ok-take_tick.ensures.left at c.put_longer_at-done.ensures.ok)) (rw c.in_ok-take_tick.ensures.left at c.put_longer_at-done.ensures.err) k)
-
-pub assignment::assign_longer-returns-in_err-longer-clause-err : goal.assignment::assign_longer-returns-in_err-longer-clause-err
-assignment::assign_longer-returns-in_err-longer-clause-err t c =
-    let p = err_from_is_err_and c.from_residual.result c.from_residual.ensures.1 in rw (p.1, p.2) (λ k. c.in_err-longer.ensures.err k)
-
-pub assignment::assign-returns-in_err-assign_longer-in-Variable-clause-meaning : goal.assignment::assign-returns-in_err-assign_longer-in-Variable-clause-meaning
-assignment::assign-returns-in_err-assign_longer-in-Variable-clause-meaning t c =
-    let p = err_from_is_err_and c.from_residual.result c.from_residual.ensures.1 in rw (p.1, p.2) (λ k. rw c.in-Variable.is (unassigned (c.in_err-assign_longer-in-Variable.ensures.err k)))
-
-pub assignment::assign_value-returns-then-is_longer_list-clause-meaning : goal.assignment::assign_value-returns-then-is_longer_list-clause-meaning
-assignment::assign_value-returns-then-is_longer_list-clause-meaning t c =
-    λ k. let h = c.in_ok-assign_longer.ensures.ok in performed c.in_ok-take_tick.ensures.taken (assigned (rw c.in_ok-take_tick.ensures.left at h.1) h.2)
-
-pub assignment::assign_value-returns-in_err-assign_longer-clause-meaning : goal.assignment::assign_value-returns-in_err-assign_longer-clause-meaning
-assignment::assign_value-returns-in_err-assign_longer-clause-meaning t c =
-    let p = err_from_is_err_and c.from_residual-in_err-assign_longer.result c.from_residual-in_err-assign_longer.ensures.1 in rw (p.1, p.2) (λ k. unperformed c.in_ok-take_tick.ensures.taken (unassigned (rw c.in_ok-take_tick.ensures.left at (c.in_err-assign_longer.ensures.err k))))
 
 pub deferred::evaluate_deferred-returns-in_err-take_tick-clause-err : goal.deferred::evaluate_deferred-returns-in_err-take_tick-clause-err
 deferred::evaluate_deferred-returns-in_err-take_tick-clause-err t c =
@@ -1711,30 +1618,83 @@ pub deferred::evaluate_deferred-returns-in_err-take_tick-2-clause-err : goal.def
 deferred::evaluate_deferred-returns-in_err-take_tick-2-clause-err t c =
     let p = err_from_is_err_and c.from_residual-in_err-take_tick-2.result c.from_residual-in_err-take_tick-2.ensures.1 in rw (p.1, p.2) (λ k. let h = c.in_err-take_tick-2.ensures.spent k in rw (c.in_err-take_tick-2.ensures.kept, h.1) (spent h.0))
 
-pub deferred::evaluate_deferred-returns-in-Ok-clause-ok : goal.deferred::evaluate_deferred-returns-in-Ok-clause-ok
-deferred::evaluate_deferred-returns-in-Ok-clause-ok t c =
-    rw c.in-Some.ensures (begins c.in_ok-take_tick-2.ensures.taken (rw c.in_ok-take_tick-2.ensures.left at c.in-Ok.ensures.ok) refl)
+pub element::put_at-returns-then-is_longer_list-clause-ok : goal.element::put_at-returns-then-is_longer_list-clause-ok
+element::put_at-returns-then-is_longer_list-clause-ok t c =
+    let h = c.in_ok-set_deferred_at.ensures.ok in put (c.in_ok-container.ensures.value tt) (c.in_ok-place.ensures.meaning tt) c.in_ok-longer.ensures.ok h.1 (same_state (sym h.2) refl)
 
-pub deferred::evaluate_deferred-returns-in_ok-settled-in-Err-clause-ok : goal.deferred::evaluate_deferred-returns-in_ok-settled-in-Err-clause-ok
-deferred::evaluate_deferred-returns-in_ok-settled-in-Err-clause-ok t c =
-    rw c.in-Some.ensures (begins c.in_ok-take_tick-2.ensures.taken (rw c.in_ok-take_tick-2.ensures.left at (c.in-Err.ensures.err (c.in_ok-settled-in-Err.ensures.known tt))) (c.in_ok-settled-in-Err.ensures.outcome tt))
+pub element::put_at-returns-in_err-longer-clause-err : goal.element::put_at-returns-in_err-longer-clause-err
+element::put_at-returns-in_err-longer-clause-err t c =
+    let p = err_from_is_err_and c.from_residual-in_err-longer.result c.from_residual-in_err-longer.ensures.1 in rw (p.1, p.2) (λ k. value_ends (c.in_ok-container.ensures.value tt) (c.in_ok-place.ensures.meaning tt) (c.in_err-longer.ensures.err k))
 
-pub deferred::evaluate_deferred-returns-in_err-settled-in-Err-clause-err : goal.deferred::evaluate_deferred-returns-in_err-settled-in-Err-clause-err
-deferred::evaluate_deferred-returns-in_err-settled-in-Err-clause-err t c =
-    let p = err_from_is_err_and c.from_residual-in_err-settled-in-Err.result c.from_residual-in_err-settled-in-Err.ensures.1 in rw (p.1, p.2) (λ k. rw c.in-Some.ensures (begins c.in_ok-take_tick-2.ensures.taken (rw c.in_ok-take_tick-2.ensures.left at (c.in-Err.ensures.err (c.in_err-settled-in-Err.ensures.known k))) (c.in_err-settled-in-Err.ensures.outcome k)))
+pub element::put_at-returns-in_err-set_deferred_at-clause-err : goal.element::put_at-returns-in_err-set_deferred_at-clause-err
+element::put_at-returns-in_err-set_deferred_at-clause-err t c =
+    let p = err_from_is_err_and c.from_residual-in_err-set_deferred_at.result c.from_residual-in_err-set_deferred_at.ensures.1 in
+    rw (p.1, p.2) (λ k. subst (λ s. Computes Faults (context_of c.args.stack.now None) (sets_place c.args.name.now (source c.args.place.now) (source c.args.value.now)) (state_of c.args.task.now c.args.world.now c.args.active.now) (Err (failure_of c.in_err-set_deferred_at.field-0.0)) s) (same_state (sym (c.in_err-set_deferred_at.ensures.kept k)) refl) (not_put (c.in_ok-container.ensures.value tt) (c.in_ok-place.ensures.meaning tt) c.in_ok-longer.ensures.ok (c.in_err-set_deferred_at.ensures.err k)))
 
-pub assignment::assign_longer-returns-clause-ok : goal.assignment::assign_longer-returns-clause-ok
-assignment::assign_longer-returns-clause-ok t c =
-    rw c.in_ok-set_deferred.ensures.value (_, c.in_ok-longer.ensures.ok, same_state (sym c.in_ok-set_deferred.ensures.set) refl)
+pub property_element::put_property_element-returns-in_err-longer-clause-err : goal.property_element::put_property_element-returns-in_err-longer-clause-err
+property_element::put_property_element-returns-in_err-longer-clause-err t c =
+    let p = err_from_is_err_and c.from_residual-in_err-longer.result c.from_residual-in_err-longer.ensures.1 in rw (p.1, p.2) (λ k. let f : SFits w32 c.evaluate.new.active.programmer = search rules in value_stops_part (c.in_ok-base.ensures.meaning tt) (literal_read c.in_ok-take_tick.ensures.taken) (rw (to_z-of_z w32 c.evaluate.new.active.programmer f) at (c.in_ok-container.ensures.value tt)) (rw c.in_ok-take_tick.ensures.left at (c.in_ok-place.ensures.meaning tt)) (c.in_err-longer.ensures.err k))
+
+pub property_element::put_property_element-returns-then-is_longer_list-clause-ok : goal.property_element::put_property_element-returns-then-is_longer_list-clause-ok
+property_element::put_property_element-returns-then-is_longer_list-clause-ok t c =
+    known_put (deferred_tree c.in_ok-longer.longer) c.set_property_deferred_at.result (λ k. let f : SFits w32 c.evaluate.new.active.programmer = search rules in let g : SFits w32 c.evaluate_deferred.new.active.programmer = search rules in part_put (c.in_ok-base.ensures.meaning tt) (literal_read c.in_ok-take_tick.ensures.taken) (rw (to_z-of_z w32 c.evaluate.new.active.programmer f) at (c.in_ok-container.ensures.value tt)) (rw c.in_ok-take_tick.ensures.left at (c.in_ok-place.ensures.meaning tt)) c.in_ok-longer.ensures.ok (part_stored _ c.set_property_deferred_at.result refl (rw (to_z-of_z w32 c.evaluate_deferred.new.active.programmer g) at (c.set_property_deferred_at.ensures.world k)) c.set_property_deferred_at.ensures.kept k))
+
+pub property_element::put_property_element-returns-then-is_longer_list-clause-err : goal.property_element::put_property_element-returns-then-is_longer_list-clause-err
+property_element::put_property_element-returns-then-is_longer_list-clause-err t c =
+    known_refused (deferred_tree c.in_ok-longer.longer) c.set_property_deferred_at.result (λ k. let f : SFits w32 c.evaluate.new.active.programmer = search rules in let g : SFits w32 c.evaluate_deferred.new.active.programmer = search rules in part_put (c.in_ok-base.ensures.meaning tt) (literal_read c.in_ok-take_tick.ensures.taken) (rw (to_z-of_z w32 c.evaluate.new.active.programmer f) at (c.in_ok-container.ensures.value tt)) (rw c.in_ok-take_tick.ensures.left at (c.in_ok-place.ensures.meaning tt)) c.in_ok-longer.ensures.ok (part_stored _ c.set_property_deferred_at.result refl (rw (to_z-of_z w32 c.evaluate_deferred.new.active.programmer g) at (c.set_property_deferred_at.ensures.world k)) c.set_property_deferred_at.ensures.kept k))
 
 pub assignment::assign-returns-then-is_longer_list-clause-meaning : goal.assignment::assign-returns-then-is_longer_list-clause-meaning
 assignment::assign-returns-then-is_longer_list-clause-meaning t c =
-    λ k. let h = c.in_ok-assign_longer-in-Variable.ensures.ok in rw c.in-Variable.is (assigned h.1 h.2)
+    λ k. rw (c.in-Variable.is, c.in_ok-set_deferred-in-Variable.ensures.value) (assigned c.in_ok-longer-in-Variable.ensures.ok (same_state (sym c.in_ok-set_deferred-in-Variable.ensures.set) refl))
 
-pub setting::compute_changed-returns-in-Some-clause-ok : goal.setting::compute_changed-returns-in-Some-clause-ok
-setting::compute_changed-returns-in-Some-clause-ok t c =
-    let f : SFits w32 c.compute_longer.new.active.programmer = search rules in rw (c.in-Some.ensures, c.in_ok-into_list.ensures) (record { between = c.compute_longer.new.world; holds = c.in_ok-longer.ensures.ok; alike = rw (to_z-of_z w32 c.compute_longer.new.active.programmer f) at c.drop_written.ensures })
+pub assignment::assign-returns-in_err-longer-in-Variable-clause-meaning : goal.assignment::assign-returns-in_err-longer-in-Variable-clause-meaning
+assignment::assign-returns-in_err-longer-in-Variable-clause-meaning t c =
+    let p = err_from_is_err_and c.from_residual.result c.from_residual.ensures.1 in rw (p.1, p.2) (λ k. rw c.in-Variable.is (unassigned (c.in_err-longer-in-Variable.ensures.err k)))
 
-pub setting::compute_changed-returns-in_err-longer-clause-err : goal.setting::compute_changed-returns-in_err-longer-clause-err
-setting::compute_changed-returns-in_err-longer-clause-err t c =
-    let p = err_from_is_err_and c.from_residual.result c.from_residual.ensures.1 in rw (p.1, p.2) (λ k. rw c.in-Some.ensures (c.in_err-longer.ensures.err k))
+pub assignment::assign_value-returns-then-is_longer_list-clause-meaning : goal.assignment::assign_value-returns-then-is_longer_list-clause-meaning
+assignment::assign_value-returns-then-is_longer_list-clause-meaning t c =
+    λ k. performed c.in_ok-take_tick.ensures.taken (assigned (rw c.in_ok-take_tick.ensures.left at c.in_ok-longer.ensures.ok) (same_state (sym c.in_ok-set_deferred.ensures.set) refl))
+
+pub assignment::assign_value-returns-in_err-longer-clause-meaning : goal.assignment::assign_value-returns-in_err-longer-clause-meaning
+assignment::assign_value-returns-in_err-longer-clause-meaning t c =
+    let p = err_from_is_err_and c.from_residual-in_err-longer.result c.from_residual-in_err-longer.ensures.1 in rw (p.1, p.2) (λ k. unperformed c.in_ok-take_tick.ensures.taken (unassigned (rw c.in_ok-take_tick.ensures.left at (c.in_err-longer.ensures.err k))))
+
+pub deferred::evaluate_deferred-returns-in_err-found-clause-err : goal.deferred::evaluate_deferred-returns-in_err-found-clause-err
+deferred::evaluate_deferred-returns-in_err-found-clause-err t c =
+    let p = err_from_is_err_and c.from_residual-in_err-found.result c.from_residual-in_err-found.ensures.1 in rw (p.1, p.2) (λ k. rw c.in-Some.ensures (begins c.in_ok-take_tick-2.ensures.taken (rw c.in_ok-take_tick-2.ensures.left at (first_stops {e = source c.in-Some.last.now} (c.in_err-found.ensures.meaning k))) refl))
+
+pub deferred::evaluate_deferred-returns-in_err-last-clause-err : goal.deferred::evaluate_deferred-returns-in_err-last-clause-err
+deferred::evaluate_deferred-returns-in_err-last-clause-err t c =
+    let p = err_from_is_err_and c.from_residual-in_err-last.result c.from_residual-in_err-last.ensures.1 in rw (p.1, p.2) (λ k. rw c.in-Some.ensures (begins c.in_ok-take_tick-2.ensures.taken (rw c.in_ok-take_tick-2.ensures.left at (second_stops c.in-List.list (rw c.in-List.is at (c.in_ok-found.ensures.meaning tt)) (c.in_err-last.ensures.meaning k))) refl))
+
+pub setting::evaluate_changed-returns-in-Value-clause-ok : goal.setting::evaluate_changed-returns-in-Value-clause-ok
+setting::evaluate_changed-returns-in-Value-clause-ok t c =
+    value_reached _ _ (Ok c.in-Value.value) (λ k. rw c.in-Value.is at c.in_ok-value.ensures.ok)
+
+pub setting::evaluate_changed-returns-in_ok-into_list-in-Longer-clause-ok : goal.setting::evaluate_changed-returns-in_ok-into_list-in-Longer-clause-ok
+setting::evaluate_changed-returns-in_ok-into_list-in-Longer-clause-ok t c =
+    let f : SFits w32 c.evaluate_deferred.new.active.programmer = search rules in rw c.in_ok-into_list-in-Longer.ensures (record { between = c.evaluate_deferred.new.world; holds = rw c.in-Longer.is at c.in_ok-value.ensures.ok; alike = rw (to_z-of_z w32 c.evaluate_deferred.new.active.programmer f) at c.drop_written.ensures })
+
+pub deferred::evaluate_deferred-returns-in_default-found-clause-ok : goal.deferred::evaluate_deferred-returns-in_default-found-clause-ok
+deferred::evaluate_deferred-returns-in_default-found-clause-ok t c =
+    rw c.in-Some.ensures (begins c.in_ok-take_tick-2.ensures.taken (rw c.in_ok-take_tick-2.ensures.left at (first_fails {e = source c.in-Some.last.now} (c.in_ok-found.ensures.meaning tt) (unspliced _ c.in_default-found.not-List))) (c.in_ok-settled.ensures.outcome tt))
+
+pub deferred::evaluate_deferred-returns-in_err-settled-clause-err : goal.deferred::evaluate_deferred-returns-in_err-settled-clause-err
+deferred::evaluate_deferred-returns-in_err-settled-clause-err t c =
+    let p = err_from_is_err_and c.from_residual-in_err-settled.result c.from_residual-in_err-settled.ensures.1 in rw (p.1, p.2) (λ k. rw c.in-Some.ensures (begins c.in_ok-take_tick-2.ensures.taken (rw c.in_ok-take_tick-2.ensures.left at (first_fails {e = source c.in-Some.last.now} (c.in_ok-found.ensures.meaning tt) (unspliced _ c.in_default-found.not-List))) (c.in_err-settled.ensures.outcome k)))
+
+pub deferred::evaluate_deferred-returns-in_ok-settled-in-None-clause-ok : goal.deferred::evaluate_deferred-returns-in_ok-settled-in-None-clause-ok
+deferred::evaluate_deferred-returns-in_ok-settled-in-None-clause-ok t c =
+    rw c.in-Some.ensures (begins c.in_ok-take_tick-2.ensures.taken (rw c.in_ok-take_tick-2.ensures.left at (too_long c.in-List.list (rw c.in-List.is at (c.in_ok-found.ensures.meaning tt)) (c.in_ok-last.ensures.meaning tt) (ap answers c.in-None.ensures.none))) (c.in_ok-settled-in-None.ensures.outcome tt))
+
+pub deferred::evaluate_deferred-returns-in_err-settled-in-None-clause-err : goal.deferred::evaluate_deferred-returns-in_err-settled-in-None-clause-err
+deferred::evaluate_deferred-returns-in_err-settled-in-None-clause-err t c =
+    let p = err_from_is_err_and c.from_residual-in_err-settled-in-None.result c.from_residual-in_err-settled-in-None.ensures.1 in rw (p.1, p.2) (λ k. rw c.in-Some.ensures (begins c.in_ok-take_tick-2.ensures.taken (rw c.in_ok-take_tick-2.ensures.left at (too_long c.in-List.list (rw c.in-List.is at (c.in_ok-found.ensures.meaning tt)) (c.in_ok-last.ensures.meaning tt) (ap answers c.in-None.ensures.none))) (c.in_err-settled-in-None.ensures.outcome k)))
+
+pub deferred::evaluate_deferred-returns-in-Some-new-clause-ok : goal.deferred::evaluate_deferred-returns-in-Some-new-clause-ok
+deferred::evaluate_deferred-returns-in-Some-new-clause-ok t c =
+    rw c.in-Some.ensures (begins c.in_ok-take_tick-2.ensures.taken (rw c.in_ok-take_tick-2.ensures.left at (longer c.in-List.list (rw c.in-List.is at (c.in_ok-found.ensures.meaning tt)) (c.in_ok-last.ensures.meaning tt) c.in-Some-new.ensures.some)) refl)
+
+pub setting::evaluate_changed-returns-in_err-value-clause-err : goal.setting::evaluate_changed-returns-in_err-value-clause-err
+setting::evaluate_changed-returns-in_err-value-clause-err t c =
+    let p = err_from_is_err_and c.from_residual.result c.from_residual.ensures.1 in rw (p.1, p.2) (λ k. c.in_err-value.ensures.err k)

@@ -282,10 +282,10 @@ abbrev pub decreases-property_element::put_property_element : goal.decreases-pro
 decreases-property_element::put_property_element l = 16 * l.task.now.ticks_left + 4
 
 abbrev pub decreases-setting::evaluate_to_set : goal.decreases-setting::evaluate_to_set
-decreases-setting::evaluate_to_set l = 16 * l.task.now.ticks_left + 5
+decreases-setting::evaluate_to_set l = 16 * l.task.now.ticks_left + 7
 
 abbrev pub decreases-setting::evaluate_changed : goal.decreases-setting::evaluate_changed
-decreases-setting::evaluate_changed l = 16 * l.task.now.ticks_left + 4
+decreases-setting::evaluate_changed l = 16 * l.task.now.ticks_left + 6
 
 abbrev pub decreases-setting::compute_changed : goal.decreases-setting::compute_changed
 decreases-setting::compute_changed l = 16 * l.task.now.ticks_left + 15
@@ -413,15 +413,3 @@ decreases-loops::count-numbers l = l.task.ticks_left
 
 abbrev pub decreases-deferred::evaluate_deferred : goal.decreases-deferred::evaluate_deferred
 decreases-deferred::evaluate_deferred l = 16 * l.task.now.ticks_left + 5
-
-abbrev pub decreases-deferred::compute_longer : goal.decreases-deferred::compute_longer
-decreases-deferred::compute_longer l = 16 * l.task.now.ticks_left + 4
-
-abbrev pub decreases-element::put_longer_at : goal.decreases-element::put_longer_at
-decreases-element::put_longer_at l = 16 * l.task.now.ticks_left + 6
-
-abbrev pub decreases-property_element::put_longer_element : goal.decreases-property_element::put_longer_element
-decreases-property_element::put_longer_element l = 16 * l.task.now.ticks_left + 4
-
-abbrev pub decreases-assignment::assign_longer : goal.decreases-assignment::assign_longer
-decreases-assignment::assign_longer l = 16 * l.task.now.ticks_left + 6

@@ -47,8 +47,9 @@ pub fn push(values: &mut Vec<Value>, value: Value) -> Result<(), AllocError>
 pub(crate) fn append(values: &mut Vec<Value>, more: &[Value]) -> Result<(), AllocError>
     ensures { OnOk result (values.new.items ≡ values.old.items ++ more.now) }
 {
+    values.reserve(more.len())?;
     for value in more {
-        values.push(value.try_clone()?)?;
+        values.push_reserved(value.try_clone()?);
     }
     Ok(())
 }

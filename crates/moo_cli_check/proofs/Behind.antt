@@ -17,14 +17,14 @@ use Rattle.moo_dbtext_read.specs.Faults.{told_kind}
 use Rattle.moo_dbtext_read.specs.Reading.{ended_between, verb_at}
 use Rattle.moo_dbtext_read.proofs.Behind.{taken_going, taken_between, part_sources, line_passes, still_sources, program_stands, IsAtDot}
 use Rattle.moo_cli_check.specs.Survey.{IsRefusedProgram, AreRefusedBetween, IsToldOf}
-use Rattle.moo_cli_check.specs.Reading.{IsBehind, IsNoted}
+use Rattle.moo_cli_check.specs.Reading.{IsAfter, IsNoted}
 use Rattle.moo_cli_check.specs.declared.survey.Survey.{Survey}
 use Rattle.moo_cli_check.proofs.Noted.{known_kind, between_on, between_later, between_push, told_front, told_last}
 
 abbrev IsProgram : List Line → Type 0
 IsProgram source = (b : Block) × IsParsed Any source b
 
-pub behind_nothing : (r : Survey) → IsGoing r.records → HasTaken r.records [] → r.faults.items ≡ [] → IsBehind r []
+pub behind_nothing : (r : Survey) → IsGoing r.records → HasTaken r.records [] → r.faults.items ≡ [] → IsAfter r []
 unfolding taken_on
 behind_nothing r going taken none = record {
   going = going;
@@ -37,8 +37,8 @@ behind_nothing r going taken none = record {
     same = let ok : Taken → Result Taken Told = λ x. Ok x in let e : ok begin ≡ ok (taken_of r.records) = taken_going r.records [] going taken in cc
 
 -- nothing is noted of a piece that ends no program
-still : (old new : Survey) (bytes piece : List ℕ) (h : IsBehind old bytes) → IsGoing new.records → (at : IsAt new.records (bytes ++ piece)) → h.at.state.lines ≤ at.state.lines
-    → ((o v : ℕ) → entry_at at.state.progress.text.programs o v ≡ entry_at h.at.state.progress.text.programs o v) → new.faults ≡ old.faults → IsBehind new (bytes ++ piece)
+still : (old new : Survey) (bytes piece : List ℕ) (h : IsAfter old bytes) → IsGoing new.records → (at : IsAt new.records (bytes ++ piece)) → h.at.state.lines ≤ at.state.lines
+    → ((o v : ℕ) → entry_at at.state.progress.text.programs o v ≡ entry_at h.at.state.progress.text.programs o v) → new.faults ≡ old.faults → IsAfter new (bytes ++ piece)
 still old new bytes piece h on at le same kept =
     let es : new.faults.items ≡ old.faults.items = ap (λ x. x.items) kept in
     record {
@@ -49,7 +49,7 @@ still old new bytes piece h on at le same kept =
       others = λ o v source e. subst (λ (l : List DbFault). IsToldOf o v l ⊎ IsProgram source) (sym es) (h.others o v source (sym (same o v) ∙ e));
     }
 
-pub behind_part : (old new : Survey) (bytes part : List ℕ) → HasNoEnd part → IsBehind old bytes → IsGoing new.records → taken_on limited (taken_of old.records) part ≡ Ok (taken_of new.records) → new.faults ≡ old.faults → IsBehind new (bytes ++ part)
+pub behind_part : (old new : Survey) (bytes part : List ℕ) → HasNoEnd part → IsAfter old bytes → IsGoing new.records → taken_on limited (taken_of old.records) part ≡ Ok (taken_of new.records) → new.faults ≡ old.faults → IsAfter new (bytes ++ part)
 behind_part old new bytes part clean h on e kept =
     let at = at_on old.records new.records bytes part h.at e in
     let same = part_sources bytes part h.at.state at.state clean h.at.leads at.leads in
@@ -59,7 +59,7 @@ behind_part old new bytes part clean h on e kept =
 ended_alike : (s t l m : Progress) → AreAlike s l → AreAlike t m → ended_between (verb_read s.section s) (verb_read t.section t) ≡ ended_between (verb_read l.section l) (verb_read m.section m)
 ended_alike s t l m h k = ap (λ (x : Option (ℕ × ℕ)). ended_between x (verb_read t.section t)) (reads_alike s l h) ∙ ap (ended_between (verb_read l.section l)) (reads_alike t m k)
 
-pub behind_still : (old new : Survey) (bytes line : List ℕ) → IsWholeLine line → IsBehind old bytes → IsGoing new.records → taken_on limited (taken_of old.records) line ≡ Ok (taken_of new.records) → ended_between (verb_at old.records) (verb_at new.records) ≡ None → new.faults ≡ old.faults → IsBehind new (bytes ++ line)
+pub behind_still : (old new : Survey) (bytes line : List ℕ) → IsWholeLine line → IsAfter old bytes → IsGoing new.records → taken_on limited (taken_of old.records) line ≡ Ok (taken_of new.records) → ended_between (verb_at old.records) (verb_at new.records) ≡ None → new.faults ≡ old.faults → IsAfter new (bytes ++ line)
 behind_still old new bytes line whole h on e none kept =
     let at = at_on old.records new.records bytes line h.at e in
     let s = h.at.state in
@@ -79,7 +79,7 @@ same_or_apart i o j v = decide (eqb i o) refl (eqb j v) refl
 
 -- ---- the dot that ends a program
 
-module _ (old new : Survey) (middle : RecordReader) (bytes line : List ℕ) (o v : ℕ) (h : IsBehind old bytes) (d : IsAtDot old.records middle bytes line h.at o v) where
+module _ (old new : Survey) (middle : RecordReader) (bytes line : List ℕ) (o v : ℕ) (h : IsAfter old bytes) (d : IsAtDot old.records middle bytes line h.at o v) where
   abbrev pub source : List Line
   source = h.at.state.progress.source
 
@@ -98,7 +98,7 @@ module _ (old new : Survey) (middle : RecordReader) (bytes line : List ℕ) (o v
     | inr apart ↦ grows i j x (h.others i j x (sym (d.ends.ended.others i j (λ a b. apart (a ∙ d.ends.object) (b ∙ d.ends.verb))) ∙ e))
   ]
 
-  pub behind_ended : IsGoing new.records → AreAlikeTaken (taken_of middle) (taken_of new.records) → IsNoted old.faults.items new.faults.items (taken_of middle).lines o v source → IsBehind new (bytes ++ line)
+  pub behind_ended : IsGoing new.records → AreAlikeTaken (taken_of middle) (taken_of new.records) → IsNoted old.faults.items new.faults.items (taken_of middle).lines o v source → IsAfter new (bytes ++ line)
   behind_ended on dropped (inl sound) = record {
     going = on;
     at = record { state = d.after.state; leads = d.after.leads; alike = alike_then d.after.state (taken_of middle) (taken_of new.records) d.after.alike dropped };

@@ -14,12 +14,12 @@ use Rattle.moo_dbtext_record.specs.declared.fault.DbFault.{DbFault}
 use Rattle.moo_dbtext_record.proofs.TakenLaws.{taken_on-append, rest_taken}
 use Rattle.moo_dbtext_record.proofs.Standing.{stands_on, stand_so, stand_ends, taken_ends, line_fault, told_behind, sources_stand}
 use Rattle.moo_cli_check.specs.Survey.{AreTheRefused, IsSurvey}
-use Rattle.moo_cli_check.specs.Reading.{IsBehind, IsEnded, IsWholly, Surveys, SurveysOn}
+use Rattle.moo_cli_check.specs.Reading.{IsAfter, IsEnded, IsWholly, Surveys, SurveysOn}
 use Rattle.moo_cli_check.specs.declared.survey.Survey.{Survey}
 use Rattle.moo_cli_check.proofs.Noted.{between_on}
 
 -- if no line of the bytes comes after what was taken
-all_looked_at : (r : Survey) (bytes more : List ℕ) (h : IsBehind r bytes) → ((n : ℕ) → Stand limited n (bytes ++ more) → n ≤ h.at.state.lines) → AreTheRefused (bytes ++ more) r.faults.items
+all_looked_at : (r : Survey) (bytes more : List ℕ) (h : IsAfter r bytes) → ((n : ℕ) → Stand limited n (bytes ++ more) → n ≤ h.at.state.lines) → AreTheRefused (bytes ++ more) r.faults.items
 all_looked_at r bytes more h few =
     let s = h.at.state in
     let so = stand_so limited bytes s h.at.leads in
@@ -33,7 +33,7 @@ all_looked_at r bytes more h few =
 
 -- ---- on the way
 
-taken_from : (r : Survey) (bytes more : List ℕ) (h : IsBehind r bytes) → taken_on limited begin (bytes ++ more) ≡ taken_on limited h.at.state more
+taken_from : (r : Survey) (bytes more : List ℕ) (h : IsAfter r bytes) → taken_on limited begin (bytes ++ more) ≡ taken_on limited h.at.state more
 taken_from r bytes more h = taken_on-append limited begin bytes more ∙ ap (λ (x : Result Taken Told). and_then x (λ t. taken_on limited t more)) h.at.leads
 
 answer_stops : (bytes more : List ℕ) (d : Told) → taken_on limited begin bytes ≡ Err d → answer_to limited (bytes ++ more) ≡ Err d
@@ -41,7 +41,7 @@ unfolding answer_to
 answer_stops bytes more d e = ap (λ (x : Result Taken Told). and_then x finished) (taken_on-append limited begin bytes more ∙ ap (λ (x : Result Taken Told). and_then x (λ t. taken_on limited t more)) e)
 
 -- at the end of a line
-pub line_ended : (r : Survey) (bytes line : List ℕ) (f : RecordFault) → IsWholeLine line → IsBehind r bytes → Stops f (taken_on limited begin (bytes ++ line)) → IsEnded (bytes ++ line) r.faults.items (fault_of f)
+pub line_ended : (r : Survey) (bytes line : List ℕ) (f : RecordFault) → IsWholeLine line → IsAfter r bytes → Stops f (taken_on limited begin (bytes ++ line)) → IsEnded (bytes ++ line) r.faults.items (fault_of f)
 line_ended r bytes line f whole h stops = at f.kind refl stops
   where
     at : (k : Refusal) → f.kind ≡ k → StopsAt k f.line (taken_on limited begin (bytes ++ line)) → IsEnded (bytes ++ line) r.faults.items (fault_of f)
@@ -66,7 +66,7 @@ line_ended r bytes line f whole h stops = at f.kind refl stops
             }
 
 -- bytes without an end stop only if memory runs out
-pub part_ended : (r : Survey) (bytes part : List ℕ) (f : RecordFault) (es : List DbFault) → HasNoEnd part → IsBehind r bytes → Stops f (taken_on limited begin (bytes ++ part)) → IsEnded (bytes ++ part) es (fault_of f)
+pub part_ended : (r : Survey) (bytes part : List ℕ) (f : RecordFault) (es : List DbFault) → HasNoEnd part → IsAfter r bytes → Stops f (taken_on limited begin (bytes ++ part)) → IsEnded (bytes ++ part) es (fault_of f)
 part_ended r bytes part f es clean h stops = at f.kind refl stops
   where
     at : (k : Refusal) → f.kind ≡ k → StopsAt k f.line (taken_on limited begin (bytes ++ part)) → IsEnded (bytes ++ part) es (fault_of f)
@@ -90,17 +90,17 @@ surveys_stop r s front more e a = λ bytes h. subst (Surveys (Err e) s) (append_
 
 -- ---- at the end
 
-all_taken : (r : Survey) (bytes : List ℕ) → IsBehind r bytes → AreTheRefused bytes r.faults.items
+all_taken : (r : Survey) (bytes : List ℕ) → IsAfter r bytes → AreTheRefused bytes r.faults.items
 all_taken r bytes h =
     subst (λ (b : List ℕ). AreTheRefused b r.faults.items) (append-nil bytes) (all_looked_at r bytes [] h (λ n stand.
     let few = stand_ends limited n (bytes ++ []) stand in
     let count = taken_ends limited (bytes ++ []) begin h.at.state (ap (taken_on limited begin) (append-nil bytes) ∙ h.at.leads) in
     omega (arith, few, count)))
 
-pub whole_read : (r : Survey) (bytes : List ℕ) (t : Text) → IsBehind r bytes → answer_to limited bytes ≡ Ok t → IsWholly bytes r.faults.items None
+pub whole_read : (r : Survey) (bytes : List ℕ) (t : Text) → IsAfter r bytes → answer_to limited bytes ≡ Ok t → IsWholly bytes r.faults.items None
 whole_read r bytes t h answer = record { programs = all_taken r bytes h; end = (t, answer) }
 
-pub whole_stops : (r : Survey) (bytes : List ℕ) (f : RecordFault) → IsBehind r bytes → Stops f (answer_to limited bytes) → IsWholly bytes r.faults.items (Some (fault_of f))
+pub whole_stops : (r : Survey) (bytes : List ℕ) (f : RecordFault) → IsAfter r bytes → Stops f (answer_to limited bytes) → IsWholly bytes r.faults.items (Some (fault_of f))
 whole_stops r bytes f h stops = at f.kind refl stops
   where
     at : (k : Refusal) → f.kind ≡ k → StopsAt k f.line (answer_to limited bytes) → IsWholly bytes r.faults.items (Some (fault_of f))

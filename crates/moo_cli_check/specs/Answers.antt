@@ -6,7 +6,7 @@ use Rattle.moo_dbtext_read.specs.Loading.{LoadAnswers}
 use Rattle.moo_dbtext_read.specs.Feeding.{HasFed, IsWell}
 use Rattle.moo_dbtext_read.specs.declared.db_reader.DbReader.{DbReader}
 use Rattle.moo_cli_check.specs.Survey.{IsSurvey}
-use Rattle.moo_cli_check.specs.Reading.{IsBehind}
+use Rattle.moo_cli_check.specs.Reading.{IsAfter}
 use Rattle.moo_cli_check.specs.Shown.{is_of_program, AreRefusedForProgram}
 use Rattle.moo_cli_check.specs.declared.readers.Readers.{Readers}
 use Rattle.moo_cli_check.specs.declared.readers.Halt.{Halt}
@@ -17,7 +17,7 @@ use Rattle.moo_cli_check.specs.declared.readers.Answer.TheVariants as answer
 -- both have taken these bytes
 pub record HaveFed (r : Readers) (bytes : List ℕ) : Type 0 where
   pub check : HasFed r.check bytes
-  pub survey : IsBehind r.survey bytes
+  pub survey : IsAfter r.survey bytes
 
 -- no fault has come yet, or the bytes are refused for a program, however they go on
 abbrev pub GoesOn : DbReader → List ℕ → Type 0

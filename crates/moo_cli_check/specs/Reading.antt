@@ -14,7 +14,7 @@ use Rattle.moo_cli_check.specs.Survey.{AreRefusedBetween, IsToldOf, IsSurvey}
 use Rattle.moo_cli_check.specs.declared.survey.Survey.{Survey}
 
 -- The bytes are taken, and each program that has its dot in them is noted as refused or is one within the limits.
-pub record IsBehind (r : Survey) (bytes : List ℕ) : Type 0 where
+pub record IsAfter (r : Survey) (bytes : List ℕ) : Type 0 where
   pub going : IsGoing r.records
   pub at : IsAt r.records bytes
   pub refused : AreRefusedBetween bytes 0 at.state.lines r.faults.items
@@ -37,11 +37,11 @@ IsEnded bytes faults e = (e.kind ≡ kind.Memory) ⊎ IsStopped bytes faults e
 
 -- What a reader has done with bytes, given the result: it is in this state, or has ended.
 abbrev pub Surveys : Result ⊤ DbFault → Survey → List ℕ → Type 0
-Surveys result r bytes = MatchResult result (λ _. IsBehind r bytes) (IsEnded bytes r.faults.items)
+Surveys result r bytes = MatchResult result (λ _. IsAfter r bytes) (IsEnded bytes r.faults.items)
 
 -- From one state, more bytes lead to the result and to another state.
 abbrev pub SurveysOn : Survey → List ℕ → Result ⊤ DbFault → Survey → Type 0
-SurveysOn r more result s = (bytes : List ℕ) → IsBehind r bytes → Surveys result s (bytes ++ more)
+SurveysOn r more result s = (bytes : List ℕ) → IsAfter r bytes → Surveys result s (bytes ++ more)
 
 -- the report of the whole bytes, or memory ran out
 abbrev pub IsWholly : List ℕ → List DbFault → Option DbFault → Type 0

@@ -8,7 +8,7 @@ ghost use Rattle.moo_dbtext_record.specs.Programs.{entry_at};
 ghost use Rattle.moo_dbtext_record.specs.Sparing.{AreAlikeTaken};
 ghost use Rattle.moo_dbtext_record.specs.Answer.{IsGoing, taken_of};
 ghost use Rattle.moo_dbtext_read.specs.Reading.{IsSourceRefused, sources_at};
-ghost use Rattle.moo_cli_check.specs.Reading.{IsBehind, IsNoted, IsEnded, IsWholly, SurveysOn};
+ghost use Rattle.moo_cli_check.specs.Reading.{IsAfter, IsNoted, IsEnded, IsWholly, SurveysOn};
 
 use moo_dbtext_read::{kind_of_source, take_line};
 use moo_dbtext_record::{DbFault, DbFaultKind, LineSink, RecordReader, feed_lines};
@@ -41,7 +41,7 @@ pub(crate) struct Survey {
 impl Survey {
     /// Returns a reader that expects the first byte.
     pub(crate) fn new(alloc: Global) -> Survey
-        ensures { IsBehind result [] }
+        ensures { IsAfter result [] }
     {
         Survey {
             records: RecordReader::new(alloc),
@@ -75,8 +75,8 @@ impl Survey {
 
     /// Takes the next piece of the text. Returns the fault of the first line that is wrong where it is, or `Memory`.
     pub(crate) fn feed(&mut self, alloc: Global, piece: &[u8]) -> Result<(), DbFault>
-        ensures goes { (bytes : List ℕ) → IsBehind self.old bytes → OnOk result (IsBehind self.new (bytes ++ piece.now)) }
-        ensures stops { (bytes : List ℕ) → IsBehind self.old bytes → IfErr result (IsEnded (bytes ++ piece.now) self.new.faults.items) }
+        ensures goes { (bytes : List ℕ) → IsAfter self.old bytes → OnOk result (IsAfter self.new (bytes ++ piece.now)) }
+        ensures stops { (bytes : List ℕ) → IsAfter self.old bytes → IfErr result (IsEnded (bytes ++ piece.now) self.new.faults.items) }
     {
         feed_lines(self, alloc, piece)
     }
@@ -90,7 +90,7 @@ impl Survey {
 
     /// Returns the refused programs, once the whole text has been fed, and the fault of a line that ends them.
     pub(crate) fn finish(self) -> (Vec<DbFault>, Option<DbFault>)
-        ensures { (bytes : List ℕ) → IsBehind self bytes → IsWholly bytes result.0.items result.1 }
+        ensures { (bytes : List ℕ) → IsAfter self bytes → IsWholly bytes result.0.items result.1 }
     {
         if let Err(fault) = self.records.finish() {
             return (self.faults, Some(DbFault::from(fault)));

@@ -9,7 +9,7 @@ use Rattle.moo_server_core.specs.Server.{Follows, IsAlive, Runs, with_disk}
 use Rattle.moo_server_core.specs.declared.event.Event as given
 use Rattle.moo_server_core.specs.declared.event.RunFault.{RunFault}
 use Rattle.moo_cli_script.specs.declared.script.Script.{Script}
-use Rattle.moo_cli_script.specs.Script.{Fits, Refuses, ScriptDisk, Takes, script_kind, top_behind}
+use Rattle.moo_cli_script.specs.Script.{Fits, Refuses, ScriptDisk, Takes, script_kind, top_after}
 use Rattle.moo_cli_script.specs.Works.{moment_at}
 use Rattle.moo_cli_script.proofs.Moments.{run_at}
 
@@ -32,7 +32,7 @@ module _ {S Application : Type 0} (l : Layer S Application Saved) where
 
   pub taken : (e : given.Event) (old new : Script S) (result : Result ℕ RunFault) (n : ℕ) (events : List given.Event) → Of old new events result
       → events ≡ e ∷ [] → result ≡ Ok n → n ≡ length events → IsAlive new.server → (All (λ event. seen event ≢ Flush) events → new.disk ≡ old.disk)
-      → new.top ≡ top_behind (seen e) old.top → Takes l (seen e) old new
+      → new.top ≡ top_after (seen e) old.top → Takes l (seen e) old new
   taken e old new result n events runs single is count alive still top = record {
     run = record {
       given_event = e;

@@ -74,9 +74,9 @@ event_of (crashing i) = None
 event_of showing = None
 
 -- a number above those of all connections that were opened
-abbrev pub top_behind : Event → ℕ → ℕ
-top_behind (Open c) top = max top (c + 1)
-top_behind event top = top
+abbrev pub top_after : Event → ℕ → ℕ
+top_after (Open c) top = max top (c + 1)
+top_after event top = top
 
 module _ {S Application : Type 0} (l : Layer S Application Saved) where
   -- the server isn't halted and goes on with its disk, and its moment is known
@@ -97,7 +97,7 @@ module _ {S Application : Type 0} (l : Layer S Application Saved) where
   pub record Takes (event : Event) (old new : Script S) : Type 0 where
     pub run : IsRun event old new (Ok 1)
     pub alive : IsAlive new.server
-    pub top : new.top ≡ top_behind event old.top
+    pub top : new.top ≡ top_after event old.top
 
   -- an event was refused, for this cause
   pub record Refuses (event : Event) (old : Script S) (cause : Cause) : Type 0 where

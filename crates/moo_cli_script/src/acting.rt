@@ -2,7 +2,7 @@
 ghost use Rattle.std.specs.Prelude.{◌≡◌, ◌≤◌, IfErr, IfOk, OnOk};
 ghost use Rattle.moo_server_core.specs.Seen.{seen};
 ghost use Rattle.moo_server_core.specs.Server.{IsAlive};
-ghost use Rattle.moo_cli_script.specs.Script.{Crashes, Fits, IsToFail, NotCrashed, NotOpened, OpensServer, Refuses, Takes, top_behind};
+ghost use Rattle.moo_cli_script.specs.Script.{Crashes, Fits, IsToFail, NotCrashed, NotOpened, OpensServer, Refuses, Takes, top_after};
 ghost use Rattle.moo_cli_script.specs.Works.{moment_at};
 
 use crate::script::{Refused, Script};
@@ -42,8 +42,8 @@ impl<S: StartApplication> Script<S> {
         ensures fits { OnOk result (Fits S.layer self.new) }
         ensures refused { IfErr result (Refuses S.layer (seen event) self.old) }
     {
-        let moment = self.moment_behind(&event);
-        let top = self.top_behind(&event);
+        let moment = self.moment_after(&event);
+        let top = self.top_after(&event);
         match self.server.run(&mut self.disk, &[event]) {
             Ok(_) => {
                 self.moment = moment;
@@ -55,7 +55,7 @@ impl<S: StartApplication> Script<S> {
     }
 
     // Returns the moment after an event that is taken.
-    fn moment_behind(&self, event: &Event) -> u32
+    fn moment_after(&self, event: &Event) -> u32
         requires { IsAlive self.now.server }
         ensures { result ≡ moment_at self.now.server.course (seen event.now) self.now.moment }
     {
@@ -66,10 +66,10 @@ impl<S: StartApplication> Script<S> {
     }
 
     // Returns a number above those of all opened connections, after an event.
-    fn top_behind(&self, event: &Event) -> u32
+    fn top_after(&self, event: &Event) -> u32
         requires { self.now.top ≤ 65536 }
         ensures most { result ≤ 65536 }
-        ensures following { result ≡ top_behind (seen event.now) self.now.top }
+        ensures following { result ≡ top_after (seen event.now) self.now.top }
     {
         match event {
             Event::Open(c) => self.top.max(u32::from(*c) + 1),

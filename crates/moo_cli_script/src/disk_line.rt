@@ -3,7 +3,7 @@ ghost use Rattle.std.specs.Prelude.{◌≡◌, ◌≤◌, ℕ, Bool, List, ◌++
 ghost use Rattle.moo_cli_script.specs.ScriptLines.{Step, failing, Argues, Asks, IsNumber, most_count, step};
 ghost use Rattle.moo_cli_script.specs.Kinds.{IsOfConnection};
 
-use crate::number::{following, is_same, number, number_behind};
+use crate::number::{following, is_same, number, number_after};
 use crate::script_line::ScriptLine;
 
 /// Parses a line that is no event of a connection. Returns `None` if it has no such form.
@@ -19,10 +19,10 @@ pub fn read_disk_line(line: &[u8]) -> Option<ScriptLine<'static>>
     if is_same(line, b"show") {
         return Some(ScriptLine::Show);
     }
-    if let Some(moment) = number_behind(line, b"moment ", u32::MAX as u64) {
+    if let Some(moment) = number_after(line, b"moment ", u32::MAX as u64) {
         return Some(ScriptLine::Moment(moment as u32));
     }
-    if let Some(image) = number_behind(line, b"crash ", u64::MAX) {
+    if let Some(image) = number_after(line, b"crash ", u64::MAX) {
         return Some(ScriptLine::Crash(image as usize));
     }
     match failure(line) {

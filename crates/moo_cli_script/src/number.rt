@@ -47,7 +47,7 @@ fn appended(value: u64, digit: u8, most: u64) -> Option<u64>
 
 /// Parses the number of at most `most` that follows a word at the start of the line. Returns `None` if the line has another
 /// form.
-pub fn number_behind(line: &[u8], word: &[u8], most: u64) -> Option<u64>
+pub fn number_after(line: &[u8], word: &[u8], most: u64) -> Option<u64>
     ensures { MatchOption result ((rest : List ℕ) (n : ℕ) → line.now ≡ word.now ++ rest → ¬ IsNumber most rest n) (λ n. (rest : List ℕ) × (line.now ≡ word.now ++ rest) × IsNumber most rest n) }
 {
     let Some(rest) = following(line, word) else {

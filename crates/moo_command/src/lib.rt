@@ -20,4 +20,4 @@ pub use command::Command;
 pub use matching::{match_object, room_of};
 pub use parsing::{parse_command, parse_typed};
 pub use reading::{skip_blanks, words};
-pub use typed::{Typed, read_typed, typed_behind};
+pub use typed::{Typed, read_typed, typed_after};

@@ -14,7 +14,7 @@ use crate::command::Command;
 use crate::matching::match_object;
 use crate::splitting::{Division, joined, split};
 use crate::word_laws::words_are_light;
-use crate::{Typed, read_typed, skip_blanks, typed_behind};
+use crate::{Typed, read_typed, skip_blanks, typed_after};
 use moo_value::MooStr;
 use moo_world::World;
 use moo_world_object::Preposition;
@@ -64,7 +64,7 @@ fn expanded(alloc: Global, typed: Typed) -> Result<Typed, AllocError>
         return Ok(typed);
     };
     let verb = MooStr::from_slice(alloc, verb)?;
-    typed_behind(alloc, verb, &typed.line, at + 1)
+    typed_after(alloc, verb, &typed.line, at + 1)
 }
 
 /// Returns the verb that a leading sign is short for.

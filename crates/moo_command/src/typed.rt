@@ -29,12 +29,12 @@ pub fn read_typed(alloc: Global, line: &MooStr) -> Result<Option<Typed>, AllocEr
         return Ok(None);
     }
     let (verb, following) = read_word(alloc, bytes, at)?;
-    let typed = typed_behind(alloc, verb, line, following)?;
+    let typed = typed_after(alloc, verb, line, following)?;
     Ok(Some(typed))
 }
 
 /// Splits the line from offset `following` on, after this verb. Fails only if memory runs out.
-pub fn typed_behind(
+pub fn typed_after(
     alloc: Global,
     verb: MooStr,
     line: &MooStr,

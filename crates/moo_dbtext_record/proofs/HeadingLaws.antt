@@ -10,7 +10,7 @@ use Rattle.std.proofs.lemmas.Bool.Decides.{Decides-eqb}
 use Rattle.std.proofs.lemmas.List.{at_drop_more, take_more, append-nil, take_rest, drop_all, take-append-drop}
 use Rattle.std.proofs.Math.Seq.{take-append_seam, drop-append_seam}
 use Rattle.moo_dbtext_object.specs.Lines.{Line}
-use Rattle.moo_dbtext_record.specs.Headings.{before, parts_of, following as rest_behind}
+use Rattle.moo_dbtext_record.specs.Headings.{before, parts_of, following as rest_after}
 
 -- the parts with more in front
 abbrev pub led : Line → Option (Line × Line) → Option (Line × Line)
@@ -73,12 +73,12 @@ joined_none line front back r h e =
 eq_self : (line : Line) → bytes_eq line line ≡ true
 eq_self line = (bytes_eq-Decides line line).1 refl
 
-pub behind_again : (front x : Line) → rest_behind front (front ++ x) ≡ Some x
-unfolding rest_behind
+pub behind_again : (front x : Line) → rest_after front (front ++ x) ≡ Some x
+unfolding rest_after
 behind_again front x = rw (take-append_seam front x, drop-append_seam front x, eq_self front) refl
 
-pub behind_found : (front line x : Line) → rest_behind front line ≡ Some x → line ≡ front ++ x
-unfolding rest_behind
+pub behind_found : (front line x : Line) → rest_after front line ≡ Some x → line ≡ front ++ x
+unfolding rest_after
 behind_found front line x e = decide (bytes_eq (take (length front) line) front) refl e
   where
     decide : (b : Bool) → bytes_eq (take (length front) line) front ≡ b → cond b (Some (drop (length front) line)) None ≡ Some x → line ≡ front ++ x
@@ -87,8 +87,8 @@ behind_found front line x e = decide (bytes_eq (take (length front) line) front)
         sym (take-append-drop (length front) line) ∙ ap (λ (l : Line). l ++ drop (length front) line) ((bytes_eq-Decides (take (length front) line) front).0 is) ∙ ap (λ (l : Line). front ++ l) rest
     decide false is f = absurd cc
 
-behind_none : (front line : Line) → ((rest : Line) → line ≢ front ++ rest) → rest_behind front line ≡ None
-unfolding rest_behind
+behind_none : (front line : Line) → ((rest : Line) → line ≢ front ++ rest) → rest_after front line ≡ None
+unfolding rest_after
 behind_none front line h = decide (bytes_eq (take (length front) line) front) refl
   where
     decide : (b : Bool) → bytes_eq (take (length front) line) front ≡ b → cond b (Some (drop (length front) line)) None ≡ None
@@ -96,8 +96,8 @@ behind_none front line h = decide (bytes_eq (take (length front) line) front) re
     decide false is = refl
 
 pub stripped : (front line : Line) (r : Option (Bor (List ℕ))) → MatchOption r (pointwise eqb (take (length front) line) front ≡ false) (λ y. (pointwise eqb (take (length front) line) front ≡ true) × (y.now ≡ drop (length front) line) × (length y.now + length front ≡ length line))
-    → option_map (λ y. y.now) r ≡ rest_behind front line
+    → option_map (λ y. y.now) r ≡ rest_after front line
 stripped front line None h = sym (behind_none front line (strip_prefix_is Decides-eqb line front None h))
 stripped front line (Some y) h =
     let split : line ≡ front ++ y.now = strip_prefix_is Decides-eqb line front (Some y) h in
-    sym (ap (rest_behind front) split ∙ behind_again front y.now)
+    sym (ap (rest_after front) split ∙ behind_again front y.now)

@@ -25,7 +25,7 @@ fn parts(line: &[u8], at: u8) -> Option<(&[u8], &[u8])>
 }
 
 /// Returns what follows a prefix of the line.
-fn rest_behind<'a>(front: &[u8], line: &'a [u8]) -> Option<&'a [u8]>
+fn rest_after<'a>(front: &[u8], line: &'a [u8]) -> Option<&'a [u8]>
     ensures { option_map (λ r. r.now) result ≡ following front.now line.now }
 {
     line.strip_prefix(front)
@@ -56,7 +56,7 @@ fn number_or(fault: LineFault, line: &[u8]) -> Result<i32, Refusal>
 pub(crate) fn version(line: &[u8]) -> Result<u32, Refusal>
     ensures { Gives (λ v. v) result (version_of line.now) }
 {
-    let Some(rest) = rest_behind(b"** LambdaMOO Database, Format Version ", line) else {
+    let Some(rest) = rest_after(b"** LambdaMOO Database, Format Version ", line) else {
         return Err(Refusal::Fault(LineFault::BadHeader));
     };
     let Some((digits, end)) = parts(rest, b' ') else {
@@ -104,7 +104,7 @@ pub(crate) fn head(number: usize, line: &[u8]) -> Result<bool, Refusal>
 fn verb_named(line: &[u8]) -> Result<(u32, u32), Refusal>
     ensures { Gives (λ p. p) result (verb_named line.now) }
 {
-    let Some(rest) = rest_behind(b"#", line) else {
+    let Some(rest) = rest_after(b"#", line) else {
         return Err(Refusal::Fault(LineFault::BadProgramLine));
     };
     let Some((object, verb)) = parts(rest, b':') else {

@@ -50,7 +50,7 @@ const ASKED: [(usize, &str); 6] = [
     ),
 ];
 
-fn asked_behind(done: usize) -> &'static str {
+fn asked_after(done: usize) -> &'static str {
     for (most, asked) in ASKED {
         if done <= most {
             return asked;
@@ -135,7 +135,7 @@ fn are_right(alloc: Global) -> Result<bool, AllocError> {
     };
     let asked = [
         ("open", "*** Connected ***\r\n"),
-        (asked_behind(done), "{1, 1}\r\n"),
+        (asked_after(done), "{1, 1}\r\n"),
     ];
     Ok(taken::<MooApplication, _>(alloc, &mut disk, &asked)?.is_some())
 }

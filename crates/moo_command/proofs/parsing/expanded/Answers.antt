@@ -34,7 +34,7 @@ returns-clause-split c =
     let whole = rest_whole bytes at c.skip_blanks-at.ensures.inside in
     let inside : at < length bytes = omega (arith, c.in-Some.ensures.following, ap length whole, length-drop at bytes) in
     let leads : verb_leading (drop at bytes) ≡ Some c.in-Some.verb.now = sym (ap verb_leading whole) ∙ sym c.in-Some.ensures.value in
-    all_then c.typed_behind.result _ _ _ _ (λ t verb kept others.
+    all_then c.typed_after.result _ _ _ _ (λ t verb kept others.
     subst (λ (v : List ℕ). IsTyped (expanded c.args.typed.line) v t.rest t.args.items) (sym (verb ∙ c.in_ok-verb.ensures)) (
     signed_typed c.args.typed.line at c.in-Some.verb.now t.rest t.args.items
     (subst (λ (ts : List ℕ). drop at ts ≡ unindented ts) same c.skip_blanks-at.ensures.rest)
@@ -42,4 +42,4 @@ returns-clause-split c =
     (subst (λ (ts : List ℕ). verb_leading (drop at ts) ≡ Some c.in-Some.verb.now) same leads)
     kept others
     )
-    ) c.typed_behind.ensures.verb c.typed_behind.ensures.rest c.typed_behind.ensures.args
+    ) c.typed_after.ensures.verb c.typed_after.ensures.rest c.typed_after.ensures.args

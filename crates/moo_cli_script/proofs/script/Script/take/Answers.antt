@@ -5,12 +5,12 @@ use Rattle.moo_cli_script.proofs.script.Script.take.Goals as goal
 pub returns-in-Ok-clause-takes : goal.returns-in-Ok-clause-takes
 returns-in-Ok-clause-takes g c =
     taken g.S.Application.layer c.args.event c.args.self.now _ c.run.result c.in-Ok.field-0 (c.args.event ∷ []) c.run.ensures.ran refl c.in-Ok.is c.in-Ok.ensures.all.0 c.in-Ok.ensures.all.1
-    c.in-Ok.ensures.still c.top_behind-top.ensures.following
+    c.in-Ok.ensures.still c.top_after-top.ensures.following
 
 pub returns-in-Ok-clause-fits : goal.returns-in-Ok-clause-fits
 returns-in-Ok-clause-fits g c =
     fits_taken g.S.Application.layer c.args.event c.args.self.now _ c.run.result c.in-Ok.field-0 (c.args.event ∷ []) c.run.ensures.ran refl c.in-Ok.is c.in-Ok.ensures.all.0 c.in-Ok.ensures.all.1
-    c.requires c.in-Ok.ensures.follows c.moment_behind-moment.ensures c.top_behind-top.ensures.most
+    c.requires c.in-Ok.ensures.follows c.moment_after-moment.ensures c.top_after-top.ensures.most
 
 pub returns-clause-refused : goal.returns-clause-refused
 returns-clause-refused g c =

@@ -2,7 +2,7 @@ use Rattle.std.proofs.Common.{ℕ, List, subst}
 use Rattle.moo_cli_script.specs.ScriptLines.{IsAddressed}
 use Rattle.moo_cli_script.proofs.Splits.{cancel_word}
 use Rattle.moo_cli_script.proofs.Forms.{match_more}
-use Rattle.moo_cli_script.proofs.connection_line.addressed_behind.Goals as goal
+use Rattle.moo_cli_script.proofs.connection_line.addressed_after.Goals as goal
 
 pub returns : goal.returns
 returns c =

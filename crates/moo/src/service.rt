@@ -74,7 +74,7 @@ fn take_lock<L: Log>(rt: &HostRuntime, logger: &L, path: &str) -> io::Result<Opt
     match Lock::take(rt.alloc(), rt, path) {
         Ok(lock) => Ok(Some(lock)),
         Err(LockFault::Held(name, holder)) => {
-            tell_held(logger, name.as_str(), holder);
+            report_held(logger, name.as_str(), holder);
             Err(io::Error::from(io::ErrorKind::ResourceBusy))
         }
         Err(LockFault::Failed(name, error)) => {
@@ -86,7 +86,7 @@ fn take_lock<L: Log>(rt: &HostRuntime, logger: &L, path: &str) -> io::Result<Opt
     }
 }
 
-fn tell_held<L: Log>(logger: &L, name: &str, holder: Option<u32>) {
+fn report_held<L: Log>(logger: &L, name: &str, holder: Option<u32>) {
     match holder {
         Some(number) => {
             warn!(logger; target: "moo::serve", "{name}: process {number} serves this database");

@@ -27,7 +27,7 @@ pub(crate) fn begin<S: StartApplication, D: Disk + Watched, L: Log>(
     match Server::<S>::open(alloc, disk, moment) {
         Ok(server) => Ok(server),
         Err(fault) => {
-            tell_failure(rt, disk);
+            report_failure(rt, disk);
             Err(ServeFault::Open(fault))
         }
     }
@@ -36,7 +36,7 @@ pub(crate) fn begin<S: StartApplication, D: Disk + Watched, L: Log>(
 // Logs the end of a checkpoint and how long it took, if the last call of the disk ended one. Before the events of the
 // round the disk had made so many calls, and it was this time. `began` is when the open checkpoint began, if there is
 // one.
-pub(crate) fn tell_checkpoint<D: Watched, L: Clock + Log>(
+pub(crate) fn report_checkpoint<D: Watched, L: Clock + Log>(
     rt: &L,
     disk: &D,
     calls: u64,
@@ -61,7 +61,7 @@ pub(crate) fn tell_checkpoint<D: Watched, L: Clock + Log>(
 }
 
 // Logs why the disk failed, if it did.
-fn tell_failure<D: Watched, L: Log>(rt: &L, disk: &D) {
+fn report_failure<D: Watched, L: Log>(rt: &L, disk: &D) {
     if let News::Failed(file, error) = disk.news() {
         warn!(rt; target: "moo::serve", "{file}: {error}");
     }

@@ -26,14 +26,14 @@ pub fn come<L: Clock + Log>(
     let mut events = sockets.take(rt)?;
     console.take(alloc, &mut events)?;
     let now = now(rt);
-    tell_back(rt, now, *moment, is_late);
+    report_back(rt, now, *moment, is_late);
     tell(now, moment, &mut events)?;
     events.push(Event::Flush)?;
     Ok(events)
 }
 
 // Logs that the clock was set back, once until it has passed the last reported moment.
-fn tell_back<L: Log>(rt: &L, now: Option<u32>, moment: u32, is_late: &mut bool) {
+fn report_back<L: Log>(rt: &L, now: Option<u32>, moment: u32, is_late: &mut bool) {
     let late = match now {
         Some(now) => moment.saturating_sub(now),
         None => 0,

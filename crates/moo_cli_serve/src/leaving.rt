@@ -138,7 +138,7 @@ fn write<S: StartApplication, L: Log>(
         sockets.keep_writable(c)?;
         return Ok(None);
     }
-    tell_waiting(rt, c, most_waiting, waiting);
+    report_waiting(rt, c, most_waiting, waiting);
     sockets.close(c);
     Ok(Some(Event::Hangup(c)))
 }
@@ -160,7 +160,7 @@ fn is_among(numbers: &[u16], c: u16) -> bool
     numbers.iter().any(|number| *number == c)
 }
 
-fn tell_waiting<L: Log>(rt: &L, c: u16, most: usize, waiting: Option<usize>) {
+fn report_waiting<L: Log>(rt: &L, c: u16, most: usize, waiting: Option<usize>) {
     if let Some(waiting) = waiting {
         if waiting > most {
             warn!(rt; target: "moo::serve", "connection {c} is hung up: {waiting} bytes wait for it");

@@ -15,10 +15,10 @@ mod line_bound;
 mod listening;
 mod login_log;
 mod program;
+mod report;
 mod serving;
 mod silence;
 mod strangers;
-mod telling;
 mod timeouts;
 
 pub use fault::ServeFault;

@@ -42,7 +42,7 @@ impl LoginLog {
     pub fn begin_round<L: Log>(&mut self, rt: &L, second: u64) {
         if self.is_on && second != self.second {
             self.second = second;
-            self.tell_omitted(rt);
+            self.report_omitted(rt);
         }
     }
 
@@ -72,11 +72,11 @@ impl LoginLog {
             Event::Open(c) | Event::Bytes(c, _) | Event::Hangup(c) => {
                 self.compare(rt, server, *c);
                 if is_attempt {
-                    self.tell_refusal(rt, server, *c);
+                    self.report_refusal(rt, server, *c);
                 }
             }
             // No second comes after this one, in which the number of lines could be logged.
-            Event::Flush if matches!(server.phase(), Phase::Closed) => self.tell_omitted(rt),
+            Event::Flush if matches!(server.phase(), Phase::Closed) => self.report_omitted(rt),
             Event::Moment(_) | Event::Flush => {}
         }
     }
@@ -132,7 +132,7 @@ impl LoginLog {
     }
 
     // Logs that a line has logged nobody in, if so. Perhaps somebody has logged in and left in the same piece.
-    fn tell_refusal<S: StartApplication, L: Log>(
+    fn report_refusal<S: StartApplication, L: Log>(
         &mut self,
         rt: &L,
         server: &ServerCore<S>,
@@ -150,7 +150,7 @@ impl LoginLog {
     }
 
     // Logs how many lines were left out.
-    fn tell_omitted<L: Log>(&mut self, rt: &L) {
+    fn report_omitted<L: Log>(&mut self, rt: &L) {
         let logins = self.logins.begin_second();
         if logins != 0 {
             info!(rt; target: "moo::serve", "{logins} more lines on players were left out in one second");

@@ -10,8 +10,8 @@ ghost use Rattle.moo_cli_serve.specs.Service.{Fails, Serves};
 use crate::fault::ServeFault;
 use crate::limits::Limits;
 use crate::listening::Web;
+use crate::report::{end_status, report_address, report_fault, report_output};
 use crate::serving::Serving;
-use crate::telling::{end_status, tell_address, tell_fault, tell_output};
 use log::{Log, info, warn};
 use moo_checkpoint::OpenFault;
 use moo_cli_file_disk::{FileDisk, Watched};
@@ -23,7 +23,7 @@ use moo_server_core::StartApplication;
 use std::alloc::Global;
 use std::io;
 use std::io::{ErrorKind, Write};
-use std::net::{IpAddr, Net};
+use std::net::{IpAddr, Net, SocketAddr};
 use std::rt::{Clock, Files};
 
 /// The parameters of a server.
@@ -83,8 +83,8 @@ pub fn serve_watched<S: StartApplication, R: Net + Clock + Log, F: Files + Drop,
     match serve_file::<S, R, F, O>(rt, files, alloc, output, served, watch) {
         Ok(is_saved) => end_status(rt, output, served.must_save, is_saved, watch),
         Err(fault) => {
-            tell_reason(rt, served, &fault);
-            tell_fault(rt, alloc, output, fault, watch)
+            report_reason(rt, served, &fault);
+            report_fault(rt, alloc, output, fault, watch)
         }
     }
 }
@@ -105,7 +105,7 @@ fn serve_file<S: StartApplication, R: Net + Clock + Log, F: Files + Drop, O: Wri
 {
     match FileDisk::open(alloc, files, served.db) {
         Ok(disk) => {
-            tell_spare(rt, &disk);
+            report_spare(rt, &disk);
             serve_disk::<S, FileDisk<F>, R, O>(rt, alloc, disk, output, served, watch)
         }
         Err(error) => Err(no_disk(rt, served, error)),
@@ -141,16 +141,16 @@ pub fn serve_disk<S: StartApplication, D: Disk + Watched + Drop, R: Net + Clock 
     )?;
     let address = serving.address()?;
     info!(rt; target: "moo::serve", "listening on {address} over {}", served.db);
-    tell_address(alloc, output, address, watch)?;
+    report_address(alloc, output, address, watch)?;
     serving.serve(rt, served.rounds)?;
     let is_saved = serving.is_saved();
-    tell_unsaved(rt, served, is_saved, serving.is_closed());
+    report_unsaved(rt, served, is_saved, serving.is_closed());
     Ok(is_saved)
 }
 
 // Logs it if the last checkpoint failed. Of a server that must save, logs it also if there was none because the rounds are
 // over.
-fn tell_unsaved<R: Log>(rt: &R, served: Served<'_>, is_saved: bool, is_closed: bool) {
+fn report_unsaved<R: Log>(rt: &R, served: Served<'_>, is_saved: bool, is_closed: bool) {
     if !is_saved && (is_closed || served.must_save) {
         warn!(rt; target: "moo::serve", "NOT SAVED: {} has nothing that happened since its last checkpoint", served.db);
     }
@@ -168,28 +168,30 @@ fn no_disk<R: Log>(rt: &R, served: Served<'_>, error: io::Error) -> ServeFault
 }
 
 // Logs a warning if no spare can be made, since then every checkpoint will fail.
-fn tell_spare<R: Log, F: Files + Drop>(rt: &R, disk: &FileDisk<F>) {
+fn report_spare<R: Log, F: Files + Drop>(rt: &R, disk: &FileDisk<F>) {
     if let Err(reason) = disk.try_checkpoint() {
         warn!(rt; target: "moo::serve", "no checkpoint can be made: {}: {}", reason.path, reason.error);
     }
 }
 
 // Logs the reason of a fault, in the system's words if a device failed.
-fn tell_reason<R: Log>(rt: &R, served: Served<'_>, fault: &ServeFault) {
+fn report_reason<R: Log>(rt: &R, served: Served<'_>, fault: &ServeFault) {
     match fault {
         ServeFault::Sockets(SocketsFault::Device(error)) => {
-            warn!(rt; target: "moo::serve", "{}:{}: {error}", served.host, served.port);
+            let address = SocketAddr::from((served.host, served.port));
+            warn!(rt; target: "moo::serve", "{address}: {error}");
         }
-        ServeFault::Sockets(SocketsFault::Web(error)) => tell_no_web(rt, served, error),
-        ServeFault::Output(error) => tell_output(rt, error),
+        ServeFault::Sockets(SocketsFault::Web(error)) => report_no_web(rt, served, error),
+        ServeFault::Output(error) => report_output(rt, error),
         // The reason of a disk was logged when it failed.
         ServeFault::Open(OpenFault::Device) => {}
         other => warn!(rt; target: "moo::serve", "{}: {other}", served.db),
     }
 }
 
-fn tell_no_web<R: Log>(rt: &R, served: Served<'_>, error: &io::Error) {
+fn report_no_web<R: Log>(rt: &R, served: Served<'_>, error: &io::Error) {
     if let Some(web) = served.web {
-        warn!(rt; target: "moo::serve", "{}:{}: {error}", served.host, web.port);
+        let address = SocketAddr::from((served.host, web.port));
+        warn!(rt; target: "moo::serve", "{address}: {error}");
     }
 }

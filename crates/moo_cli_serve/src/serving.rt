@@ -7,7 +7,7 @@ ghost use Rattle.moo_cli_serve.specs.Console.{new_console};
 ghost use Rattle.moo_cli_serve.specs.Rounds.{IsClosed, Rounds};
 ghost use Rattle.moo_cli_serve.specs.Service.{Begun, BreaksOff, EndsFor, IsOutside, IsServed, NotStarted, StepFails, Steps, Turns, Waits};
 
-use crate::beginning::{begin, tell_checkpoint};
+use crate::beginning::{begin, report_checkpoint};
 use crate::clients::Clients;
 use crate::coming::{come, now, time};
 use crate::console::Console;
@@ -207,7 +207,7 @@ impl<S: StartApplication, D: Disk + Watched> Serving<S, D> {
         let logins = &mut self.logins;
         logins.begin_round(rt, second);
         let given = give(rt, logins, &mut self.server, &mut self.disk, &came);
-        tell_checkpoint(rt, &self.disk, calls, now, &mut self.began);
+        report_checkpoint(rt, &self.disk, calls, now, &mut self.began);
         given?;
         let parted = write_all(
             rt,

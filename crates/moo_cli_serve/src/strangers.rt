@@ -74,7 +74,7 @@ impl Strangers {
                 late.push(c)?;
             }
         }
-        self.tell_late(rt, now, &late);
+        self.report_late(rt, now, &late);
         Ok(late)
     }
 
@@ -92,7 +92,7 @@ impl Strangers {
     }
 
     // Logs a hang-up, at most once a second. The next line counts those between.
-    fn tell_late<L: Log>(&mut self, rt: &L, now: u64, late: &[u16])
+    fn report_late<L: Log>(&mut self, rt: &L, now: u64, late: &[u16])
         ensures { self.new.limits ≡ self.old.limits }
     {
         let Some(c) = late.first() else { return };

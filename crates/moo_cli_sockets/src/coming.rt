@@ -67,14 +67,14 @@ impl Sockets {
             return Ok(None);
         }
         if self.is_full {
-            self.tell_full(rt);
+            self.report_full(rt);
             return Ok(None);
         }
         let stream = match self.listener.accept() {
             Ok((stream, _)) => stream,
             Err(error) => {
                 self.may_accept = error.kind() != ErrorKind::WouldBlock;
-                self.tell_refused(rt, &error);
+                self.report_refused(rt, &error);
                 return Ok(None);
             }
         };
@@ -90,7 +90,7 @@ impl Sockets {
     }
 
     // Logs that no connection can be accepted, once until one is.
-    fn tell_refused<L: Log>(&mut self, rt: &L, error: &io::Error)
+    fn report_refused<L: Log>(&mut self, rt: &L, error: &io::Error)
         ensures { (self.new.sockets ≡ self.old.sockets) × IsAlike self.old self.new }
     {
         if self.may_accept && !self.is_told {
@@ -101,7 +101,7 @@ impl Sockets {
 
     // Logs that connections have taken all descriptors that are theirs, and that others may wait. Says it again after a
     // minute.
-    fn tell_full<L: Clock + Log>(&mut self, rt: &L)
+    fn report_full<L: Clock + Log>(&mut self, rt: &L)
         ensures { (self.new.sockets ≡ self.old.sockets) × IsAlike self.old self.new }
     {
         let now = seconds(rt);

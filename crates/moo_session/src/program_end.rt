@@ -32,7 +32,7 @@ pub(crate) fn end_programming(
     }
     match parse(alloc, gathering.lines(), Names::Known) {
         Ok(program) => set_program(live, number, o, index, program),
-        Err(fault) => tell_fault(alloc, &mut live.session, number, &fault),
+        Err(fault) => report_fault(alloc, &mut live.session, number, &fault),
     }
 }
 
@@ -52,7 +52,7 @@ fn set_program(
     }
 }
 
-fn tell_fault(
+fn report_fault(
     alloc: Global,
     session: &mut Session,
     number: u16,

@@ -27,7 +27,7 @@ pub fn run(
     let player = start.player;
     let (ended, notices) = run_alone(alloc, live, moment, start);
     live.session.apply_notices(&notices)?;
-    tell_end(&mut live.session, player, ended)
+    report_end(&mut live.session, player, ended)
 }
 
 // Runs the task over the connections as they are, and returns what it asked for.
@@ -52,7 +52,7 @@ fn run_alone(
 }
 
 // Sends the player of a task the lines of its end if it has no value. Returns the value.
-fn tell_end(session: &mut Session, player: i32, ended: Ended) -> Result<Option<Value>, AllocError>
+fn report_end(session: &mut Session, player: i32, ended: Ended) -> Result<Option<Value>, AllocError>
     ensures { IfOk result (λ v. EndIs ended (λ end. (value_of end ≡ seen_answer v) × (session.new ≡ all_notified player (account_of end) session.old))) }
 {
     match ended {

@@ -22,15 +22,15 @@ returns-in_err-address-clause-ended g c =
       course = course_none g.S.Application.layer g.D.Disk.kind s.server s.disk;
     }))
 
-pub returns-in_err-tell_address-clause-ended : goal.returns-in_err-tell_address-clause-ended
-returns-in_err-tell_address-clause-ended g c =
+pub returns-in_err-report_address-clause-ended : goal.returns-in_err-report_address-clause-ended
+returns-in_err-report_address-clause-ended g c =
     let s = c.in_ok-serving.serving in
-    let p = err_from_is_err_and c.from_residual-in_err-tell_address.result c.from_residual-in_err-tell_address.ensures.1 in rw (p.1, p.2) (inr (record {
+    let p = err_from_is_err_and c.from_residual-in_err-report_address.result c.from_residual-in_err-report_address.ensures.1 in rw (p.1, p.2) (inr (record {
       start = s;
       end = s;
       begun = c.in_ok-serving.ensures.begun;
       events = [];
-      breaks = inl (c.in_err-tell_address.ensures.outside, refl, refl);
+      breaks = inl (c.in_err-report_address.ensures.outside, refl, refl);
       course = course_none g.S.Application.layer g.D.Disk.kind s.server s.disk;
     }))
 
@@ -61,15 +61,15 @@ pub returns-in_err-address-clause-printed : goal.returns-in_err-address-clause-p
 returns-in_err-address-clause-printed g c =
     let p = err_from_is_err_and c.from_residual-in_err-address.result c.from_residual-in_err-address.ensures.1 in rw p.1 ([], inl refl, inr (Appends-nil _))
 
-pub returns-in_err-tell_address-clause-printed : goal.returns-in_err-tell_address-clause-printed
-returns-in_err-tell_address-clause-printed g c =
-    let p = err_from_is_err_and c.from_residual-in_err-tell_address.result c.from_residual-in_err-tell_address.ensures.1 in
-    rw p.1 ([], inl refl, c.in_err-tell_address.ensures.nothing)
+pub returns-in_err-report_address-clause-printed : goal.returns-in_err-report_address-clause-printed
+returns-in_err-report_address-clause-printed g c =
+    let p = err_from_is_err_and c.from_residual-in_err-report_address.result c.from_residual-in_err-report_address.ensures.1 in
+    rw p.1 ([], inl refl, c.in_err-report_address.ensures.nothing)
 
 pub returns-in_err-serve-clause-printed : goal.returns-in_err-serve-clause-printed
 returns-in_err-serve-clause-printed g c =
     let p = err_from_is_err_and c.from_residual-in_err-serve.result c.from_residual-in_err-serve.ensures.1 in
-    rw p.1 (_, inr (c.in_ok-address.address, refl), inr c.in_ok-tell_address.ensures.text)
+    rw p.1 (_, inr (c.in_ok-address.address, refl), inr c.in_ok-report_address.ensures.text)
 
 pub returns-clause-listening : goal.returns-clause-listening
-returns-clause-listening g c = (c.in_ok-address.address, c.in_ok-tell_address.ensures.text)
+returns-clause-listening g c = (c.in_ok-address.address, c.in_ok-report_address.ensures.text)

@@ -18,7 +18,7 @@ returns-in-Ok g c =
 
 pub returns-in-Err : goal.returns-in-Err
 returns-in-Err g c =
-    let told = c.tell_fault.ensures.told in
+    let told = c.report_fault.ensures.told in
     let printed = c.in-Err.ensures.printed in
     inr (
       told.0,
@@ -26,6 +26,6 @@ returns-in-Err g c =
       told.2,
       printed.0,
       printed.1,
-      prints_more (g.O.Write.contents c.args.output.now) (g.O.Write.contents c.serve_file.new.output) (g.O.Write.contents c.tell_fault.new.output)
-          c.serve_file.new.watch c.tell_fault.new.watch printed.0 (line_of told.0) printed.2 c.tell_fault.ensures.remembers told.3,
+      prints_more (g.O.Write.contents c.args.output.now) (g.O.Write.contents c.serve_file.new.output) (g.O.Write.contents c.report_fault.new.output)
+          c.serve_file.new.watch c.report_fault.new.watch printed.0 (line_of told.0) printed.2 c.report_fault.ensures.remembers told.3,
     )

@@ -32,4 +32,4 @@ returns-in-Err c =
     let g = c.args.gathering.now in
     let found : own_verb c.args.live.now.world g.object g.verb ≡ Some c.in-Some.index = first_of (cc, grind (arith, ints, to_z-of_z)) in
     let allowed : may_write c.args.live.now.world c.args.player g.object c.in-Some.index ≡ true = first_of (grind (arith, ints, to_z-of_z, common_steps), cc) in
-    ended_faulty c.tell_fault.result c.args.number c.args.player g c.args.live.now c.tell_fault.new.session c.in-Some.index c.in-Err.fault found allowed (rw (c.lines.ensures) at c.in-Err.ensures.fault) c.tell_fault.ensures.told c.tell_fault.ensures.kind
+    ended_faulty c.report_fault.result c.args.number c.args.player g c.args.live.now c.report_fault.new.session c.in-Some.index c.in-Err.fault found allowed (rw (c.lines.ensures) at c.in-Err.ensures.fault) c.report_fault.ensures.told c.report_fault.ensures.kind

@@ -11,12 +11,12 @@ use Rattle.moo_session_task.proofs.tasks.run.Goals as goal
 pub returns : goal.returns
 returns c =
     let same : to_z w32 (of_z w32 c.args.start.player) ≡ c.args.start.player = (let fits : SFits w32 c.args.start.player = search rules in to_z-of_z fits) in
-    let along : ℤ → Type 0 = λ p. IfOk c.tell_end.result (λ v. EndIs c.run_alone-ended.result.0 (λ end.
-    (value_of end ≡ seen_answer v) × (c.tell_end.new.session ≡ all_notified p (account_of end) c.apply_notices.new.self)))
+    let along : ℤ → Type 0 = λ p. IfOk c.report_end.result (λ v. EndIs c.run_alone-ended.result.0 (λ end.
+    (value_of end ≡ seen_answer v) × (c.report_end.new.session ≡ all_notified p (account_of end) c.apply_notices.new.self)))
     in
-    task_answers c.tell_end.result c.args.moment c.args.start c.args.live.now c.run_alone-ended.new.live.world c.apply_notices.new.self c.tell_end.new.session
+    task_answers c.report_end.result c.args.moment c.args.start c.args.live.now c.run_alone-ended.new.live.world c.apply_notices.new.self c.report_end.new.session
     c.run_alone-ended.result.0 c.run_alone-ended.result.1.items c.run_alone-ended.ensures.ends
     (c.in_ok-apply_notices.ensures
     ∙ ap (λ (ns : List Notice). all_applied ns c.run_alone-ended.new.live.session) c.deref.ensures.value
     ∙ ap (λ (s : Session). all_applied c.run_alone-ended.result.1.items s) c.run_alone-ended.ensures.kept)
-    (subst along same c.tell_end.ensures)
+    (subst along same c.report_end.ensures)

@@ -26,7 +26,7 @@ use std::net::SocketAddr;
 const UNSAVED: u8 = 3;
 
 /// Prints the address on which a server listens. Fails if the output fails, or if memory runs out.
-pub(crate) fn tell_address<O: Write>(
+pub(crate) fn report_address<O: Write>(
     alloc: Global,
     output: &mut O,
     address: SocketAddr,
@@ -59,14 +59,14 @@ pub(crate) fn end_status<R: Log, O: Write>(
         return 0;
     }
     if let Err(error) = watch.print(output, b"refused: Device\n") {
-        tell_output(rt, &error);
+        report_output(rt, &error);
     }
     UNSAVED
 }
 
 /// Prints why a server ends, in the words of the program's other commands, and returns the exit status. If memory runs out
 /// for the line of a database, that is the reason. If the output fails only now, logs that too.
-pub(crate) fn tell_fault<R: Log, O: Write>(
+pub(crate) fn report_fault<R: Log, O: Write>(
     rt: &R,
     alloc: Global,
     output: &mut O,
@@ -81,16 +81,16 @@ pub(crate) fn tell_fault<R: Log, O: Write>(
         Ok(line) => {
             let printed = watch.print(output, line);
             if !matches!(fault, ServeFault::Output(_)) {
-                tell_printed(rt, printed);
+                report_printed(rt, printed);
             }
             fault.status()
         }
-        Err(refused) => tell_refused(rt, alloc, output, refused, watch),
+        Err(refused) => report_refused(rt, alloc, output, refused, watch),
     }
 }
 
 // Prints why a database is refused, or that memory ran out for that line. Returns the exit status.
-fn tell_refused<R: Log, O: Write>(
+fn report_refused<R: Log, O: Write>(
     rt: &R,
     alloc: Global,
     output: &mut O,
@@ -103,11 +103,11 @@ fn tell_refused<R: Log, O: Write>(
 {
     match fault_line(alloc, fault) {
         Ok(line) => {
-            tell_printed(rt, watch.print(output, &line));
+            report_printed(rt, watch.print(output, &line));
             1
         }
         Err(_) => {
-            tell_printed(rt, watch.print(output, b"refused: Memory\n"));
+            report_printed(rt, watch.print(output, b"refused: Memory\n"));
             4
         }
     }
@@ -136,13 +136,13 @@ fn fixed_line(fault: &ServeFault) -> Result<&'static [u8], DbFault>
 }
 
 // Logs that the output failed, if it did.
-fn tell_printed<R: Log>(rt: &R, printed: io::Result<()>) {
+fn report_printed<R: Log>(rt: &R, printed: io::Result<()>) {
     if let Err(error) = printed {
-        tell_output(rt, &error);
+        report_output(rt, &error);
     }
 }
 
 /// Logs why the output failed.
-pub(crate) fn tell_output<R: Log>(rt: &R, error: &io::Error) {
+pub(crate) fn report_output<R: Log>(rt: &R, error: &io::Error) {
     warn!(rt; target: "moo::serve", "standard output: {error}");
 }

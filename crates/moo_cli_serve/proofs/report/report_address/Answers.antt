@@ -2,7 +2,7 @@ use Rattle.std.proofs.Common.{ℕ, List, inr, ◌∙◌, subst}
 use Rattle.std.specs.Io.KnownBytes.{Appends}
 use Rattle.std.proofs.KnownBytes.{Appends-nil}
 use Rattle.std.proofs.lemmas.Result.{err_from_is_err_and}
-use Rattle.moo_cli_serve.proofs.telling.tell_address.Goals as goal
+use Rattle.moo_cli_serve.proofs.report.report_address.Goals as goal
 
 pub returns-in_err-line-clause-nothing : goal.returns-in_err-line-clause-nothing
 returns-in_err-line-clause-nothing g c =

@@ -3,7 +3,7 @@ use Rattle.moo_checkpoint.specs.declared.open_fault.OpenFault.TheVariants as ope
 use Rattle.moo_cli_io.specs.Told.{fault_line}
 use Rattle.moo_cli_serve.specs.declared.fault.ServeFault.TheVariants as the
 use Rattle.moo_cli_serve.proofs.PrintedLines.{prints_once}
-use Rattle.moo_cli_serve.proofs.telling.tell_refused.Goals as goal
+use Rattle.moo_cli_serve.proofs.report.report_refused.Goals as goal
 
 pub returns-in-Ok-clause-told : goal.returns-in-Ok-clause-told
 returns-in-Ok-clause-told g c = (

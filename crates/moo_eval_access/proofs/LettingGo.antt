@@ -6,6 +6,7 @@ use Rattle.moo_value.specs.declared.error_code.ErrorCode.{ErrorCode}
 use Rattle.moo_value.specs.Tree.{Tree}
 use Rattle.moo_value.specs.Compare.{folded}
 use Rattle.moo_eval_slot.specs.Bindings.{bind, with_variable}
+use Rattle.moo_eval_frame.specs.Outcome.{Failure, fails, answers}
 use Rattle.moo_eval_access.specs.LetGo.{IsLetGo, kept, let_go}
 
 one_test : (a : Bool) (x y z : Option Tree) → cond a x (cond a y z) ≡ cond a x z
@@ -30,3 +31,8 @@ not_let_go name code (let_go w v o e) h = let q = sym o ∙ h in absurd cc
 pub some_value : (r : Result Tree ErrorCode) → result_err r ≡ None → (w : Tree) × (r ≡ Ok w)
 some_value (Ok w) h = (w, refl)
 some_value (Err code) h = absurd cc
+
+-- what answers with a value is that value
+pub answered : {w : Tree} (r : Result Tree ErrorCode) → answers r ≡ Ok w → r ≡ Ok w
+answered {w = w} (Ok v) e = let q : ◌≡◌ {A = Result Tree Failure} (Ok v) (Ok w) = e in let same : v ≡ w = cc in ap (λ u. Ok u) same
+answered {w = w} (Err code) e = let q : ◌≡◌ {A = Result Tree Failure} (Err (fails code)) (Ok w) = e in absurd cc

@@ -8,3 +8,4 @@ pub mod Counted
 pub mod Bounded
 pub mod Held
 pub mod LongerLists
+pub mod ListCalls

@@ -1,16 +1,12 @@
 -- Lists with several values after their elements, within the limits and past them.
-use Rattle.std.proofs.Common.{◌≡◌, ℕ, ◌+◌, ◌≤◌, ◌<◌, max, length, take, drop, get_or, List, [], ◌∷◌, ◌++◌, false, IsTrue, ◌↔◌, leb, sym, ap, ◌∙◌, arith}
-use Rattle.std.proofs.lemmas.Bool.{false≢true}
-use Rattle.std.proofs.lemmas.Bool.Decides.{nat_tests}
+use Rattle.std.proofs.Common.{◌≡◌, ℕ, ◌+◌, ◌≤◌, ◌<◌, max, length, take, drop, get_or, List, [], ◌∷◌, ◌++◌, sym, ap, ◌∙◌, arith}
 use Rattle.std.proofs.lemmas.List.{append_assoc, take-append-drop, map-append}
 use Rattle.moo_value.specs.declared.value.Value.{Value}
 use Rattle.moo_value.specs.Tree.{Tree, list_of}
 use Rattle.moo_value.specs.View.{tree, trees}
 use Rattle.moo_value.specs.Size.{weight, depth, list_weight, list_depth, weight_limit, depth_limit, IsWithinLimits}
+use Rattle.moo_eval_access.specs.Bounds.{IsWithin}
 use Rattle.moo_value.proofs.Lists.{list_weight-push, list_depth-push, list_weight-append, trees-take_more}
-
-within : (a b : ℕ) → (IsTrue (leb a b) → a ≤ b) × (a ≤ b → IsTrue (leb a b))
-within a b = (λ h. grind (arith, nat_tests), λ h. grind (arith, nat_tests))
 
 list_depth-append : (ts us : List Tree) → list_depth ts ≤ list_depth (ts ++ us)
 list_depth-append [] us = omega arith
@@ -33,19 +29,27 @@ part_of ts vs k =
     (trees (drop k vs), ap (λ xs. ts ++ trees xs) (sym (take-append-drop k vs)) ∙ ap (λ us. ts ++ us) (map-append tree (take k vs) (drop k vs)) ∙ sym (append_assoc ts (trees (take k vs)) (trees (drop k vs))))
 
 -- too heavy with the first values
-pub too_heavy_by : (ts : List Tree) (vs : List Value) (k w : ℕ) → w ≡ list_weight (ts ++ trees (take k vs)) → weight_limit < w → IsTrue false ↔ IsWithinLimits (list_of (ts ++ trees vs))
+pub too_heavy_by : (ts : List Tree) (vs : List Value) (k w : ℕ) → w ≡ list_weight (ts ++ trees (take k vs)) → weight_limit < w → ¬ IsWithinLimits (list_of (ts ++ trees vs))
 too_heavy_by ts vs k w e h =
     let p = part_of ts vs k in
-    ((λ never. absurd (false≢true never)), (λ limits. let l = limits.weight in let m = list_weight-append (ts ++ trees (take k vs)) p.0 in absurd (omega (arith, e, h, l, m, ap list_weight p.1))))
+    λ limits. let l = limits.weight in let m = list_weight-append (ts ++ trees (take k vs)) p.0 in absurd (omega (arith, e, h, l, m, ap list_weight p.1))
 
--- within the limits with all values
-pub fits_by : (ts : List Tree) (vs : List Value) (k w d : ℕ) → take k vs ≡ vs → w ≡ list_weight (ts ++ trees (take k vs)) → d ≡ list_depth (ts ++ trees (take k vs)) → w ≤ weight_limit → IsTrue (leb d depth_limit) ↔ IsWithinLimits (list_of (ts ++ trees vs))
-fits_by ts vs k w d all e f h =
-    let e' : w ≡ list_weight (ts ++ trees vs) = e ∙ ap (λ xs. list_weight (ts ++ trees xs)) all in
-    let f' : d ≡ list_depth (ts ++ trees vs) = f ∙ ap (λ xs. list_depth (ts ++ trees xs)) all in (
-      (λ k. let l = (within d depth_limit).0 k in record { weight = omega (arith, e', h); depth = omega (arith, f', l) }),
-      (λ limits. let l = limits.depth in (within d depth_limit).1 (omega (arith, f', l))),
-    )
+module _ (ts : List Tree) (vs : List Value) (k w d : ℕ) (all : take k vs ≡ vs) (e : w ≡ list_weight (ts ++ trees (take k vs))) (f : d ≡ list_depth (ts ++ trees (take k vs))) where
+  weighs_all : w ≡ list_weight (ts ++ trees vs)
+  weighs_all = e ∙ ap (λ xs. list_weight (ts ++ trees xs)) all
+
+  nests_all : d ≡ list_depth (ts ++ trees vs)
+  nests_all = f ∙ ap (λ xs. list_depth (ts ++ trees xs)) all
+
+  -- the bounds with all values
+  pub measured_by : IsWithin w d (list_of (ts ++ trees vs))
+  measured_by = record { weighs = omega (arith, weighs_all); nests = omega (arith, nests_all) }
+
+  pub fits_by : w ≤ weight_limit → d ≤ depth_limit → IsWithinLimits (list_of (ts ++ trees vs))
+  fits_by h l = record { weight = omega (arith, weighs_all, h); depth = omega (arith, nests_all, l) }
+
+  pub too_deep_by : depth_limit < d → ¬ IsWithinLimits (list_of (ts ++ trees vs))
+  too_deep_by h = λ limits. let l = limits.depth in absurd (omega (arith, nests_all, h, l))
 
 -- a list with one value more is within the limits if it is with further ones
 pub part_fits : (us : List Tree) (t : Tree) (rest whole : List Tree) → us ++ t ∷ rest ≡ whole → IsWithinLimits (list_of whole) → IsWithinLimits (list_of (us ++ t ∷ []))

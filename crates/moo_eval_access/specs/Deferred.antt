@@ -1,4 +1,4 @@
--- Values of which a list may still have to be made.
+-- Values that may still have to be made.
 use Rattle.moo_value.specs.Tree.{Tree, list_of}
 use Rattle.moo_value.specs.View.{tree}
 use Rattle.moo_eval_access.specs.declared.deferred.Deferred.{Deferred}
@@ -8,3 +8,4 @@ use Rattle.moo_eval_access.specs.declared.deferred.Deferred.TheVariants as defer
 abbrev pub deferred_tree : Deferred → Tree
 deferred_tree (deferred_case.Value v) = tree v
 deferred_tree (deferred_case.Longer elements) = list_of elements
+deferred_tree (deferred_case.Called value) = value

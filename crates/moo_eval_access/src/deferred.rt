@@ -1,11 +1,9 @@
-//! Values that are stored in a place whose old value is let go of first, as `l[i] = {@l[i], x};` and `o.(p) = {@o.(p), x};`
-//! do. So a list that nothing else holds grows in place.
-ghost use Rattle.std.specs.Prelude.{◌≡◌, ◌++◌, ◌∷◌, [], Ok, Err, IsTrue, IfOk, IfErr, IfSome, IfNone, OnOk};
-ghost use Rattle.moo_value.specs.declared.error_code.ErrorCode.TheVariants.{Quota};
-ghost use Rattle.moo_value.specs.Tree.{Tree, list_of, string};
+//! Values that are stored in a place whose old value is let go of first, as `l[i] = {@l[i], x};` and `o.p = setadd(o.p, x);`
+//! do. So a list that nothing else holds is changed in place.
+ghost use Rattle.std.specs.Prelude.{◌≡◌, Ok, Err, IsTrue, IfOk, IfErr, OnOk};
+ghost use Rattle.moo_value.specs.Tree.{Tree, string};
 ghost use Rattle.moo_value.specs.View.{tree};
 ghost use Rattle.moo_builtin_operator.specs.Assignment.{with_index_of};
-ghost use Rattle.moo_builtin_operator.specs.Places.{made_list};
 ghost use Rattle.moo_eval_frame.specs.Outcome.{answers};
 ghost use Rattle.moo_eval_slot.specs.Bindings.{bind, with_variable};
 ghost use Rattle.moo_eval_frame.specs.Seen.{variables_of, failure_of, seen_answer, seen_by, HadMemoryIn, IsKnownFailure};
@@ -13,99 +11,99 @@ ghost use Rattle.moo_eval_access.specs.Calls.{write_property, write_result};
 ghost use Rattle.moo_eval_access.specs.Deferred.{deferred_tree};
 
 use crate::bounds::element_bounds;
+use crate::list_call::ListCall;
+use crate::longer_list::LongerList;
 use crate::object::{drop_property, drop_written, write_property, write_written};
 use crate::place::{set_at, set_property_at};
 use crate::target::{Places, Step};
 use moo_eval_frame::{Failure, Variables};
-use moo_eval_slot::{has_room_for, pushed};
 use moo_syntax_ast::{Name, Text};
-use moo_value::{MooList, Value};
+use moo_value::Value;
 use moo_world::World;
 use std::alloc::{AllocError, Global};
-use std::marker::Model;
 
-/// Holds a value, or a list whose last element is still to be appended.
+/// Holds a value, or a list that is still to be changed.
 #[derive(Drop)]
 pub enum Deferred {
     Value(Value),
     Longer(LongerList),
+    Called(ListCall),
 }
 
-/// Holds a list, and a value that is still to be appended to it. The longer list is within the limits.
-#[derive(Drop)]
-pub struct LongerList {
-    list: MooList,
-    last: Value,
-}
+impl Deferred {
+    fn is_made(&self) -> bool {
+        matches!(self, Deferred::Value(_))
+    }
 
-impl Model for LongerList {
-    ghost use Rattle.std.specs.Prelude.{◌++◌, ◌∷◌, [], List};
-    ghost use Rattle.moo_value.specs.Tree.{Tree, list_of};
-    ghost use Rattle.moo_value.specs.TreeCode.{tree_list_code};
-    ghost use Rattle.moo_value.specs.Size.{IsWithinLimits};
-    ghost use Rattle.moo_value.specs.View.{tree};
-
-    ghost Value = { List Tree };
-
-    ghost coded = { tree_list_code };
-
-    ghost view = { λ l. l.list ++ tree l.last ∷ [] };
-
-    ghost invariant = { λ l. IsWithinLimits (list_of (l.list ++ tree l.last ∷ [])) };
-}
-
-impl LongerList {
-    /// Defers that a value is appended to a list. Returns `None` if the longer list is past the limits.
-    pub fn new(list: MooList, last: Value) -> Option<LongerList>
-        ensures some { IfSome result (λ longer. made_list (list ++ tree last ∷ []) ≡ Ok (list_of longer)) }
-        ensures none { IfNone result (made_list (list ++ tree last ∷ []) ≡ Err Quota) }
+    // Makes the value. A list that nothing else holds is changed in place. Err is out of memory.
+    fn into_value(self, alloc: Global) -> Result<Value, AllocError>
+        ensures { IfOk result (λ made. tree made ≡ deferred_tree self) }
     {
-        if has_room_for(&list, &last) {
-            Some(LongerList { list, last })
-        } else {
-            None
+        match self {
+            Deferred::Value(value) => Ok(value),
+            Deferred::Longer(longer) => Ok(Value::List(longer.into_list(alloc)?)),
+            Deferred::Called(call) => call.into_value(alloc),
         }
     }
 
-    /// Appends the value. A list that nothing else holds grows in place. Err is out of memory.
-    pub fn into_list(self, alloc: Global) -> Result<MooList, AllocError>
-        ensures { IfOk result (λ list. list ≡ self) }
-    {
-        let LongerList { list, last } = self;
-        pushed(alloc, list, last)
-    }
-
-    // Returns whether a container surely takes the longer list at a place. False if the container is no list, or may get
-    // past the limits.
+    // Returns whether a list surely takes the longer list at a place. False if the longer list may get it past the limits,
+    // and for other values.
     fn is_taken_at(&self, container: &Value, place: &Value) -> bool
-        ensures { IsTrue result → (w : Tree) × (with_index_of (tree container.now) (tree place.now) (list_of self.now) ≡ Ok w) }
+        ensures { IsTrue result → (w : Tree) × (with_index_of (tree container.now) (tree place.now) (deferred_tree self.now) ≡ Ok w) }
     {
-        let Value::List(outer) = container else {
+        let (Deferred::Longer(longer), Value::List(outer)) = (self, container) else {
             return false;
         };
-        let heaviest = self.list.weight() + self.last.weight();
-        let deepest = self.list.depth().max(self.last.depth() + 1);
-        element_bounds(outer, place, heaviest, deepest).is_some()
+        match longer.bounds() {
+            Some((heaviest, deepest)) => {
+                element_bounds(outer, place, heaviest, deepest).is_some()
+            }
+            None => false,
+        }
     }
 
-    // Returns the container with the longer list at the place. If nothing but the place and this holds the list, it
-    // grows in place.
+    fn depth(&self) -> u32 {
+        match self {
+            Deferred::Longer(longer) => longer.depth(),
+            _ => 0,
+        }
+    }
+
+    // Returns the container with the value at the place. If nothing but the place and this holds the list, it is
+    // changed in place.
     fn into_place(self, alloc: Global, container: Value, place: Value) -> Result<Value, Failure>
-        ensures { IsKnownFailure result → answers (with_index_of (tree container) (tree place) (list_of self)) ≡ seen_answer result }
+        ensures { IsKnownFailure result → answers (with_index_of (tree container) (tree place) (deferred_tree self)) ≡ seen_answer result }
     {
         let mut step = Step {
             container,
             places: Places::Element(place),
         };
-        step.let_go(alloc, self.list.depth())?;
-        let list = self.into_list(alloc)?;
-        Ok(step.with(alloc, Value::List(list))?)
+        step.let_go(alloc, self.depth())?;
+        let value = self.into_value(alloc)?;
+        Ok(step.with(alloc, value)?)
     }
 }
 
-/// Sets a variable to the value, and returns the value. The variable is set to 0 first if a list is still to be made, so
-/// a list that nothing else holds grows in place. Err is out of memory; the variable may then be 0.
+/// Sets a variable to the value. The variable is set to 0 first if a list is still to be changed, so a list that nothing
+/// else holds is changed in place. Err is out of memory; the variable may then be 0.
 pub fn set_deferred(
+    alloc: Global,
+    variables: &mut Variables,
+    name: &Name,
+    value: Deferred,
+) -> Result<(), AllocError>
+    ensures { OnOk result (variables_of variables.new ≡ with_variable (variables_of variables.old) (bind name.now (deferred_tree value))) }
+{
+    if !value.is_made() {
+        variables.set(name, Value::Int(0))?;
+    }
+    let value = value.into_value(alloc)?;
+    variables.set(name, value)?;
+    Ok(())
+}
+
+/// Sets a variable to the value, as `set_deferred` does, and returns the value.
+pub fn assign_deferred(
     alloc: Global,
     variables: &mut Variables,
     name: &Name,
@@ -114,16 +112,13 @@ pub fn set_deferred(
     ensures value { IfOk result (λ set. tree set ≡ deferred_tree value) }
     ensures set { IfOk result (λ _. variables_of variables.new ≡ with_variable (variables_of variables.old) (bind name.now (deferred_tree value))) }
 {
-    let whole = match value {
-        Deferred::Value(value) => value,
-        Deferred::Longer(longer) => {
-            variables.set(name, Value::Int(0))?;
-            Value::List(longer.into_list(alloc)?)
-        }
-    };
-    let copy = whole.try_clone()?;
+    if !value.is_made() {
+        variables.set(name, Value::Int(0))?;
+    }
+    let value = value.into_value(alloc)?;
+    let copy = value.try_clone()?;
     variables.set(name, copy)?;
-    Ok(whole)
+    Ok(value)
 }
 
 /// Sets a variable to the container with the value at the place, as `set_at` does.
@@ -139,47 +134,27 @@ pub fn set_deferred_at(
     ensures err { IfErr result (λ failure. HadMemoryIn failure → answers (with_index_of (tree container) (tree place) (deferred_tree value)) ≡ Err (failure_of failure)) }
     ensures kept { IfErr result (λ failure. HadMemoryIn failure → variables_of variables.new ≡ variables_of variables.old) }
 {
-    match value {
-        Deferred::Value(value) => set_at(alloc, variables, name, container, &place, value),
-        Deferred::Longer(longer) => {
-            set_longer_at(alloc, variables, name, container, place, longer)
-        }
+    if value.is_taken_at(&container, &place) {
+        return replace_deferred_at(alloc, variables, name, container, place, value);
     }
+    let value = value.into_value(alloc)?;
+    set_at(alloc, variables, name, container, &place, value)
 }
 
-fn set_longer_at(
+// Sets a variable to the container with the value at a place that takes it.
+fn replace_deferred_at(
     alloc: Global,
     variables: &mut Variables,
     name: &Name,
     container: Value,
     place: Value,
-    longer: LongerList,
+    value: Deferred,
 ) -> Result<(), Failure>
-    ensures ok { OnOk result ((w : Tree) × (with_index_of (tree container) (tree place) (list_of longer) ≡ Ok w) × (variables_of variables.new ≡ with_variable (variables_of variables.old) (bind name.now w))) }
-    ensures err { IfErr result (λ failure. HadMemoryIn failure → answers (with_index_of (tree container) (tree place) (list_of longer)) ≡ Err (failure_of failure)) }
-    ensures kept { IfErr result (λ failure. HadMemoryIn failure → variables_of variables.new ≡ variables_of variables.old) }
-{
-    if longer.is_taken_at(&container, &place) {
-        return replace_longer_at(alloc, variables, name, container, place, longer);
-    }
-    let list = longer.into_list(alloc)?;
-    set_at(alloc, variables, name, container, &place, Value::List(list))
-}
-
-// Sets a variable to the container with the longer list at a place that takes it.
-fn replace_longer_at(
-    alloc: Global,
-    variables: &mut Variables,
-    name: &Name,
-    container: Value,
-    place: Value,
-    longer: LongerList,
-) -> Result<(), Failure>
-    ensures ok { OnOk result ((w : Tree) × (with_index_of (tree container) (tree place) (list_of longer) ≡ Ok w) × (variables_of variables.new ≡ with_variable (variables_of variables.old) (bind name.now w))) }
-    ensures err { IfErr result (λ failure. HadMemoryIn failure → answers (with_index_of (tree container) (tree place) (list_of longer)) ≡ Err (failure_of failure)) }
+    ensures ok { OnOk result ((w : Tree) × (with_index_of (tree container) (tree place) (deferred_tree value) ≡ Ok w) × (variables_of variables.new ≡ with_variable (variables_of variables.old) (bind name.now w))) }
+    ensures err { IfErr result (λ failure. HadMemoryIn failure → answers (with_index_of (tree container) (tree place) (deferred_tree value)) ≡ Err (failure_of failure)) }
 {
     variables.set(name, Value::Int(0))?;
-    let whole = longer.into_place(alloc, container, place)?;
+    let whole = value.into_place(alloc, container, place)?;
     variables.set(name, whole)?;
     Ok(())
 }
@@ -198,49 +173,19 @@ pub fn set_property_deferred_at(
     ensures world { IsKnownFailure result → answers (write_result world.old programmer (tree base.now) (string name.now) (with_index_of (tree container) (tree place) (deferred_tree value))) ≡ seen_by (λ _. world.new) result }
     ensures kept { IfErr result (λ failure. HadMemoryIn failure → world.new ≡ world.old) }
 {
-    match value {
-        Deferred::Value(value) => set_property_at(
-            alloc, world, programmer, base, name, container, &place, value,
-        ),
-        Deferred::Longer(longer) => set_longer_property_at(
-            alloc, world, programmer, base, name, container, place, longer,
-        ),
-    }
-}
-
-fn set_longer_property_at(
-    alloc: Global,
-    world: &mut World,
-    programmer: i32,
-    base: &Value,
-    name: &Text,
-    container: Value,
-    place: Value,
-    longer: LongerList,
-) -> Result<(), Failure>
-    ensures world { IsKnownFailure result → answers (write_result world.old programmer (tree base.now) (string name.now) (with_index_of (tree container) (tree place) (list_of longer))) ≡ seen_by (λ _. world.new) result }
-    ensures kept { IfErr result (λ failure. HadMemoryIn failure → world.new ≡ world.old) }
-{
-    if longer.is_taken_at(&container, &place) {
-        return replace_longer_property_at(
-            alloc, world, programmer, base, name, container, place, longer,
+    if value.is_taken_at(&container, &place) {
+        return replace_property_deferred_at(
+            alloc, world, programmer, base, name, container, place, value,
         );
     }
-    let list = longer.into_list(alloc)?;
+    let value = value.into_value(alloc)?;
     set_property_at(
-        alloc,
-        world,
-        programmer,
-        base,
-        name,
-        container,
-        &place,
-        Value::List(list),
+        alloc, world, programmer, base, name, container, &place, value,
     )
 }
 
-// Sets a property to the container with the longer list at a place that takes it.
-fn replace_longer_property_at(
+// Sets a property to the container with the value at a place that takes it.
+fn replace_property_deferred_at(
     alloc: Global,
     world: &mut World,
     programmer: i32,
@@ -248,19 +193,19 @@ fn replace_longer_property_at(
     name: &Text,
     container: Value,
     place: Value,
-    longer: LongerList,
+    value: Deferred,
 ) -> Result<(), Failure>
-    requires { (w : Tree) × (with_index_of (tree container) (tree place) (list_of longer) ≡ Ok w) }
-    ensures world { IsKnownFailure result → answers (write_result world.old programmer (tree base.now) (string name.now) (with_index_of (tree container) (tree place) (list_of longer))) ≡ seen_by (λ _. world.new) result }
+    requires { (w : Tree) × (with_index_of (tree container) (tree place) (deferred_tree value) ≡ Ok w) }
+    ensures world { IsKnownFailure result → answers (write_result world.old programmer (tree base.now) (string name.now) (with_index_of (tree container) (tree place) (deferred_tree value))) ≡ seen_by (λ _. world.new) result }
     ensures kept { IfErr result (λ failure. HadMemoryIn failure → world.new ≡ world.old) }
 {
     drop_written(world, programmer, base, name);
-    let whole = longer.into_place(alloc, container, place)?;
+    let whole = value.into_place(alloc, container, place)?;
     write_written(world, programmer, base, name, whole)
 }
 
-/// Sets a property, as `write_property` does. The property is set to 0 first, so a list that nothing else holds grows in
-/// place. If memory runs out, it may stay 0.
+/// Sets a property, as `write_property` does. The property is set to 0 first if a list is still to be changed, so a list
+/// that nothing else holds is changed in place. If memory runs out, it may stay 0.
 pub fn write_deferred(
     alloc: Global,
     world: &mut World,
@@ -274,22 +219,56 @@ pub fn write_deferred(
 {
     match value {
         Deferred::Value(value) => write_property(world, programmer, base, name, value),
-        Deferred::Longer(longer) => write_longer(alloc, world, programmer, base, name, longer),
+        changed => write_changed(alloc, world, programmer, base, name, changed),
     }
 }
 
-fn write_longer(
+fn write_changed(
     alloc: Global,
     world: &mut World,
     programmer: i32,
     base: &Value,
     name: &Value,
-    longer: LongerList,
+    value: Deferred,
 ) -> Result<(), Failure>
-    ensures world { IsKnownFailure result → answers (write_property world.old programmer (tree base.now) (tree name.now) (list_of longer)) ≡ seen_by (λ _. world.new) result }
+    ensures world { IsKnownFailure result → answers (write_property world.old programmer (tree base.now) (tree name.now) (deferred_tree value)) ≡ seen_by (λ _. world.new) result }
     ensures kept { IfErr result (λ failure. HadMemoryIn failure → world.new ≡ world.old) }
 {
     drop_property(world, programmer, base, name);
-    let list = longer.into_list(alloc)?;
-    write_property(world, programmer, base, name, Value::List(list))
+    let value = value.into_value(alloc)?;
+    write_property(world, programmer, base, name, value)
+}
+
+/// Sets a property whose name is a literal, as `write_deferred` does.
+pub fn write_written_deferred(
+    alloc: Global,
+    world: &mut World,
+    programmer: i32,
+    base: &Value,
+    name: &Text,
+    value: Deferred,
+) -> Result<(), Failure>
+    ensures world { IsKnownFailure result → answers (write_property world.old programmer (tree base.now) (string name.now) (deferred_tree value)) ≡ seen_by (λ _. world.new) result }
+    ensures kept { IfErr result (λ failure. HadMemoryIn failure → world.new ≡ world.old) }
+{
+    match value {
+        Deferred::Value(value) => write_written(world, programmer, base, name, value),
+        changed => write_changed_written(alloc, world, programmer, base, name, changed),
+    }
+}
+
+fn write_changed_written(
+    alloc: Global,
+    world: &mut World,
+    programmer: i32,
+    base: &Value,
+    name: &Text,
+    value: Deferred,
+) -> Result<(), Failure>
+    ensures world { IsKnownFailure result → answers (write_property world.old programmer (tree base.now) (string name.now) (deferred_tree value)) ≡ seen_by (λ _. world.new) result }
+    ensures kept { IfErr result (λ failure. HadMemoryIn failure → world.new ≡ world.old) }
+{
+    drop_written(world, programmer, base, name);
+    let value = value.into_value(alloc)?;
+    write_written(world, programmer, base, name, value)
 }

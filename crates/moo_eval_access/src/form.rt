@@ -1,7 +1,8 @@
-//! Recognises the forms of expressions that the evaluator runs in place, as `{@x, e}` and `o.p = e`.
+//! Forms of expressions that the evaluator runs in place, as `{@x, e}` and `o.p = e`.
 ghost use Rattle.std.specs.Prelude.{◌≡◌, None, IfSome, ◌<◌, ◌-◌, Some, ◌∷◌, []};
 ghost use Rattle.moo_syntax_ast.specs.Tree.{variable, assign, list, splice, element, no_items, literal, property, Items, call};
 ghost use Rattle.moo_syntax_lower.specs.Source.{source, source_items, with_source};
+ghost use Rattle.moo_eval_access.specs.Form.{form_source};
 ghost use Rattle.moo_syntax_ast.specs.declared.tree.Literal.TheVariants.{Str};
 
 use crate::target::as_property;
@@ -9,30 +10,81 @@ use moo_syntax_ast::{Name, Text};
 use moo_syntax_function::Function;
 use moo_syntax_lower::{FunctionName, Node, NodeItem};
 
-/// Returns the variable and the other items, if a node is a list that begins with the elements of a variable. Returns
-/// `None` for `{@x, @x, ..}`, which the evaluator makes in one step.
+/// Holds the parts of an expression whose value is a changed list.
+#[derive(Clone, Copy)]
+pub enum ListForm<'a> {
+    /// `{@list, last}`
+    Appended(&'a Node, &'a Node),
+    /// `{first, @list}`
+    Prepended(&'a Node, &'a Node),
+    /// `{@list, ..}` with any number of items, but not `{@x, @x, ..}`, which is made in one step.
+    Extended(&'a Node, &'a [NodeItem]),
+    /// `f(list, ..)` for a built-in function that makes a list of a list, as `listappend`.
+    Called(&'a FunctionName, &'a [NodeItem]),
+}
+
+/// Returns the parts, if a node has one of these forms.
+pub fn list_form(node: &Node) -> Option<ListForm<'_>>
+    ensures { IfSome result (λ form. source node.now ≡ form_source form) }
+{
+    if let Some((called, items)) = as_list_call(node) {
+        return Some(ListForm::Called(called, items));
+    }
+    if let Some((list, last)) = as_appended(node) {
+        return Some(ListForm::Appended(list, last));
+    }
+    if let Some((first, list)) = as_prepended(node) {
+        return Some(ListForm::Prepended(first, list));
+    }
+    let (list, more) = as_extended(node)?;
+    Some(ListForm::Extended(list, more))
+}
+
+/// Is true for an expression of a `ListForm`, and for a conditional expression one of whose two results is one. Picks
+/// the way of an assignment; each way has the same meaning.
 #[inline(always)]
-pub fn as_longer(node: &Node) -> Option<(&Name, &[NodeItem])>
-    ensures { IfSome result (λ p. source node.now ≡ list (splice (variable p.0.now) (source_items p.1.now))) }
+pub fn is_list_change(node: &Node) -> bool {
+    match node {
+        Node::List(items) => has_splice_at_end(items),
+        Node::Call(called, _) => makes_list(called),
+        Node::Conditional(_, first, second) => is_changed_list(first) || is_changed_list(second),
+        _ => false,
+    }
+}
+
+fn is_changed_list(node: &Node) -> bool {
+    list_form(node).is_some()
+}
+
+// Is true for more than one item, if the first or the second is a splice.
+#[inline(always)]
+fn has_splice_at_end(items: &[NodeItem]) -> bool {
+    match items {
+        [NodeItem::Splice(_), _, ..] => true,
+        [_, NodeItem::Splice(_)] => true,
+        _ => false,
+    }
+}
+
+// Returns the list and the other items, if a node is a list that begins with a splice. `None` for `{@x, @x, ..}`.
+fn as_extended(node: &Node) -> Option<(&Node, &[NodeItem])>
+    ensures { IfSome result (λ p. source node.now ≡ list (splice (source p.0.now) (source_items p.1.now))) }
 {
     let Node::List(items) = node else {
         return None;
     };
     let (first, more) = items.split_first()?;
-    let NodeItem::Splice(node) = first else {
-        return None;
-    };
-    let name = as_variable(node)?;
-    if is_repeated(name, more) {
+    let list = as_splice(first)?;
+    if more.is_empty() || is_repeated(list, more) {
         return None;
     }
-    Some((name, more))
+    Some((list, more))
 }
 
-// Returns whether the first item is a splice of this variable.
-fn is_repeated(name: &Name, items: &[NodeItem]) -> bool {
-    match items {
-        [NodeItem::Splice(node), ..] => is_variable(name, node),
+// Returns whether the node is a variable, and the first item is a splice of it.
+fn is_repeated(list: &Node, items: &[NodeItem]) -> bool {
+    match (list, items) {
+        (Node::Variable(name), [NodeItem::Splice(node), ..]) => is_variable(name, node),
         _ => false,
     }
 }
@@ -41,16 +93,6 @@ fn is_variable(name: &Name, node: &Node) -> bool {
     match node {
         Node::Variable(own) => own.as_bytes() == name.as_bytes(),
         _ => false,
-    }
-}
-
-#[inline(always)]
-fn as_variable(node: &Node) -> Option<&Name>
-    ensures { IfSome result (λ name. source node.now ≡ variable name.now) }
-{
-    match node {
-        Node::Variable(name) => Some(name),
-        _ => None,
     }
 }
 
@@ -63,28 +105,6 @@ pub fn as_text(node: &Node) -> Option<&Text>
         Node::Str(text) => Some(text),
         _ => None,
     }
-}
-
-/// Is true for a list of two items, one of them a property's value that is spliced in. Is true too for a call of a
-/// built-in function with two arguments, if the first is a property's value.
-#[inline(always)]
-pub fn is_of_property(node: &Node) -> bool {
-    match node {
-        Node::List(items) => match items.as_slice() {
-            [NodeItem::Splice(list), _] | [_, NodeItem::Splice(list)] => is_property(list),
-            _ => false,
-        },
-        Node::Call(_, items) => match items.as_slice() {
-            [NodeItem::Element(list), _] => is_property(list),
-            _ => false,
-        },
-        _ => false,
-    }
-}
-
-#[inline(always)]
-fn is_property(node: &Node) -> bool {
-    matches!(node, Node::Property(_, _))
 }
 
 /// Returns the parts of `{@list, last}`, or `None` for a node of another form.
@@ -101,23 +121,9 @@ pub fn as_appended(node: &Node) -> Option<(&Node, &Node)>
     Some((list, last))
 }
 
-/// Is true for `{@list, last}`, and for a conditional expression one of whose two results has this form.
+// Returns the parts of `{first, @list}`, or `None` for a node of another form.
 #[inline(always)]
-pub fn is_longer_list(node: &Node) -> bool {
-    match node {
-        Node::List(_) => is_appended(node),
-        Node::Conditional(_, first, second) => is_appended(first) || is_appended(second),
-        _ => false,
-    }
-}
-
-fn is_appended(node: &Node) -> bool {
-    as_appended(node).is_some()
-}
-
-/// Returns the parts of `{first, @list}`, or `None` for a node of another form.
-#[inline(always)]
-pub fn as_prepended(node: &Node) -> Option<(&Node, &Node)>
+fn as_prepended(node: &Node) -> Option<(&Node, &Node)>
     ensures { IfSome result (λ p. source node.now ≡ list (element (source p.0.now) (splice (source p.1.now) no_items))) }
 {
     let Node::List(items) = node else {
@@ -127,17 +133,6 @@ pub fn as_prepended(node: &Node) -> Option<(&Node, &Node)>
     let first = as_element(item)?;
     let list = as_splice(rest)?;
     Some((first, list))
-}
-
-/// Returns the name and the arguments, if a node is a call of a built-in function.
-#[inline(always)]
-pub fn as_call(node: &Node) -> Option<(&FunctionName, &[NodeItem])>
-    ensures { IfSome result (λ p. source node.now ≡ call p.0.now (source_items p.1.now)) }
-{
-    match node {
-        Node::Call(name, items) => Some((name, items)),
-        _ => None,
-    }
 }
 
 fn two_items(items: &[NodeItem]) -> Option<(&NodeItem, &NodeItem)>
@@ -178,16 +173,28 @@ pub fn as_set_property(node: &Node) -> Option<(&Node, &Node, &Node)>
     Some((base, name, value))
 }
 
-/// Returns the function and its arguments, if a node is a call of `listset`.
-#[inline(always)]
-pub fn as_list_set(node: &Node) -> Option<(&FunctionName, &[NodeItem])>
+// Returns the function and its arguments, if a node is a call of a built-in function that makes a list of a list.
+fn as_list_call(node: &Node) -> Option<(&FunctionName, &[NodeItem])>
     ensures { IfSome result (λ p. source node.now ≡ call p.0.now (source_items p.1.now)) }
 {
-    let Node::Call(called, items) = node else {
-        return None;
-    };
-    match called.function() {
-        Some(Function::ListSet) => Some((called, items)),
+    match node {
+        Node::Call(called, items) if makes_list(called) => Some((called, items)),
         _ => None,
     }
+}
+
+// Is true for the functions that make a list of their first argument, with an element more, less or replaced.
+#[inline(always)]
+fn makes_list(called: &FunctionName) -> bool {
+    matches!(
+        called.function(),
+        Some(
+            Function::ListAppend
+                | Function::ListInsert
+                | Function::ListDelete
+                | Function::ListSet
+                | Function::SetAdd
+                | Function::SetRemove
+        )
+    )
 }

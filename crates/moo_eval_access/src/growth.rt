@@ -1,66 +1,19 @@
-//! Lists and strings that grow in the variable that holds them, as by `l = {@l, x};` and `s = s + x;`.
-ghost use Rattle.std.specs.Prelude.{◌≡◌, ◌++◌, ◌∷◌, [], Ok, Err, IfErr, OnOk};
+//! Strings that grow in the variable that holds them, as by `s = s + x;`.
+ghost use Rattle.std.specs.Prelude.{◌≡◌, ◌++◌, Ok, Err, IfErr, OnOk};
 ghost use Rattle.moo_value.specs.Tree.{Tree, string};
 ghost use Rattle.moo_value.specs.View.{tree};
 ghost use Rattle.moo_builtin_operator.specs.Operators.{added};
-ghost use Rattle.moo_builtin_operator.specs.Places.{made_list};
 ghost use Rattle.moo_eval_frame.specs.Outcome.{answers};
 ghost use Rattle.moo_eval_slot.specs.Bindings.{bind, with_variable};
 ghost use Rattle.moo_eval_frame.specs.Seen.{variables_of, failure_of, HadMemoryIn};
 
 use crate::integers::binary;
 use moo_eval_frame::{Failure, Variables};
-use moo_eval_slot::{extended, has_room_after, has_room_for, prepended, pushed};
+use moo_eval_slot::{extended, has_room_after};
 use moo_syntax_ast::Name;
 use moo_syntax_ast::operator::BinaryOperator;
-use moo_value::{ErrorCode, MooList, MooStr, Value};
+use moo_value::{ErrorCode, MooStr, Value};
 use std::alloc::Global;
-
-/// Sets a variable to the list with the value after its elements. Past the limits that is E_QUOTA; the variable then
-/// keeps its value. The variable is set to 0 first, so a list that nothing else shares grows in place. If memory runs
-/// out, it may stay 0.
-pub fn set_longer(
-    alloc: Global,
-    variables: &mut Variables,
-    name: &Name,
-    list: MooList,
-    value: Value,
-) -> Result<(), Failure>
-    ensures ok { OnOk result ((w : Tree) × (made_list (list ++ tree value ∷ []) ≡ Ok w) × (variables_of variables.new ≡ with_variable (variables_of variables.old) (bind name.now w))) }
-    ensures err { IfErr result (λ failure. HadMemoryIn failure → answers (made_list (list ++ tree value ∷ [])) ≡ Err (failure_of failure)) }
-    ensures kept { IfErr result (λ failure. HadMemoryIn failure → variables_of variables.new ≡ variables_of variables.old) }
-{
-    if !has_room_for(&list, &value) {
-        return Err(Failure::Fails(ErrorCode::Quota));
-    }
-    variables.set(name, Value::Int(0))?;
-    let longer = pushed(alloc, list, value)?;
-    variables.set(name, Value::List(longer))?;
-    Ok(())
-}
-
-/// Sets a variable to the list with the value before its elements. Past the limits that is E_QUOTA; the variable then
-/// keeps its value. The variable is set to 0 first, so a list that nothing else shares takes the value in place. If
-/// memory runs out, it may stay 0.
-pub fn set_prepended(
-    alloc: Global,
-    variables: &mut Variables,
-    name: &Name,
-    value: Value,
-    list: MooList,
-) -> Result<(), Failure>
-    ensures ok { OnOk result ((w : Tree) × (made_list (tree value ∷ list) ≡ Ok w) × (variables_of variables.new ≡ with_variable (variables_of variables.old) (bind name.now w))) }
-    ensures err { IfErr result (λ failure. HadMemoryIn failure → answers (made_list (tree value ∷ list)) ≡ Err (failure_of failure)) }
-    ensures kept { IfErr result (λ failure. HadMemoryIn failure → variables_of variables.new ≡ variables_of variables.old) }
-{
-    if !has_room_for(&list, &value) {
-        return Err(Failure::Fails(ErrorCode::Quota));
-    }
-    variables.set(name, Value::Int(0))?;
-    let longer = prepended(alloc, list, value)?;
-    variables.set(name, Value::List(longer))?;
-    Ok(())
-}
 
 /// Sets a variable to the sum of two values, or returns the error of the sum; the variable then keeps its value. A
 /// string that nothing but the variable and `first` shares grows in place. If memory runs out, the variable may be 0.

@@ -12,6 +12,7 @@ mod form;
 mod growth;
 mod holding;
 mod integers;
+mod list_call;
 mod longer_list;
 mod object;
 mod place;
@@ -20,25 +21,23 @@ mod verb_name;
 
 pub use arguments::are_too_many;
 pub use deferred::{
-    Deferred, LongerList, set_deferred, set_deferred_at, set_property_deferred_at, write_deferred,
+    Deferred, assign_deferred, set_deferred, set_deferred_at, set_property_deferred_at,
+    write_deferred, write_written_deferred,
 };
 pub use entering::{
     Call, Called, Found, MOST_FRAMES, called_verb, enter_found, enter_verb, enter_verb_from,
     enter_written, has_frame_left, verb_frame, verb_there,
 };
 pub use fault::failed;
-pub use form::{
-    as_appended, as_call, as_list_set, as_longer, as_prepended, as_set_property, as_text,
-    is_longer_list, is_of_property,
-};
-pub use growth::{set_longer, set_prepended, set_sum};
+pub use form::{ListForm, as_appended, as_set_property, as_text, is_list_change, list_form};
+pub use growth::set_sum;
 pub use integers::{binary, binary_in_place, number_of};
-pub use longer_list::set_all_longer;
+pub use list_call::{ListCall, set_called};
+pub use longer_list::LongerList;
 pub use object::{
     drop_property, drop_written, read_known, read_property, read_written, write_property,
     write_written,
 };
-pub use place::{set_at, set_property_at};
 pub use target::{
     Path, Places, Root, Spot, Step, Target, as_property, is_taken, push_step, rebuilt, root_alone,
     set_variable, taken_apart,

@@ -19,7 +19,7 @@ use std::alloc::Global;
 /// Sets a variable to the container with the value at the place. Raises the errors of `with_index`; the variable then
 /// keeps its value. The variable is set to 0 first, so a list that nothing else shares is changed in place. If memory
 /// runs out, it may stay 0.
-pub fn set_at(
+pub(crate) fn set_at(
     alloc: Global,
     variables: &mut Variables,
     name: &Name,
@@ -59,7 +59,7 @@ fn replace_at(
 /// programmer. Raises the errors of `with_index`, then those of `write_property`; the property then keeps its value.
 /// The property is set to 0 first, so a list that nothing else shares is changed in place. If memory runs out, it may
 /// stay 0.
-pub fn set_property_at(
+pub(crate) fn set_property_at(
     alloc: Global,
     world: &mut World,
     programmer: i32,

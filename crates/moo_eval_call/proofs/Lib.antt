@@ -7,4 +7,3 @@ mod Stretches
 mod Extremes
 mod Texts
 mod AnyNumber
-pub mod Updates

@@ -5,4 +5,3 @@ pub mod Connections
 pub mod Asking
 pub mod Calls
 pub mod Laws
-pub mod Updates

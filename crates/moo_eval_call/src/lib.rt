@@ -1,5 +1,5 @@
 //! Calls of built-in functions that call no verb: those that inspect the task and its connections, those that leave a
-//! notice, and plain ones. Also changes of lists in variables, and ticks. An internal crate of `moo_eval`.
+//! notice, and plain ones. Also ticks. An internal crate of `moo_eval`.
 #![tactic(auto)]
 
 mod asking;
@@ -10,8 +10,6 @@ mod raising;
 mod spliced;
 mod task;
 mod ticks;
-mod update;
 
 pub use call::{call_function, call_values};
 pub use ticks::{MOST_TICKS, Ticks};
-pub use update::{has_list, make_list, set_list};

@@ -5,7 +5,7 @@ mod Passing
 mod Known
 mod Operands
 mod Prepended
-mod Updated
+mod ListCalls
 mod Spliced
 mod Choosing
 mod Conditional

@@ -1,5 +1,5 @@
 -- The second operand of `&&` and `||`, if it runs as a statement does.
-use Rattle.std.proofs.Common.{◌≡◌, ◌<◌, Bool, true, false, List, Result, Ok, Err, refl}
+use Rattle.std.proofs.Common.{◌≡◌, ◌<◌, Bool, false, List, Result, Ok, Err, refl}
 use Rattle.moo_value.specs.Tree.{Tree}
 use Rattle.moo_syntax_ast.specs.declared.operator.LogicOperator.{LogicOperator}
 use Rattle.moo_syntax_ast.specs.Tree.{Expr, logic, performs}

@@ -1,17 +1,15 @@
 -- Lists that take a value before their elements in their variable.
-use Rattle.std.proofs.Common.{◌≡◌, ℕ, List, [], ◌∷◌, Ok, Err, refl, ap}
+use Rattle.std.proofs.Common.{◌≡◌, List, ◌∷◌, Ok, Err, refl, ap}
 use Rattle.std.proofs.lemmas.List.{append-nil}
 use Rattle.moo_value.specs.Tree.{Tree, list_of}
 use Rattle.moo_value.specs.TreeCode.{trees_of-elements_of}
 use Rattle.moo_syntax_ast.specs.Tree as program
-use Rattle.moo_syntax_ast.specs.Tree.{Expr, variable, splice, element, no_items}
+use Rattle.moo_syntax_ast.specs.Tree.{Expr, splice, element, no_items}
 use Rattle.moo_builtin_operator.specs.Places.{made_list, spliced_of}
-use Rattle.moo_eval_slot.specs.Bindings.{bind}
 use Rattle.moo_eval_frame.specs.Outcome.{Stop, Failure, stops, answers}
 use Rattle.moo_eval_frame.specs.State.{Context}
-use Rattle.moo_eval_access.specs.State.{State, bound}
+use Rattle.moo_eval_access.specs.State.{State}
 use Rattle.moo_builtin.specs.Telling.{Telling}
-use Rattle.moo_eval_task.specs.SetTo.{IsSetTo}
 use Rattle.moo_eval_semantics.specs.Meaning.{Evaluates, EvaluatesAll, Computes, applies, operands_end, no_more, element_stops, element_then, splice_stops, splice_fails, splice_then, list_is}
 
 -- the elements of a list after one more
@@ -21,14 +19,6 @@ parts vs d g = element_then d (splice_then g (ap Ok (trees_of-elements_of vs)) n
 -- the list is within the limits
 pub longer : {T : Telling} {c : Context} {a e : Expr} {s s1 s2 : State} {v w : Tree} (vs : List Tree) → Evaluates T c e s (Ok v) s1 → Evaluates T c a s1 (Ok (list_of vs)) s2 → made_list (v ∷ vs) ≡ Ok w → Computes T c (program.list (element e (splice a no_items))) s (Ok w) s2
 longer vs d g made = applies (parts vs d g) no_more (list_is (ap answers made))
-
-pub prepended : {T : Telling} {c : Context} {x : List ℕ} {e : Expr} {s s1 s2 t : State} {v w : Tree} (vs : List Tree) → Evaluates T c e s (Ok v) s1 → Evaluates T c (variable x) s1 (Ok (list_of vs)) s2 → made_list (v ∷ vs) ≡ Ok w → bound (bind x w ∷ []) s2 ≡ t → IsSetTo T c x (program.list (element e (splice (variable x) no_items))) s t
-prepended {s2 = s2} {w = w} vs d g made sets = record {
-  value = w;
-  between = s2;
-  computes = longer vs d g made;
-  sets = sets;
-}
 
 -- past the limits
 pub too_long : {T : Telling} {c : Context} {a e : Expr} {s s1 s2 : State} {v : Tree} {failure : Failure} (vs : List Tree) → Evaluates T c e s (Ok v) s1 → Evaluates T c a s1 (Ok (list_of vs)) s2 → answers (made_list (v ∷ vs)) ≡ Err failure → Computes T c (program.list (element e (splice a no_items))) s (Err failure) s2

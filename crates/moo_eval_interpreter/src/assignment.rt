@@ -13,11 +13,9 @@ ghost use Rattle.moo_eval_access.specs.SeenTarget.{root_seen, step_of, steps_of,
 use crate::arithmetic::evaluate_tried;
 use crate::deferred::evaluate_deferred;
 use crate::interpreter::evaluate;
-use crate::lengthening::lengthen_by;
 use crate::scattering::scatter;
-use crate::update::update;
 use moo_eval_access::{
-    Path, Places, Root, Spot, Step, as_list_set, as_longer, as_property, is_longer_list, push_step,
+    Path, Places, Root, Spot, Step, as_property, assign_deferred, is_list_change, push_step,
     rebuilt, root_alone, set_deferred, taken_apart,
 };
 use moo_eval_frame::{Activation, CallStack, Failure, Flow, Stop};
@@ -42,11 +40,10 @@ pub(crate) fn assign(
     ensures ticks { task.new.ticks_left ≤ task.old.ticks_left }
 {
     match target {
+        Node::Variable(name) if is_list_change(value) => {
+            assign_changed(task, world, active, stack, indexed, name, value)
+        }
         Node::Variable(name) => {
-            if is_longer_list(value) {
-                let longer = evaluate_deferred(task, world, active, stack, indexed, value)?;
-                return Ok(set_deferred(task.alloc(), &mut active.variables, name, longer)?);
-            }
             let value = evaluate(task, world, active, stack, indexed, value)?;
             let copy = value.try_clone()?;
             active.variables.set(name, copy)?;
@@ -54,6 +51,27 @@ pub(crate) fn assign(
         }
         _ => assign_path(task, world, active, stack, indexed, target, value),
     }
+}
+
+// Assigns a list that may be changed in place to a variable. Not inlined, so that other assignments need no stack space
+// for it.
+#[cycle(evaluation)]
+#[inline(never)]
+fn assign_changed(
+    task: &mut Task,
+    world: &mut World,
+    active: &mut Activation,
+    stack: &CallStack<'_>,
+    indexed: Option<&Value>,
+    name: &Name,
+    value: &Node,
+) -> Result<Value, Failure>
+    ensures meaning { IsKnownFailure result → Computes Faults (context_of stack.now indexed.entry) (assign (variable name.now) (source value.now)) (state_of task.old world.old active.old) (seen_answer result) (state_of task.new world.new active.new) }
+    ensures ticks { task.new.ticks_left ≤ task.old.ticks_left }
+{
+    let value = evaluate_deferred(task, world, active, stack, indexed, value)?;
+    let assigned = assign_deferred(task.alloc(), &mut active.variables, name, value)?;
+    Ok(assigned)
 }
 
 // Finds the target first, then evaluates the value, then stores it.
@@ -77,9 +95,8 @@ fn assign_path(
     Ok(value)
 }
 
-/// Assigns to a variable, if the assignment's own value is not used. A list that begins with the elements of a
-/// variable, one that `listset` makes, and `{@list, last}` within `a ? b | c` are made in place if that can be. Not inlined, so that nested statements
-/// need no stack space for it.
+/// Assigns to a variable, if the assignment's own value is not used. A list that the value changes is changed in place
+/// if that can be. Not inlined, so that nested statements need no stack space for it.
 #[cycle(evaluation)]
 #[inline(never)]
 pub(crate) fn assign_value(
@@ -93,16 +110,10 @@ pub(crate) fn assign_value(
     ensures meaning { IsKnown result → Does Faults (context_of stack.now None) (performs (assign (variable name.now) (source value.now))) (state_of task.old world.old active.old) (seen_flow result) (state_of task.new world.new active.new) }
     ensures ticks { task.new.ticks_left ≤ task.old.ticks_left }
 {
-    if let Some((held, more)) = as_longer(value) {
-        return lengthen_by(task, world, active, stack, name, held, more);
-    }
-    if let Some((called, items)) = as_list_set(value) {
-        return update(task, world, active, stack, name, called, items);
-    }
     task.take_tick(active, stack)?;
-    if is_longer_list(value) {
-        let longer = evaluate_deferred(task, world, active, stack, None, value)?;
-        set_deferred(task.alloc(), &mut active.variables, name, longer)?;
+    if is_list_change(value) {
+        let value = evaluate_deferred(task, world, active, stack, None, value)?;
+        set_deferred(task.alloc(), &mut active.variables, name, value)?;
         return Ok(Flow::Next);
     }
     let value = evaluate_tried(task, world, active, stack, None, value)?;

@@ -8,9 +8,9 @@ ghost use Rattle.moo_eval_task.specs.Element.{sets_place, IsPut};
 ghost use Rattle.moo_eval_semantics.specs.Meaning.{Computes, Does};
 ghost use Rattle.moo_eval_task.specs.Seen.{state_of};
 
-use crate::deferred::evaluate_deferred;
+use crate::deferred::evaluate_stored;
 use crate::interpreter::evaluate;
-use moo_eval_access::{is_longer_list, set_at, set_deferred_at};
+use moo_eval_access::set_deferred_at;
 use moo_eval_frame::{Activation, CallStack, Failure, Flow, Stop, read_variable};
 use moo_eval_task::Task;
 use moo_syntax_ast::Name;
@@ -60,25 +60,13 @@ fn put_at(
 {
     let container = read_variable(active, name)?;
     let place = evaluate(task, world, active, stack, Some(&container), place)?;
-    if is_longer_list(value) {
-        let longer = evaluate_deferred(task, world, active, stack, None, value)?;
-        set_deferred_at(
-            task.alloc(),
-            &mut active.variables,
-            name,
-            container,
-            place,
-            longer,
-        )?;
-        return Ok(());
-    }
-    let value = evaluate(task, world, active, stack, None, value)?;
-    set_at(
+    let value = evaluate_stored(task, world, active, stack, None, value)?;
+    set_deferred_at(
         task.alloc(),
         &mut active.variables,
         name,
         container,
-        &place,
+        place,
         value,
     )?;
     Ok(())

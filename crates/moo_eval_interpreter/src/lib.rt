@@ -20,7 +20,6 @@ mod operators;
 mod property;
 mod property_element;
 mod scattering;
-mod setting;
 mod statement;
 mod trying;
 mod update;

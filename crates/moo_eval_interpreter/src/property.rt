@@ -9,12 +9,10 @@ ghost use Rattle.moo_builtin.specs.Telling.{Faults};
 ghost use Rattle.moo_eval_semantics.specs.Meaning.{Computes, Does};
 ghost use Rattle.moo_eval_task.specs.Seen.{state_of};
 
-use crate::deferred::evaluate_deferred;
+use crate::deferred::evaluate_stored;
 use crate::interpreter::evaluate;
-use crate::setting::evaluate_to_set;
 use moo_eval_access::{
-    as_text, is_longer_list, read_property, read_written, write_deferred, write_property,
-    write_written,
+    as_text, read_property, read_written, write_deferred, write_written_deferred,
 };
 use moo_eval_frame::{Activation, CallStack, Failure, Flow, Stop};
 use moo_eval_task::Task;
@@ -103,14 +101,10 @@ fn put_property(
     let base = evaluate(task, world, active, stack, None, base)?;
     if let Some(name) = as_text(name) {
         task.take_tick(active, stack)?;
-        let value = evaluate_to_set(task, world, active, stack, &base, name, value)?;
-        return write_written(world, active.programmer, &base, name, value);
+        let value = evaluate_stored(task, world, active, stack, None, value)?;
+        return write_written_deferred(task.alloc(), world, active.programmer, &base, name, value);
     }
     let name = evaluate(task, world, active, stack, None, name)?;
-    if is_longer_list(value) {
-        let longer = evaluate_deferred(task, world, active, stack, None, value)?;
-        return write_deferred(task.alloc(), world, active.programmer, &base, &name, longer);
-    }
-    let value = evaluate(task, world, active, stack, None, value)?;
-    write_property(world, active.programmer, &base, &name, value)
+    let value = evaluate_stored(task, world, active, stack, None, value)?;
+    write_deferred(task.alloc(), world, active.programmer, &base, &name, value)
 }

@@ -9,9 +9,9 @@ ghost use Rattle.moo_eval_semantics.specs.Meaning.{Computes, Does};
 ghost use Rattle.moo_eval_task.specs.Element.{sets_part};
 ghost use Rattle.moo_eval_task.specs.Seen.{state_of};
 
-use crate::deferred::evaluate_deferred;
+use crate::deferred::evaluate_stored;
 use crate::interpreter::evaluate;
-use moo_eval_access::{is_longer_list, read_written, set_property_at, set_property_deferred_at};
+use moo_eval_access::{read_written, set_property_deferred_at};
 use moo_eval_frame::{Activation, CallStack, Failure, Flow, Stop};
 use moo_eval_task::Task;
 use moo_syntax_ast::Text;
@@ -62,28 +62,15 @@ fn put_property_element(
     task.take_tick(active, stack)?;
     let container = read_written(task.alloc(), world, active.programmer, &base, name)?;
     let place = evaluate(task, world, active, stack, Some(&container), place)?;
-    if is_longer_list(value) {
-        let longer = evaluate_deferred(task, world, active, stack, None, value)?;
-        return set_property_deferred_at(
-            task.alloc(),
-            world,
-            active.programmer,
-            &base,
-            name,
-            container,
-            place,
-            longer,
-        );
-    }
-    let value = evaluate(task, world, active, stack, None, value)?;
-    set_property_at(
+    let value = evaluate_stored(task, world, active, stack, None, value)?;
+    set_property_deferred_at(
         task.alloc(),
         world,
         active.programmer,
         &base,
         name,
         container,
-        &place,
+        place,
         value,
     )
 }

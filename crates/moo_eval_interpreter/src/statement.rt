@@ -16,7 +16,7 @@ use crate::deciding::logic_alone;
 use crate::element::set_element;
 use crate::extension::extend_value;
 use crate::interpreter::evaluate;
-use crate::lengthening::{lengthen, prepend};
+use crate::lengthening::lengthen;
 use crate::loops::{for_list, for_range, repeat};
 use crate::nodes::evaluate_parts;
 use crate::property::set_property;
@@ -50,7 +50,6 @@ fn perform(
         NodeStmt::Expression(node) => evaluate_alone(task, world, active, stack, node),
         NodeStmt::Set(name, value) => assign_value(task, world, active, stack, name, value),
         NodeStmt::Lengthen(name, last) => lengthen(task, world, active, stack, name, last),
-        NodeStmt::Prepend(name, first) => prepend(task, world, active, stack, name, first),
         NodeStmt::Extend(name, last) => extend_value(task, world, active, stack, name, last),
         NodeStmt::Update(name, called, items) => {
             update(task, world, active, stack, name, called, items)

@@ -1,4 +1,4 @@
-//! Runs `x = f(x, a);` for a function that makes a list of its first argument, and `x = listset(l, a, i);`.
+//! Runs `x = f(x, a);` for a function that makes a list of its first argument.
 ghost use Rattle.std.specs.Prelude.{◌≤◌, None, Err, IfErr, OnOk};
 ghost use Rattle.moo_syntax_ast.specs.Tree.{variable, assign, performs, call};
 ghost use Rattle.moo_syntax_lower.specs.Source.{source_items};
@@ -8,10 +8,9 @@ ghost use Rattle.moo_eval_task.specs.SetTo.{IsSetTo};
 ghost use Rattle.moo_builtin.specs.Telling.{Faults};
 ghost use Rattle.moo_eval_task.specs.Seen.{state_of};
 
-use crate::functions::call_with;
-use crate::interpreter::evaluate_all;
-use moo_eval_call::{has_list, set_list};
-use moo_eval_frame::{Activation, CallStack, Failure, Flow, Gathered, Stop};
+use crate::deferred::defer_call;
+use moo_eval_access::{Deferred, set_called, set_deferred};
+use moo_eval_frame::{Activation, CallStack, Failure, Flow, Stop};
 use moo_eval_task::Task;
 use moo_syntax_ast::Name;
 use moo_syntax_lower::{FunctionName, NodeItem};
@@ -55,24 +54,16 @@ fn put_updated(
     ensures err { IfErr result (λ failure. HadMemoryIn failure → Computes Faults (context_of stack.now None) (call called.now (source_items items.now)) (state_of task.old world.old active.old) (Err (failure_of failure)) (state_of task.new world.new active.new)) }
     ensures ticks { task.new.ticks_left ≤ task.old.ticks_left }
 {
-    let room = task.spare.take_values();
-    let values = evaluate_all(task, world, active, stack, None, items, room)?;
-    let mut args = values.into_values(task.alloc())?;
-    if let Some(function) = called.function() {
-        if has_list(function, &args) {
-            set_list(
-                task.alloc(),
-                &mut active.variables,
-                name,
-                function,
-                &mut args,
-            )?;
-            task.spare.keep_values(args);
-            return Ok(());
+    let value = defer_call(task, world, active, stack, None, called, items)?;
+    match value {
+        Deferred::Called(call) => {
+            let room = set_called(task.alloc(), &mut active.variables, name, call)?;
+            task.spare.keep_values(room);
+            Ok(())
+        }
+        value => {
+            set_deferred(task.alloc(), &mut active.variables, name, value)?;
+            Ok(())
         }
     }
-    let values = Gathered::of(task.alloc(), args);
-    let value = call_with(task, world, active, stack, called, values)?;
-    active.variables.set(name, value)?;
-    Ok(())
 }

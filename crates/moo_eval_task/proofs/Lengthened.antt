@@ -59,13 +59,8 @@ pub second_stops : {T : Telling} {c : Context} {a e : Expr} {s s1 s' : State} {s
 second_stops vs d g = operands_end (splice_then d (ap Ok (trees_of-elements_of vs)) (element_stops g) refl)
 
 -- the elements of a list, and the values of further items after them
-pub longer_by : {T : Telling} {c : Context} {x y : List ℕ} {items : Items} {s s1 s2 t : State} {us : List Tree} {w : Tree} (vs : List Tree) → Evaluates T c (variable y) s (Ok (list_of vs)) s1 → EvaluatesAll T c items s1 (Ok us) s2 → made_list (vs ++ us) ≡ Ok w → bound (bind x w ∷ []) s2 ≡ t → IsSetTo T c x (program.list (splice (variable y) items)) s t
-longer_by {s2 = s2} {w = w} vs d g made sets = record {
-  value = w;
-  between = s2;
-  computes = applies (splice_then d (ap Ok (trees_of-elements_of vs)) g refl) no_more (list_is (ap answers made));
-  sets = sets;
-}
+pub longer_all : {T : Telling} {c : Context} {a : Expr} {items : Items} {s s1 s2 : State} {us : List Tree} {w : Tree} (vs : List Tree) → Evaluates T c a s (Ok (list_of vs)) s1 → EvaluatesAll T c items s1 (Ok us) s2 → made_list (vs ++ us) ≡ Ok w → Computes T c (program.list (splice a items)) s (Ok w) s2
+longer_all vs d g made = applies (splice_then d (ap Ok (trees_of-elements_of vs)) g refl) no_more (list_is (ap answers made))
 
 -- past the limits
 pub too_long_by : {T : Telling} {c : Context} {a : Expr} {items : Items} {s s1 s2 : State} {us : List Tree} {failure : Failure} (vs : List Tree) → Evaluates T c a s (Ok (list_of vs)) s1 → EvaluatesAll T c items s1 (Ok us) s2 → answers (made_list (vs ++ us)) ≡ Err failure → Computes T c (program.list (splice a items)) s (Err failure) s2

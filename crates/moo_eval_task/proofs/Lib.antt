@@ -8,6 +8,6 @@ pub mod Lengthened
 pub mod ElementLengthened
 pub mod Placed
 pub mod Properties
-pub mod Reached
+pub mod Stored
 pub mod Looking
 pub mod Ticks

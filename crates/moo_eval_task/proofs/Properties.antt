@@ -1,5 +1,5 @@
 -- Assignments to properties, and scatters.
-use Rattle.std.proofs.Common.{◌≡◌, ◌<◌, ◌-◌, ℕ, ℤ, List, [], ◌∷◌, Option, Result, Ok, Err, arith, OnOk, IfErr, refl, sym, ap, ◌∙◌}
+use Rattle.std.proofs.Common.{◌≡◌, ◌<◌, ◌-◌, ℕ, ℤ, List, [], ◌∷◌, Option, Result, Ok, Err, arith, refl, sym, ap, ◌∙◌}
 use Rattle.moo_value.specs.declared.error_code.ErrorCode.{ErrorCode}
 use Rattle.moo_value.specs.Tree.{Tree, object, string}
 use Rattle.moo_world_table.specs.World.{World}
@@ -14,8 +14,6 @@ use Rattle.moo_eval_frame.specs.State.{Context}
 use Rattle.moo_eval_access.specs.Calls.{read_property}
 use Rattle.moo_eval_access.specs.State.{State, ticked, bound}
 use Rattle.moo_eval_access.specs.Target.{owned, scattered}
-use Rattle.moo_eval_frame.specs.declared.outcome.Failure as code_failure
-use Rattle.moo_eval_frame.specs.Seen.{seen_done, failure_of, HadMemoryIn}
 use Rattle.moo_eval_semantics.specs.Operands.{with_value}
 use Rattle.moo_builtin.specs.Telling.{Telling, Faults}
 use Rattle.moo_eval_task.specs.Leaves.{GivesLeaf}
@@ -37,15 +35,6 @@ name_stops d g = applies no_more no_more (assign_is (target_ends (root_ends (par
 -- the value stops
 pub value_stops_put : {T : Telling} {c : Context} {b n e : Expr} {s s1 s2 s3 : State} {x y : Tree} {stop : Stop} → Evaluates T c b s (Ok x) s1 → Evaluates T c n s1 (Ok y) s2 → Evaluates T c e s2 (Err stop) s3 → Computes T c (assign (property b n) e) s (Err (stops stop)) s3
 value_stops_put d g h = applies no_more no_more (assign_is (value_stops (locates (finds (element_then d (element_then g no_more refl) refl) refl) inside) h))
-
--- the value of an assignment, by whether it was stored
-pub value_put : {T : Telling} {c : Context} {e : Expr} {s t : State} (v : Tree) (r : Result (Unit {0}) code_failure.Failure) → Computes T c e s (with_value v (seen_done r)) t → OnOk r ((v : Tree) × Computes T c e s (Ok v) t)
-value_put v (Ok done) h = (v, h)
-value_put v (Err failure) h = tt
-
-pub value_refused : {T : Telling} {c : Context} {e : Expr} {s t : State} (v : Tree) (r : Result (Unit {0}) code_failure.Failure) → Computes T c e s (with_value v (seen_done r)) t → IfErr r (λ failure. HadMemoryIn failure → Computes T c e s (Err (failure_of failure)) t)
-value_refused v (Ok done) h = tt
-value_refused v (Err failure) h = λ k. h
 
 -- the value is evaluated, then its elements are dealt to the names
 pub dealt : {T : Telling} {c : Context} {items : Items} {e : Expr} {s s1 t : State} {v : Tree} {o : Result (Unit {0}) Failure} {r : Result Tree Failure} → Evaluates T c e s (Ok v) s1 → Puts T c (scattered items) v s1 o t → with_value v o ≡ r → Computes T c (assign (list items) e) s r t

@@ -1,7 +1,6 @@
 pub mod Seen
 pub mod Hooks
 pub mod SetTo
-pub mod Reached
 pub mod Element
 pub mod Leaves
 pub mod Attempts

@@ -5,7 +5,7 @@ use Rattle.moo_syntax_ast.specs.declared.operator.BinaryOperator.TheVariants.{Ad
 use Rattle.moo_syntax_ast.specs.Tree
 use Rattle.moo_syntax_ast.specs.Tree.{Block}
 use Rattle.moo_syntax_lower.specs.declared.node.Node as node
-use Rattle.moo_syntax_lower.specs.declared.statement.NodeStmt.{NodeStmt, Return, Expression, Set, Lengthen, Prepend, Extend, Update, Put, ScatterNames, Scatter, If', ForList', ForRange', While', Break, Continue, TryExcept', TryFinally', Row_of-NodeStmt, end_of-NodeStmt, more_of-NodeStmt, Row_of-NodeArm, end_of-NodeArm, more_of-NodeArm, Row_of-NodeHandler, end_of-NodeHandler, more_of-NodeHandler}
+use Rattle.moo_syntax_lower.specs.declared.statement.NodeStmt.{NodeStmt, Return, Expression, Set, Lengthen, Extend, Update, Put, ScatterNames, Scatter, If', ForList', ForRange', While', Break, Continue, TryExcept', TryFinally', Row_of-NodeStmt, end_of-NodeStmt, more_of-NodeStmt, Row_of-NodeArm, end_of-NodeArm, more_of-NodeArm, Row_of-NodeHandler, end_of-NodeHandler, more_of-NodeHandler}
 use Rattle.moo_syntax_lower.specs.declared.statement.NodeArm.{NodeArm, ElseIf', Else'}
 use Rattle.moo_syntax_lower.specs.declared.statement.NodeHandler.{NodeHandler, Except', ExceptAs'}
 use Rattle.moo_syntax_lower.specs.Source.{source, source_codes, source_items}
@@ -26,7 +26,6 @@ abbrev mutual
   source_statement (Expression e) = Tree.performs (root e)
   source_statement (Set v e) = Tree.performs (Tree.assign (Tree.variable v) (root e))
   source_statement (Lengthen v e) = Tree.performs (Tree.assign (Tree.variable v) (Tree.list (Tree.splice (Tree.variable v) (Tree.element (root e) Tree.no_items))))
-  source_statement (Prepend v e) = Tree.performs (Tree.assign (Tree.variable v) (Tree.list (Tree.element (root e) (Tree.splice (Tree.variable v) Tree.no_items))))
   source_statement (Extend v e) = Tree.performs (Tree.assign (Tree.variable v) (Tree.binary Add (Tree.variable v) (root e)))
   source_statement (Update v f xs) = Tree.performs (Tree.assign (Tree.variable v) (Tree.call f (source_items xs.items)))
   source_statement (Put v a e) = Tree.performs (Tree.assign (Tree.index (Tree.variable v) (root a)) (root e))

@@ -48,9 +48,6 @@ fn lower_set(alloc: Global, name: &Name, value: &Expr) -> Result<NodeStmt, Alloc
     if let Some(last) = as_longer(name, value) {
         return Ok(NodeStmt::Lengthen(copy, lower_boxed(alloc, last)?));
     }
-    if let Some(first) = as_prepended(name, value) {
-        return Ok(NodeStmt::Prepend(copy, lower_boxed(alloc, first)?));
-    }
     match as_extended(name, value) {
         Some(last) => Ok(NodeStmt::Extend(copy, lower_boxed(alloc, last)?)),
         None => Ok(NodeStmt::Set(copy, lower_boxed(alloc, value)?)),
@@ -168,23 +165,6 @@ fn as_longer<'a>(name: &Name, value: &'a Expr) -> Option<&'a Expr>
     let last = as_element(last)?;
     if own.is_spelled_as(name) {
         Some(last)
-    } else {
-        None
-    }
-}
-
-// Returns the first element, if the expression is a list of one more and all elements of this variable, `{a, @x}`.
-fn as_prepended<'a>(name: &Name, value: &'a Expr) -> Option<&'a Expr>
-    ensures { IfSome result (λ first. tree value.now ≡ source_tree.list (source_tree.element (tree first.now) (source_tree.splice (source_tree.variable name.now) source_tree.no_items))) }
-{
-    let Expr::List(items) = value else {
-        return None;
-    };
-    let (item, rest) = two_items(items)?;
-    let first = as_element(item)?;
-    let own = as_variable(as_splice(rest)?)?;
-    if own.is_spelled_as(name) {
-        Some(first)
     } else {
         None
     }

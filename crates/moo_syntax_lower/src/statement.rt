@@ -10,14 +10,12 @@ use moo_value::MooStr;
 pub enum NodeStmt {
     /// `return;` or `return a;`
     Return(Option<Box<Node>>),
-    /// `a;`, a statement of an expression that none of the next eight is.
+    /// `a;`, a statement of an expression that none of the next seven is.
     Expression(Box<Node>),
     /// `x = a;`
     Set(Name, Box<Node>),
     /// `x = {@x, a};`
     Lengthen(Name, Box<Node>),
-    /// `x = {a, @x};`
-    Prepend(Name, Box<Node>),
     /// `x = x + a;`
     Extend(Name, Box<Node>),
     /// `x = f(x, ..);` for a built-in function that makes a list of a list, as `listappend`.

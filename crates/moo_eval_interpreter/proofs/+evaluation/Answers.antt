@@ -1,4 +1,4 @@
-use Rattle.std.proofs.Common.{not, ⊎_elim, ◌-◌, ◌∷◌, ◌++◌, [], Ok, Err, refl, sym, ap, subst, ◌∙◌, arith, rules, Some, None, ◌+◌, drop, map}
+use Rattle.std.proofs.Common.{not, ⊎_elim, ◌-◌, ◌∷◌, [], Ok, Err, refl, sym, ap, subst, ◌∙◌, arith, rules, Some, None, ◌+◌, drop, map}
 use Rattle.std.proofs.lemmas.Result.{IfOk-weaker, err_from_is_err_and, on_ok_weaker}
 use Rattle.std.proofs.lemmas.List.{append-nil}
 use Rattle.std.proofs.lemmas.Int.{to_z-of_z}
@@ -22,19 +22,15 @@ use Rattle.moo_eval_interpreter.proofs.Caught.{guards_end, attempt_stops, attemp
 use Rattle.moo_syntax_ast.specs.Tree as program
 use Rattle.moo_syntax_ast.specs.declared.tree.Literal.TheVariants.{Str}
 use Rattle.moo_syntax_ast.specs.declared.operator.BinaryOperator.TheVariants.{Add}
-use Rattle.moo_syntax_ast.specs.Tree.{variable, binary, splice, element, no_items, no_handler}
-use Rattle.moo_eval_task.proofs.Lengthened.{lengthened, longer, too_long, first_stops, first_fails, unspliced, second_stops, longer_by, too_long_by, spliced_stops, spliced_fails, items_end}
+use Rattle.moo_syntax_ast.specs.Tree.{variable, binary, element, no_handler}
+use Rattle.moo_eval_task.proofs.Lengthened.{lengthened, longer, too_long, first_stops, first_fails, unspliced, second_stops, longer_all, too_long_by, spliced_stops, spliced_fails, items_end}
 use Rattle.moo_eval_interpreter.proofs.Prepended as front
 use Rattle.moo_eval_task.specs.Element.{sets_place}
 use Rattle.moo_eval_task.proofs.Placed.{put, does_from, not_put, unheld, place_ends, value_ends, passed_over, stopped}
 use Rattle.moo_eval_task.proofs.Direct.{assigned, unassigned, performed, unperformed, literal_read}
 use Rattle.moo_eval_task.proofs.Extended.{extended, unextended}
-use Rattle.moo_eval_interpreter.proofs.Updated.{updated, list_called}
-use Rattle.moo_eval_task.proofs.Reached.{reached_by, value_reached, value_stopped, answer_reached, answer_failed, put_reached, known_put, known_refused, known_kept, part_stored, object_stops_part, name_stops_part, unread_part, place_stops_part, value_stops_part, part_put}
-use Rattle.moo_builtin_operator.proofs.Lawful.{limited_within}
-use Rattle.moo_eval_access.proofs.Longer.{is_quota}
-use Rattle.moo_value.specs.Tree.{list_of}
-use Rattle.std.proofs.lemmas.Bool.{false≢true}
+use Rattle.moo_eval_interpreter.proofs.ListCalls.{list_called}
+use Rattle.moo_eval_task.proofs.Stored.{known_put, known_refused, known_kept, part_stored, object_stops_part, name_stops_part, unread_part, place_stops_part, value_stops_part, part_put}
 use Rattle.moo_eval_task.proofs.Properties as property
 use Rattle.moo_builtin_operator.specs.Truth.{is_true, truth_value}
 use Rattle.moo_eval_interpreter.proofs.ObjectCalls.{named}
@@ -817,62 +813,21 @@ statement::give-returns-in_err-evaluate-in-Some-clause-meaning t c =
     let p = err_from_is_err_and c.from_residual.result c.from_residual.ensures.1 in
     rw (p.1, p.2, c.in-Some.is, ← c.deref.ensures) (λ k. gives (c.in_err-evaluate-in-Some.ensures.meaning k) refl)
 
-pub assignment::assign-returns-in_ok-set-in-Variable-clause-meaning : goal.assignment::assign-returns-in_ok-set-in-Variable-clause-meaning
-assignment::assign-returns-in_ok-set-in-Variable-clause-meaning t c =
-    λ k. rw c.in-Variable.is (assigned (c.in_ok-value-in-Variable.ensures.meaning tt) (same_state (sym (rw c.in_ok-copy-in-Variable.ensures.value at c.in_ok-set-in-Variable.ensures)) refl))
+pub assignment::assign-returns-in_ok-set-in-Variable-2-clause-meaning : goal.assignment::assign-returns-in_ok-set-in-Variable-2-clause-meaning
+assignment::assign-returns-in_ok-set-in-Variable-2-clause-meaning t c =
+    λ k. rw c.in-Variable-2.is (assigned (c.in_ok-value-in-Variable-2.ensures.meaning tt) (same_state (sym (rw c.in_ok-copy-in-Variable-2.ensures.value at c.in_ok-set-in-Variable-2.ensures)) refl))
 
-pub assignment::assign-returns-in_err-value-in-Variable-clause-meaning : goal.assignment::assign-returns-in_err-value-in-Variable-clause-meaning
-assignment::assign-returns-in_err-value-in-Variable-clause-meaning t c =
-    let p = err_from_is_err_and c.from_residual-in_err-value-in-Variable.result c.from_residual-in_err-value-in-Variable.ensures.1 in rw (p.1, p.2) (λ k. rw c.in-Variable.is (unassigned (c.in_err-value-in-Variable.ensures.meaning k)))
+pub assignment::assign-returns-in_err-value-in-Variable-2-clause-meaning : goal.assignment::assign-returns-in_err-value-in-Variable-2-clause-meaning
+assignment::assign-returns-in_err-value-in-Variable-2-clause-meaning t c =
+    let p = err_from_is_err_and c.from_residual.result c.from_residual.ensures.1 in rw (p.1, p.2) (λ k. rw c.in-Variable-2.is (unassigned (c.in_err-value-in-Variable-2.ensures.meaning k)))
 
 pub assignment::assign_value-returns-clause-meaning : goal.assignment::assign_value-returns-clause-meaning
 assignment::assign_value-returns-clause-meaning t c =
-    λ k. performed c.in_ok-take_tick.ensures.taken (assigned (rw c.in_ok-take_tick.ensures.left at (c.in_ok-value.ensures.meaning tt)) (same_state (sym c.in_ok-set.ensures) refl))
+    λ k. performed c.in_ok-take_tick.ensures.taken (assigned (rw c.in_ok-take_tick.ensures.left at (c.in_ok-value-2.ensures.meaning tt)) (same_state (sym c.in_ok-set.ensures) refl))
 
 pub assignment::assign_value-returns-in_err-take_tick-clause-meaning : goal.assignment::assign_value-returns-in_err-take_tick-clause-meaning
 assignment::assign_value-returns-in_err-take_tick-clause-meaning t c =
     let p = err_from_is_err_and c.from_residual.result c.from_residual.ensures.1 in rw (p.1, p.2) (λ k. let h = c.in_err-take_tick.ensures.spent k in rw (c.in_err-take_tick.ensures.kept, h.1) (evaluates (spent h.0) refl))
-
-pub assignment::assign_value-returns-in_err-value-clause-meaning : goal.assignment::assign_value-returns-in_err-value-clause-meaning
-assignment::assign_value-returns-in_err-value-clause-meaning t c =
-    let p = err_from_is_err_and c.from_residual-in_err-value.result c.from_residual-in_err-value.ensures.1 in rw (p.1, p.2) (λ k. unperformed c.in_ok-take_tick.ensures.taken (unassigned (rw c.in_ok-take_tick.ensures.left at (c.in_err-value.ensures.meaning k))))
-
-pub assignment::assign_value-returns-in-Some-clause-meaning : goal.assignment::assign_value-returns-in-Some-clause-meaning
-assignment::assign_value-returns-in-Some-clause-meaning t c = rw c.in-Some.ensures c.lengthen_by.ensures.meaning
-
-pub lengthening::lengthen_by-returns-clause-meaning : goal.lengthening::lengthen_by-returns-clause-meaning
-lengthening::lengthen_by-returns-clause-meaning t c =
-    λ k. c.end_assignment.ensures _ _ _ c.in_ok-take_tick.ensures.taken (rw c.in_ok-take_tick.ensures.left at c.in_ok-take_tick-2.ensures.taken) (rw (c.in_ok-take_tick-2.ensures.left, c.in_ok-take_tick.ensures.left) at c.put_all_longer-set.ensures.ok) (rw (c.in_ok-take_tick-2.ensures.left, c.in_ok-take_tick.ensures.left) at c.put_all_longer-set.ensures.err) k
-
-pub lengthening::lengthen_by-returns-in_err-take_tick-clause-meaning : goal.lengthening::lengthen_by-returns-in_err-take_tick-clause-meaning
-lengthening::lengthen_by-returns-in_err-take_tick-clause-meaning t c =
-    let p = err_from_is_err_and c.from_residual.result c.from_residual.ensures.1 in rw (p.1, p.2) (λ k. let h = c.in_err-take_tick.ensures.spent k in rw (c.in_err-take_tick.ensures.kept, h.1) (evaluates (spent h.0) refl))
-
-pub lengthening::lengthen_by-returns-in_err-take_tick-2-clause-meaning : goal.lengthening::lengthen_by-returns-in_err-take_tick-2-clause-meaning
-lengthening::lengthen_by-returns-in_err-take_tick-2-clause-meaning t c =
-    let p = err_from_is_err_and c.from_residual-in_err-take_tick-2.result c.from_residual-in_err-take_tick-2.ensures.1 in rw (p.1, p.2) (λ k. let h = c.in_err-take_tick-2.ensures.spent k in rw (c.in_err-take_tick-2.ensures.kept, c.in_ok-take_tick.ensures.left, h.1) (unperformed c.in_ok-take_tick.ensures.taken (unassigned (spent (rw c.in_ok-take_tick.ensures.left at h.0)))))
-
-pub lengthening::put_all_longer-returns-clause-ok : goal.lengthening::put_all_longer-returns-clause-ok
-lengthening::put_all_longer-returns-clause-ok t c =
-    let h = c.in_ok-set_all_longer.ensures.ok in
-    longer_by c.in-List.list (rw c.in-List.is at (c.in_ok-found.ensures.meaning None c.args.world.now tt)) (c.in_ok-values.ensures.meaning tt) h.1 (same_state (sym h.2) refl)
-
-pub lengthening::put_all_longer-returns-in_err-found-clause-err : goal.lengthening::put_all_longer-returns-in_err-found-clause-err
-lengthening::put_all_longer-returns-in_err-found-clause-err t c =
-    let p = err_from_is_err_and c.from_residual.result c.from_residual.ensures.1 in rw (p.1, p.2) (λ k. spliced_stops (c.in_err-found.ensures.meaning None c.args.world.now k))
-
-pub lengthening::put_all_longer-returns-in_default-clause-err : goal.lengthening::put_all_longer-returns-in_default-clause-err
-lengthening::put_all_longer-returns-in_default-clause-err t c =
-    λ k. spliced_fails (c.in_ok-found.ensures.meaning None c.args.world.now tt) (unspliced _ c.in_default.not-List)
-
-pub lengthening::put_all_longer-returns-in_err-values-clause-err : goal.lengthening::put_all_longer-returns-in_err-values-clause-err
-lengthening::put_all_longer-returns-in_err-values-clause-err t c =
-    let p = err_from_is_err_and c.from_residual-in_err-values.result c.from_residual-in_err-values.ensures.1 in rw (p.1, p.2) (λ k. items_end c.in-List.list (rw c.in-List.is at (c.in_ok-found.ensures.meaning None c.args.world.now tt)) (c.in_err-values.ensures.meaning k))
-
-pub lengthening::put_all_longer-returns-in_err-set_all_longer-clause-err : goal.lengthening::put_all_longer-returns-in_err-set_all_longer-clause-err
-lengthening::put_all_longer-returns-in_err-set_all_longer-clause-err t c =
-    let p = err_from_is_err_and c.from_residual-in_err-set_all_longer.result c.from_residual-in_err-set_all_longer.ensures.1 in
-    rw (p.1, p.2) (λ k. subst (λ s. Computes Faults (context_of c.args.stack.now None) (program.list (splice (variable c.args.held.now) (source_items c.args.more.now))) (state_of c.args.task.now c.args.world.now c.args.active.now) (Err (failure_of c.in_err-set_all_longer.field-0.0)) s) (same_state (sym (c.in_err-set_all_longer.ensures.kept k)) refl) (too_long_by c.in-List.list (rw c.in-List.is at (c.in_ok-found.ensures.meaning None c.args.world.now tt)) (c.in_ok-values.ensures.meaning tt) (c.in_err-set_all_longer.ensures.err k)))
 
 pub lengthening::lengthen-returns-clause-meaning : goal.lengthening::lengthen-returns-clause-meaning
 lengthening::lengthen-returns-clause-meaning t c =
@@ -932,51 +887,6 @@ pub update::update-returns-in_err-take_tick-2-clause-meaning : goal.update::upda
 update::update-returns-in_err-take_tick-2-clause-meaning t c =
     let p = err_from_is_err_and c.from_residual-in_err-take_tick-2.result c.from_residual-in_err-take_tick-2.ensures.1 in rw (p.1, p.2) (λ k. let h = c.in_err-take_tick-2.ensures.spent k in rw (c.in_err-take_tick-2.ensures.kept, c.in_ok-take_tick.ensures.left, h.1) (unperformed c.in_ok-take_tick.ensures.taken (unassigned (spent (rw c.in_ok-take_tick.ensures.left at h.0)))))
 
-pub update::put_updated-returns-in_err-values-clause-err : goal.update::put_updated-returns-in_err-values-clause-err
-update::put_updated-returns-in_err-values-clause-err t c =
-    let p = err_from_is_err_and c.from_residual.result c.from_residual.ensures.1 in rw (p.1, p.2) (λ k. operands_end (c.in_err-values.ensures.meaning k))
-
-pub update::put_updated-returns-then-has_list-clause-ok : goal.update::put_updated-returns-then-has_list-clause-ok
-update::put_updated-returns-then-has_list-clause-ok t c =
-    let h = c.in_ok-set_list.ensures in
-    updated (c.in_ok-values.ensures.meaning tt) (ap trees c.deref_mut.ensures.value ∙ c.in_ok-args.ensures) (sym c.function.ensures ∙ c.in-Some.is) h.1 (same_state (sym h.2) refl)
-
-pub update::put_updated-returns-in_err-value-clause-err : goal.update::put_updated-returns-in_err-value-clause-err
-update::put_updated-returns-in_err-value-clause-err t c =
-    let p = err_from_is_err_and c.from_residual-in_err-value.result c.from_residual-in_err-value.ensures.1 in
-    rw (p.1, p.2) (λ k. applies (c.in_ok-values.ensures.meaning tt) no_more (rw (c.of-values.ensures, c.in_ok-args.ensures) at (c.in_err-value.ensures.meaning None (source_items c.args.items.now) k)))
-
-pub update::put_updated-returns-clause-ok : goal.update::put_updated-returns-clause-ok
-update::put_updated-returns-clause-ok t c =
-    record {
-      value = tree c.in_ok-value.value;
-      between = _;
-      computes = applies (c.in_ok-values.ensures.meaning tt) no_more (rw (c.of-values.ensures, c.in_ok-args.ensures) at (c.in_ok-value.ensures.meaning None (source_items c.args.items.now) tt));
-      sets = same_state (sym c.in_ok-set.ensures) refl;
-    }
-
-pub lengthening::put_longer-returns-clause-ok : goal.lengthening::put_longer-returns-clause-ok
-lengthening::put_longer-returns-clause-ok t c =
-    let h = c.in_ok-set_longer.ensures.ok in
-    lengthened c.in-List.list (rw c.in-List.is at (c.in_ok-found.ensures.meaning None c.args.world.now tt)) (c.in_ok-last.ensures.meaning tt) h.1 (same_state (sym h.2) refl)
-
-pub lengthening::put_longer-returns-in_err-found-clause-err : goal.lengthening::put_longer-returns-in_err-found-clause-err
-lengthening::put_longer-returns-in_err-found-clause-err t c =
-    let p = err_from_is_err_and c.from_residual.result c.from_residual.ensures.1 in rw (p.1, p.2) (λ k. first_stops (c.in_err-found.ensures.meaning None c.args.world.now k))
-
-pub lengthening::put_longer-returns-in_default-clause-err : goal.lengthening::put_longer-returns-in_default-clause-err
-lengthening::put_longer-returns-in_default-clause-err t c =
-    λ k. first_fails (c.in_ok-found.ensures.meaning None c.args.world.now tt) (unspliced _ c.in_default.not-List)
-
-pub lengthening::put_longer-returns-in_err-last-clause-err : goal.lengthening::put_longer-returns-in_err-last-clause-err
-lengthening::put_longer-returns-in_err-last-clause-err t c =
-    let p = err_from_is_err_and c.from_residual-in_err-last.result c.from_residual-in_err-last.ensures.1 in rw (p.1, p.2) (λ k. second_stops c.in-List.list (rw c.in-List.is at (c.in_ok-found.ensures.meaning None c.args.world.now tt)) (c.in_err-last.ensures.meaning k))
-
-pub lengthening::put_longer-returns-in_err-set_longer-clause-err : goal.lengthening::put_longer-returns-in_err-set_longer-clause-err
-lengthening::put_longer-returns-in_err-set_longer-clause-err t c =
-    let p = err_from_is_err_and c.from_residual-in_err-set_longer.result c.from_residual-in_err-set_longer.ensures.1 in
-    rw (p.1, p.2) (λ k. subst (λ s. Computes Faults (context_of c.args.stack.now None) (program.list (splice (variable c.args.name.now) (element (source c.args.last.now) no_items))) (state_of c.args.task.now c.args.world.now c.args.active.now) (Err (failure_of c.in_err-set_longer.field-0.0)) s) (same_state (sym (c.in_err-set_longer.ensures.kept k)) refl) (too_long c.in-List.list (rw c.in-List.is at (c.in_ok-found.ensures.meaning None c.args.world.now tt)) (c.in_ok-last.ensures.meaning tt) (c.in_err-set_longer.ensures.err k)))
-
 pub element::set_element-returns-then-is_longer-clause-meaning : goal.element::set_element-returns-then-is_longer-clause-meaning
 element::set_element-returns-then-is_longer-clause-meaning t c =
     λ k. c.in_ok-is_longer.ensures.lengthened c.if-is_longer.true c.args.world.now (context_of c.args.stack.now None)
@@ -990,10 +900,6 @@ element::set_element-returns-in_err-take_tick-clause-meaning t c =
     let p = err_from_is_err_and c.from_residual-in_err-take_tick.result c.from_residual-in_err-take_tick.ensures.1 in
     rw (p.1, p.2) (λ k. let h = c.in_err-take_tick.ensures.spent k in does_from (c.in_ok-is_longer.ensures.kept c.if-is_longer.false c.args.world.now) (rw (c.in_err-take_tick.ensures.kept, h.1) (evaluates (spent h.0) refl)))
 
-pub element::put_at-returns-clause-ok : goal.element::put_at-returns-clause-ok
-element::put_at-returns-clause-ok t c =
-    let h = c.in_ok-set_at.ensures.ok in put (c.in_ok-container.ensures.value tt) (c.in_ok-place.ensures.meaning tt) (c.in_ok-value.ensures.meaning tt) h.1 (same_state (sym h.2) refl)
-
 pub element::put_at-returns-in_err-container-clause-err : goal.element::put_at-returns-in_err-container-clause-err
 element::put_at-returns-in_err-container-clause-err t c =
     let p = err_from_is_err_and c.from_residual.result c.from_residual.ensures.1 in rw (p.1, p.2) (λ k. unheld (c.in_err-container.ensures.value k))
@@ -1001,15 +907,6 @@ element::put_at-returns-in_err-container-clause-err t c =
 pub element::put_at-returns-in_err-place-clause-err : goal.element::put_at-returns-in_err-place-clause-err
 element::put_at-returns-in_err-place-clause-err t c =
     let p = err_from_is_err_and c.from_residual-in_err-place.result c.from_residual-in_err-place.ensures.1 in rw (p.1, p.2) (λ k. place_ends (c.in_ok-container.ensures.value tt) (c.in_err-place.ensures.meaning k))
-
-pub element::put_at-returns-in_err-value-clause-err : goal.element::put_at-returns-in_err-value-clause-err
-element::put_at-returns-in_err-value-clause-err t c =
-    let p = err_from_is_err_and c.from_residual-in_err-value.result c.from_residual-in_err-value.ensures.1 in rw (p.1, p.2) (λ k. value_ends (c.in_ok-container.ensures.value tt) (c.in_ok-place.ensures.meaning tt) (c.in_err-value.ensures.meaning k))
-
-pub element::put_at-returns-in_err-set_at-clause-err : goal.element::put_at-returns-in_err-set_at-clause-err
-element::put_at-returns-in_err-set_at-clause-err t c =
-    let p = err_from_is_err_and c.from_residual-in_err-set_at.result c.from_residual-in_err-set_at.ensures.1 in
-    rw (p.1, p.2) (λ k. subst (λ s. Computes Faults (context_of c.args.stack.now None) (sets_place c.args.name.now (source c.args.place.now) (source c.args.value.now)) (state_of c.args.task.now c.args.world.now c.args.active.now) (Err (failure_of c.in_err-set_at.field-0.0)) s) (same_state (sym (c.in_err-set_at.ensures.kept k)) refl) (not_put (c.in_ok-container.ensures.value tt) (c.in_ok-place.ensures.meaning tt) (c.in_ok-value.ensures.meaning tt) (c.in_err-set_at.ensures.err k)))
 
 pub statement::drop_value-returns-then-is_put-clause-meaning : goal.statement::drop_value-returns-then-is_put-clause-meaning
 statement::drop_value-returns-then-is_put-clause-meaning t c =
@@ -1139,29 +1036,9 @@ pub property::put_property-returns-in_err-value-clause-err : goal.property::put_
 property::put_property-returns-in_err-value-clause-err t c =
     let p = err_from_is_err_and c.from_residual-in_err-value.result c.from_residual-in_err-value.ensures.1 in rw (p.1, p.2) (λ k. rw c.in-Some.ensures (property.value_stops_put (c.in_ok-base.ensures.meaning tt) (literal_read c.in_ok-take_tick.ensures.taken) (rw c.in_ok-take_tick.ensures.left at (c.in_err-value.ensures.err k))))
 
-pub property::put_property-returns-in-Some-clause-ok : goal.property::put_property-returns-in-Some-clause-ok
-property::put_property-returns-in-Some-clause-ok t c =
-    rw c.in-Some.ensures (property.value_put _ c.write_written.result (let f : SFits w32 c.evaluate_to_set.new.active.programmer = search rules in put_reached c.write_written.result (c.in_ok-base.ensures.meaning tt) (literal_read c.in_ok-take_tick.ensures.taken) (rw c.in_ok-take_tick.ensures.left at c.in_ok-value.ensures.ok) (rw (to_z-of_z w32 c.evaluate_to_set.new.active.programmer f) at c.write_written.ensures.world) c.write_written.ensures.kept))
-
-pub property::put_property-returns-in-Some-clause-err : goal.property::put_property-returns-in-Some-clause-err
-property::put_property-returns-in-Some-clause-err t c =
-    rw c.in-Some.ensures (property.value_refused _ c.write_written.result (let f : SFits w32 c.evaluate_to_set.new.active.programmer = search rules in put_reached c.write_written.result (c.in_ok-base.ensures.meaning tt) (literal_read c.in_ok-take_tick.ensures.taken) (rw c.in_ok-take_tick.ensures.left at c.in_ok-value.ensures.ok) (rw (to_z-of_z w32 c.evaluate_to_set.new.active.programmer f) at c.write_written.ensures.world) c.write_written.ensures.kept))
-
 pub property::put_property-returns-in_err-name-clause-err : goal.property::put_property-returns-in_err-name-clause-err
 property::put_property-returns-in_err-name-clause-err t c =
     let p = err_from_is_err_and c.from_residual-in_err-name.result c.from_residual-in_err-name.ensures.1 in rw (p.1, p.2) (λ k. property.name_stops (c.in_ok-base.ensures.meaning tt) (c.in_err-name.ensures.meaning k))
-
-pub property::put_property-returns-in_err-value-2-clause-err : goal.property::put_property-returns-in_err-value-2-clause-err
-property::put_property-returns-in_err-value-2-clause-err t c =
-    let p = err_from_is_err_and c.from_residual-in_err-value-2.result c.from_residual-in_err-value-2.ensures.1 in rw (p.1, p.2) (λ k. property.value_stops_put (c.in_ok-base.ensures.meaning tt) (c.in_ok-name.ensures.meaning tt) (c.in_err-value-2.ensures.meaning k))
-
-pub property::put_property-returns-clause-ok : goal.property::put_property-returns-clause-ok
-property::put_property-returns-clause-ok t c =
-    property.value_put _ c.write_property.result (property.put (c.in_ok-base.ensures.meaning tt) (c.in_ok-name.ensures.meaning tt) (c.in_ok-value-2.ensures.meaning tt) (let f : SFits w32 c.evaluate-3.new.active.programmer = search rules in property_put _ (rw (to_z-of_z w32 c.evaluate-3.new.active.programmer f) at c.write_property.ensures.world) c.write_property.ensures.kept) refl)
-
-pub property::put_property-returns-clause-err : goal.property::put_property-returns-clause-err
-property::put_property-returns-clause-err t c =
-    property.value_refused _ c.write_property.result (property.put (c.in_ok-base.ensures.meaning tt) (c.in_ok-name.ensures.meaning tt) (c.in_ok-value-2.ensures.meaning tt) (let f : SFits w32 c.evaluate-3.new.active.programmer = search rules in property_put _ (rw (to_z-of_z w32 c.evaluate-3.new.active.programmer f) at c.write_property.ensures.world) c.write_property.ensures.kept) refl)
 
 pub scattering::scatter_alone-returns-in_err-value-clause-meaning : goal.scattering::scatter_alone-returns-in_err-value-clause-meaning
 scattering::scatter_alone-returns-in_err-value-clause-meaning t c =
@@ -1178,44 +1055,6 @@ scattering::scatter_alone-returns-in_err-_error-in-Err-clause-meaning t c =
 pub scattering::scatter_alone-returns-clause-meaning : goal.scattering::scatter_alone-returns-clause-meaning
 scattering::scatter_alone-returns-clause-meaning t c =
     λ k. passed_over c.in_ok-take_tick.ensures.taken (property.dealt (rw c.in_ok-take_tick.ensures.left at (c.in_ok-value.ensures.meaning tt)) (rw c.in-Err.is at (c.scatter.ensures.meaning (rw c.in-Err.is (c.in_ok-_error-in-Err.ensures.known tt)))) refl) (c.in_ok-_error-in-Err.ensures.outcome tt)
-
-pub lengthening::prepend-returns-clause-meaning : goal.lengthening::prepend-returns-clause-meaning
-lengthening::prepend-returns-clause-meaning t c =
-    λ k. c.end_assignment.ensures _ _ _ c.in_ok-take_tick.ensures.taken (rw c.in_ok-take_tick.ensures.left at c.in_ok-take_tick-2.ensures.taken) (rw (c.in_ok-take_tick-2.ensures.left, c.in_ok-take_tick.ensures.left) at c.put_prepended-set.ensures.ok) (rw (c.in_ok-take_tick-2.ensures.left, c.in_ok-take_tick.ensures.left) at c.put_prepended-set.ensures.err) k
-
-pub lengthening::prepend-returns-in_err-take_tick-clause-meaning : goal.lengthening::prepend-returns-in_err-take_tick-clause-meaning
-lengthening::prepend-returns-in_err-take_tick-clause-meaning t c =
-    let p = err_from_is_err_and c.from_residual.result c.from_residual.ensures.1 in rw (p.1, p.2) (λ k. let h = c.in_err-take_tick.ensures.spent k in rw (c.in_err-take_tick.ensures.kept, h.1) (evaluates (spent h.0) refl))
-
-pub lengthening::prepend-returns-in_err-take_tick-2-clause-meaning : goal.lengthening::prepend-returns-in_err-take_tick-2-clause-meaning
-lengthening::prepend-returns-in_err-take_tick-2-clause-meaning t c =
-    let p = err_from_is_err_and c.from_residual-in_err-take_tick-2.result c.from_residual-in_err-take_tick-2.ensures.1 in rw (p.1, p.2) (λ k. let h = c.in_err-take_tick-2.ensures.spent k in rw (c.in_err-take_tick-2.ensures.kept, c.in_ok-take_tick.ensures.left, h.1) (unperformed c.in_ok-take_tick.ensures.taken (unassigned (spent (rw c.in_ok-take_tick.ensures.left at h.0)))))
-
-pub lengthening::put_prepended-returns-clause-ok : goal.lengthening::put_prepended-returns-clause-ok
-lengthening::put_prepended-returns-clause-ok t c =
-    let h = c.in_ok-set_prepended.ensures.ok in
-    front.prepended c.in-List.list (c.in_ok-first.ensures.meaning tt) (rw c.in-List.is at (c.in_ok-found.ensures.meaning None c.evaluate.new.world tt)) h.1 (same_state (sym h.2) refl)
-
-pub lengthening::put_prepended-returns-in_err-first-clause-err : goal.lengthening::put_prepended-returns-in_err-first-clause-err
-lengthening::put_prepended-returns-in_err-first-clause-err t c =
-    let p = err_from_is_err_and c.from_residual.result c.from_residual.ensures.1 in rw (p.1, p.2) (λ k. front.first_stops (c.in_err-first.ensures.meaning k))
-
-pub lengthening::put_prepended-returns-in_err-found-clause-err : goal.lengthening::put_prepended-returns-in_err-found-clause-err
-lengthening::put_prepended-returns-in_err-found-clause-err t c =
-    let p = err_from_is_err_and c.from_residual-in_err-found.result c.from_residual-in_err-found.ensures.1 in rw (p.1, p.2) (λ k. front.second_stops (c.in_ok-first.ensures.meaning tt) (c.in_err-found.ensures.meaning None c.evaluate.new.world k))
-
-pub lengthening::put_prepended-returns-in_default-clause-err : goal.lengthening::put_prepended-returns-in_default-clause-err
-lengthening::put_prepended-returns-in_default-clause-err t c =
-    λ k. front.second_fails (c.in_ok-first.ensures.meaning tt) (c.in_ok-found.ensures.meaning None c.evaluate.new.world tt) (unspliced _ c.in_default.not-List)
-
-pub lengthening::put_prepended-returns-in_err-set_prepended-clause-err : goal.lengthening::put_prepended-returns-in_err-set_prepended-clause-err
-lengthening::put_prepended-returns-in_err-set_prepended-clause-err t c =
-    let p = err_from_is_err_and c.from_residual-in_err-set_prepended.result c.from_residual-in_err-set_prepended.ensures.1 in
-    rw (p.1, p.2) (λ k. subst (λ s. Computes Faults (context_of c.args.stack.now None) (program.list (element (source c.args.first.now) (splice (variable c.args.name.now) no_items))) (state_of c.args.task.now c.args.world.now c.args.active.now) (Err (failure_of c.in_err-set_prepended.field-0.0)) s) (same_state (sym (c.in_err-set_prepended.ensures.kept k)) refl) (front.too_long c.in-List.list (c.in_ok-first.ensures.meaning tt) (rw c.in-List.is at (c.in_ok-found.ensures.meaning None c.evaluate.new.world tt)) (c.in_err-set_prepended.ensures.err k)))
-
-pub statement::perform-returns-in-Prepend-clause-meaning : goal.statement::perform-returns-in-Prepend-clause-meaning
-statement::perform-returns-in-Prepend-clause-meaning t c =
-    λ k. rw (c.in-Prepend.is, ← c.deref-in-Prepend.ensures) (c.prepend.ensures.meaning k)
 
 pub statement::perform-returns-in-ScatterNames-clause-meaning : goal.statement::perform-returns-in-ScatterNames-clause-meaning
 statement::perform-returns-in-ScatterNames-clause-meaning t c =
@@ -1313,94 +1152,6 @@ property_element::put_property_element-returns-in_err-container-clause-err t c =
 pub property_element::put_property_element-returns-in_err-place-clause-err : goal.property_element::put_property_element-returns-in_err-place-clause-err
 property_element::put_property_element-returns-in_err-place-clause-err t c =
     let p = err_from_is_err_and c.from_residual-in_err-place.result c.from_residual-in_err-place.ensures.1 in rw (p.1, p.2) (λ k. let f : SFits w32 c.evaluate.new.active.programmer = search rules in place_stops_part (c.in_ok-base.ensures.meaning tt) (literal_read c.in_ok-take_tick.ensures.taken) (rw (to_z-of_z w32 c.evaluate.new.active.programmer f) at (c.in_ok-container.ensures.value tt)) (rw c.in_ok-take_tick.ensures.left at (c.in_err-place.ensures.meaning k)))
-
-pub property_element::put_property_element-returns-in_err-value-clause-err : goal.property_element::put_property_element-returns-in_err-value-clause-err
-property_element::put_property_element-returns-in_err-value-clause-err t c =
-    let p = err_from_is_err_and c.from_residual-in_err-value.result c.from_residual-in_err-value.ensures.1 in rw (p.1, p.2) (λ k. let f : SFits w32 c.evaluate.new.active.programmer = search rules in value_stops_part (c.in_ok-base.ensures.meaning tt) (literal_read c.in_ok-take_tick.ensures.taken) (rw (to_z-of_z w32 c.evaluate.new.active.programmer f) at (c.in_ok-container.ensures.value tt)) (rw c.in_ok-take_tick.ensures.left at (c.in_ok-place.ensures.meaning tt)) (c.in_err-value.ensures.meaning k))
-
-pub property_element::put_property_element-returns-clause-ok : goal.property_element::put_property_element-returns-clause-ok
-property_element::put_property_element-returns-clause-ok t c =
-    known_put (tree c.in_ok-value.value) c.set_property_at.result (λ k. let f : SFits w32 c.evaluate.new.active.programmer = search rules in let g : SFits w32 c.evaluate-3.new.active.programmer = search rules in part_put (c.in_ok-base.ensures.meaning tt) (literal_read c.in_ok-take_tick.ensures.taken) (rw (to_z-of_z w32 c.evaluate.new.active.programmer f) at (c.in_ok-container.ensures.value tt)) (rw c.in_ok-take_tick.ensures.left at (c.in_ok-place.ensures.meaning tt)) (c.in_ok-value.ensures.meaning tt) (part_stored _ c.set_property_at.result refl (rw (to_z-of_z w32 c.evaluate-3.new.active.programmer g) at (c.set_property_at.ensures.world k)) c.set_property_at.ensures.kept k))
-
-pub property_element::put_property_element-returns-clause-err : goal.property_element::put_property_element-returns-clause-err
-property_element::put_property_element-returns-clause-err t c =
-    known_refused (tree c.in_ok-value.value) c.set_property_at.result (λ k. let f : SFits w32 c.evaluate.new.active.programmer = search rules in let g : SFits w32 c.evaluate-3.new.active.programmer = search rules in part_put (c.in_ok-base.ensures.meaning tt) (literal_read c.in_ok-take_tick.ensures.taken) (rw (to_z-of_z w32 c.evaluate.new.active.programmer f) at (c.in_ok-container.ensures.value tt)) (rw c.in_ok-take_tick.ensures.left at (c.in_ok-place.ensures.meaning tt)) (c.in_ok-value.ensures.meaning tt) (part_stored _ c.set_property_at.result refl (rw (to_z-of_z w32 c.evaluate-3.new.active.programmer g) at (c.set_property_at.ensures.world k)) c.set_property_at.ensures.kept k))
-
-pub setting::evaluate_to_set-returns-clause-ok : goal.setting::evaluate_to_set-returns-clause-ok
-setting::evaluate_to_set-returns-clause-ok t c =
-    value_reached _ _ c.evaluate.result c.evaluate.ensures.meaning
-
-pub setting::evaluate_to_set-returns-clause-err : goal.setting::evaluate_to_set-returns-clause-err
-setting::evaluate_to_set-returns-clause-err t c =
-    value_stopped c.evaluate.result c.evaluate.ensures.meaning
-
-pub setting::evaluate_changed-returns-in-Ok-clause-ok : goal.setting::evaluate_changed-returns-in-Ok-clause-ok
-setting::evaluate_changed-returns-in-Ok-clause-ok t c =
-    reached_by (λ u h. begins c.in_ok-take_tick.ensures.taken h refl) (rw c.in_ok-take_tick.ensures.left at c.in-Ok.ensures.ok)
-
-pub setting::evaluate_changed-returns-in-Err-clause-ok : goal.setting::evaluate_changed-returns-in-Err-clause-ok
-setting::evaluate_changed-returns-in-Err-clause-ok t c =
-    value_reached _ _ c.settled.result (λ k. begins c.in_ok-take_tick.ensures.taken (rw c.in_ok-take_tick.ensures.left at (c.in-Err.ensures.err (c.settled.ensures.known k))) (c.settled.ensures.outcome k))
-
-pub setting::evaluate_changed-returns-in-Err-clause-err : goal.setting::evaluate_changed-returns-in-Err-clause-err
-setting::evaluate_changed-returns-in-Err-clause-err t c =
-    value_stopped c.settled.result (λ k. begins c.in_ok-take_tick.ensures.taken (rw c.in_ok-take_tick.ensures.left at (c.in-Err.ensures.err (c.settled.ensures.known k))) (c.settled.ensures.outcome k))
-
-pub setting::evaluate_changed-returns-in_err-take_tick-clause-err : goal.setting::evaluate_changed-returns-in_err-take_tick-clause-err
-setting::evaluate_changed-returns-in_err-take_tick-clause-err t c =
-    let p = err_from_is_err_and c.from_residual-in_err-take_tick.result c.from_residual-in_err-take_tick.ensures.1 in rw (p.1, p.2) (λ k. let h = c.in_err-take_tick.ensures.spent k in rw (c.in_err-take_tick.ensures.kept, h.1) (spent h.0))
-
-pub setting::compute_changed-returns-clause-ok : goal.setting::compute_changed-returns-clause-ok
-setting::compute_changed-returns-clause-ok t c =
-    answer_reached _ _ c.compute.result c.compute.ensures.meaning
-
-pub setting::compute_changed-returns-clause-err : goal.setting::compute_changed-returns-clause-err
-setting::compute_changed-returns-clause-err t c =
-    answer_failed c.compute.result c.compute.ensures.meaning
-
-pub setting::compute_prepended-returns-in_err-first-clause-err : goal.setting::compute_prepended-returns-in_err-first-clause-err
-setting::compute_prepended-returns-in_err-first-clause-err t c =
-    let p = err_from_is_err_and c.from_residual.result c.from_residual.ensures.1 in rw (p.1, p.2) (λ k. front.first_stops (c.in_err-first.ensures.meaning k))
-
-pub setting::compute_prepended-returns-in_err-found-clause-err : goal.setting::compute_prepended-returns-in_err-found-clause-err
-setting::compute_prepended-returns-in_err-found-clause-err t c =
-    let p = err_from_is_err_and c.from_residual-in_err-found.result c.from_residual-in_err-found.ensures.1 in rw (p.1, p.2) (λ k. front.second_stops (c.in_ok-first.ensures.meaning tt) (c.in_err-found.ensures.meaning k))
-
-pub setting::compute_prepended-returns-in_default-clause-err : goal.setting::compute_prepended-returns-in_default-clause-err
-setting::compute_prepended-returns-in_default-clause-err t c =
-    λ k. front.second_fails (c.in_ok-first.ensures.meaning tt) (c.in_ok-found.ensures.meaning tt) (unspliced _ c.in_default.not-List)
-
-pub setting::compute_prepended-returns-then-not-has_room_for-clause-err : goal.setting::compute_prepended-returns-then-not-has_room_for-clause-err
-setting::compute_prepended-returns-then-not-has_room_for-clause-err t c =
-    λ k. front.too_long c.in-List.list (c.in_ok-first.ensures.meaning tt) (rw c.in-List.is at (c.in_ok-found.ensures.meaning tt)) (is_quota (tree c.in_ok-first.first ∷ c.in-List.list) (λ limits. false≢true (sym c.if-not-has_room_for.true ∙ c.has_room_for.ensures.first.1 limits)))
-
-pub setting::compute_prepended-returns-clause-ok : goal.setting::compute_prepended-returns-clause-ok
-setting::compute_prepended-returns-clause-ok t c =
-    let all = list_of (tree c.in_ok-first.first ∷ c.in-List.list) in
-    let made = limited_within all (c.has_room_for.ensures.first.0 c.if-not-has_room_for.false) in
-    let f : SFits w32 c.evaluate-2.new.active.programmer = search rules in
-    rw c.in_ok-longer.ensures (record { between = c.evaluate-2.new.world; holds = front.longer c.in-List.list (c.in_ok-first.ensures.meaning tt) (rw c.in-List.is at (c.in_ok-found.ensures.meaning tt)) made; alike = rw (to_z-of_z w32 c.evaluate-2.new.active.programmer f) at c.drop_written.ensures })
-
-pub setting::compute_call-returns-in_err-values-clause-err : goal.setting::compute_call-returns-in_err-values-clause-err
-setting::compute_call-returns-in_err-values-clause-err t c =
-    let p = err_from_is_err_and c.from_residual.result c.from_residual.ensures.1 in rw (p.1, p.2) (λ k. operands_end (c.in_err-values.ensures.meaning k))
-
-pub setting::compute_call-returns-then-has_list-clause-ok : goal.setting::compute_call-returns-then-has_list-clause-ok
-setting::compute_call-returns-then-has_list-clause-ok t c =
-    let f : SFits w32 c.evaluate_all.new.active.programmer = search rules in
-    record {
-      between = c.evaluate_all.new.world;
-      holds = list_called (c.in_ok-values.ensures.meaning tt) (ap trees c.deref_mut.ensures.value ∙ c.in_ok-args.ensures) (sym c.function.ensures ∙ c.in-Some.is) c.in_ok-made.ensures;
-      alike = rw (to_z-of_z w32 c.evaluate_all.new.active.programmer f) at c.drop_written.ensures;
-    }
-
-pub setting::compute_call-returns-clause-ok : goal.setting::compute_call-returns-clause-ok
-setting::compute_call-returns-clause-ok t c =
-    answer_reached _ _ c.call_with.result (λ k. applies (c.in_ok-values.ensures.meaning tt) no_more (rw (c.of-values.ensures, c.in_ok-args.ensures) at (c.call_with.ensures.meaning None (source_items c.args.items.now) k)))
-
-pub setting::compute_call-returns-clause-err : goal.setting::compute_call-returns-clause-err
-setting::compute_call-returns-clause-err t c =
-    answer_failed c.call_with.result (λ k. applies (c.in_ok-values.ensures.meaning tt) no_more (rw (c.of-values.ensures, c.in_ok-args.ensures) at (c.call_with.ensures.meaning None (source_items c.args.items.now) k)))
 
 pub extension::extend_value-returns-then-extended-clause-meaning : goal.extension::extend_value-returns-then-extended-clause-meaning
 extension::extend_value-returns-then-extended-clause-meaning t c =
@@ -1574,18 +1325,6 @@ pub conditions::node_passes-returns-in-Some-try_property_test-clause-ok : goal.c
 conditions::node_passes-returns-in-Some-try_property_test-clause-ok t c =
     rw c.in_default-try_comparison.ensures.none at (c.in-Some-try_property_test.ensures.some (context_of c.args.stack.now c.args.indexed))
 
-pub property::put_property-returns-in_err-longer-clause-err : goal.property::put_property-returns-in_err-longer-clause-err
-property::put_property-returns-in_err-longer-clause-err t c =
-    let p = err_from_is_err_and c.from_residual-in_err-longer.result c.from_residual-in_err-longer.ensures.1 in rw (p.1, p.2) (λ k. property.value_stops_put (c.in_ok-base.ensures.meaning tt) (c.in_ok-name.ensures.meaning tt) (c.in_err-longer.ensures.err k))
-
-pub property::put_property-returns-then-is_longer_list-clause-ok : goal.property::put_property-returns-then-is_longer_list-clause-ok
-property::put_property-returns-then-is_longer_list-clause-ok t c =
-    known_put (deferred_tree c.in_ok-longer.longer) c.write_deferred.result (λ k. let f : SFits w32 c.evaluate_deferred.new.active.programmer = search rules in property.put (c.in_ok-base.ensures.meaning tt) (c.in_ok-name.ensures.meaning tt) c.in_ok-longer.ensures.ok (property_put _ (rw (to_z-of_z w32 c.evaluate_deferred.new.active.programmer f) at (c.write_deferred.ensures.world k)) (known_kept _ _ c.write_deferred.result k c.write_deferred.ensures.kept)) refl)
-
-pub property::put_property-returns-then-is_longer_list-clause-err : goal.property::put_property-returns-then-is_longer_list-clause-err
-property::put_property-returns-then-is_longer_list-clause-err t c =
-    known_refused (deferred_tree c.in_ok-longer.longer) c.write_deferred.result (λ k. let f : SFits w32 c.evaluate_deferred.new.active.programmer = search rules in property.put (c.in_ok-base.ensures.meaning tt) (c.in_ok-name.ensures.meaning tt) c.in_ok-longer.ensures.ok (property_put _ (rw (to_z-of_z w32 c.evaluate_deferred.new.active.programmer f) at (c.write_deferred.ensures.world k)) (known_kept _ _ c.write_deferred.result k c.write_deferred.ensures.kept)) refl)
-
 pub deferred::evaluate_deferred-returns-in_err-take_tick-clause-err : goal.deferred::evaluate_deferred-returns-in_err-take_tick-clause-err
 deferred::evaluate_deferred-returns-in_err-take_tick-clause-err t c =
     let p = err_from_is_err_and c.from_residual.result c.from_residual.ensures.1 in rw (p.1, p.2) (λ k. let h = c.in_err-take_tick.ensures.spent k in rw (c.in_err-take_tick.ensures.kept, h.1) (spent h.0))
@@ -1618,83 +1357,221 @@ pub deferred::evaluate_deferred-returns-in_err-take_tick-2-clause-err : goal.def
 deferred::evaluate_deferred-returns-in_err-take_tick-2-clause-err t c =
     let p = err_from_is_err_and c.from_residual-in_err-take_tick-2.result c.from_residual-in_err-take_tick-2.ensures.1 in rw (p.1, p.2) (λ k. let h = c.in_err-take_tick-2.ensures.spent k in rw (c.in_err-take_tick-2.ensures.kept, h.1) (spent h.0))
 
-pub element::put_at-returns-then-is_longer_list-clause-ok : goal.element::put_at-returns-then-is_longer_list-clause-ok
-element::put_at-returns-then-is_longer_list-clause-ok t c =
-    let h = c.in_ok-set_deferred_at.ensures.ok in put (c.in_ok-container.ensures.value tt) (c.in_ok-place.ensures.meaning tt) c.in_ok-longer.ensures.ok h.1 (same_state (sym h.2) refl)
+pub element::put_at-returns-clause-ok : goal.element::put_at-returns-clause-ok
+element::put_at-returns-clause-ok t c =
+    let h = c.in_ok-set_deferred_at.ensures.ok in put (c.in_ok-container.ensures.value tt) (c.in_ok-place.ensures.meaning tt) c.in_ok-value.ensures.ok h.1 (same_state (sym h.2) refl)
 
-pub element::put_at-returns-in_err-longer-clause-err : goal.element::put_at-returns-in_err-longer-clause-err
-element::put_at-returns-in_err-longer-clause-err t c =
-    let p = err_from_is_err_and c.from_residual-in_err-longer.result c.from_residual-in_err-longer.ensures.1 in rw (p.1, p.2) (λ k. value_ends (c.in_ok-container.ensures.value tt) (c.in_ok-place.ensures.meaning tt) (c.in_err-longer.ensures.err k))
+pub element::put_at-returns-in_err-value-clause-err : goal.element::put_at-returns-in_err-value-clause-err
+element::put_at-returns-in_err-value-clause-err t c =
+    let p = err_from_is_err_and c.from_residual-in_err-value.result c.from_residual-in_err-value.ensures.1 in rw (p.1, p.2) (λ k. value_ends (c.in_ok-container.ensures.value tt) (c.in_ok-place.ensures.meaning tt) (c.in_err-value.ensures.err k))
 
 pub element::put_at-returns-in_err-set_deferred_at-clause-err : goal.element::put_at-returns-in_err-set_deferred_at-clause-err
 element::put_at-returns-in_err-set_deferred_at-clause-err t c =
     let p = err_from_is_err_and c.from_residual-in_err-set_deferred_at.result c.from_residual-in_err-set_deferred_at.ensures.1 in
-    rw (p.1, p.2) (λ k. subst (λ s. Computes Faults (context_of c.args.stack.now None) (sets_place c.args.name.now (source c.args.place.now) (source c.args.value.now)) (state_of c.args.task.now c.args.world.now c.args.active.now) (Err (failure_of c.in_err-set_deferred_at.field-0.0)) s) (same_state (sym (c.in_err-set_deferred_at.ensures.kept k)) refl) (not_put (c.in_ok-container.ensures.value tt) (c.in_ok-place.ensures.meaning tt) c.in_ok-longer.ensures.ok (c.in_err-set_deferred_at.ensures.err k)))
+    rw (p.1, p.2) (λ k. subst (λ s. Computes Faults (context_of c.args.stack.now None) (sets_place c.args.name.now (source c.args.place.now) (source c.args.value.now)) (state_of c.args.task.now c.args.world.now c.args.active.now) (Err (failure_of c.in_err-set_deferred_at.field-0.0)) s) (same_state (sym (c.in_err-set_deferred_at.ensures.kept k)) refl) (not_put (c.in_ok-container.ensures.value tt) (c.in_ok-place.ensures.meaning tt) c.in_ok-value.ensures.ok (c.in_err-set_deferred_at.ensures.err k)))
 
-pub property_element::put_property_element-returns-in_err-longer-clause-err : goal.property_element::put_property_element-returns-in_err-longer-clause-err
-property_element::put_property_element-returns-in_err-longer-clause-err t c =
-    let p = err_from_is_err_and c.from_residual-in_err-longer.result c.from_residual-in_err-longer.ensures.1 in rw (p.1, p.2) (λ k. let f : SFits w32 c.evaluate.new.active.programmer = search rules in value_stops_part (c.in_ok-base.ensures.meaning tt) (literal_read c.in_ok-take_tick.ensures.taken) (rw (to_z-of_z w32 c.evaluate.new.active.programmer f) at (c.in_ok-container.ensures.value tt)) (rw c.in_ok-take_tick.ensures.left at (c.in_ok-place.ensures.meaning tt)) (c.in_err-longer.ensures.err k))
+pub property::put_property-returns-in-Some-clause-ok : goal.property::put_property-returns-in-Some-clause-ok
+property::put_property-returns-in-Some-clause-ok t c =
+    rw c.in-Some.ensures (known_put (deferred_tree c.in_ok-value.value) c.write_written_deferred.result (λ k. let f : SFits w32 c.evaluate_stored.new.active.programmer = search rules in property.put (c.in_ok-base.ensures.meaning tt) (literal_read c.in_ok-take_tick.ensures.taken) (rw c.in_ok-take_tick.ensures.left at c.in_ok-value.ensures.ok) (property_put _ (rw (to_z-of_z w32 c.evaluate_stored.new.active.programmer f) at (c.write_written_deferred.ensures.world k)) (known_kept _ _ c.write_written_deferred.result k c.write_written_deferred.ensures.kept)) refl))
 
-pub property_element::put_property_element-returns-then-is_longer_list-clause-ok : goal.property_element::put_property_element-returns-then-is_longer_list-clause-ok
-property_element::put_property_element-returns-then-is_longer_list-clause-ok t c =
-    known_put (deferred_tree c.in_ok-longer.longer) c.set_property_deferred_at.result (λ k. let f : SFits w32 c.evaluate.new.active.programmer = search rules in let g : SFits w32 c.evaluate_deferred.new.active.programmer = search rules in part_put (c.in_ok-base.ensures.meaning tt) (literal_read c.in_ok-take_tick.ensures.taken) (rw (to_z-of_z w32 c.evaluate.new.active.programmer f) at (c.in_ok-container.ensures.value tt)) (rw c.in_ok-take_tick.ensures.left at (c.in_ok-place.ensures.meaning tt)) c.in_ok-longer.ensures.ok (part_stored _ c.set_property_deferred_at.result refl (rw (to_z-of_z w32 c.evaluate_deferred.new.active.programmer g) at (c.set_property_deferred_at.ensures.world k)) c.set_property_deferred_at.ensures.kept k))
+pub property::put_property-returns-clause-ok : goal.property::put_property-returns-clause-ok
+property::put_property-returns-clause-ok t c =
+    known_put (deferred_tree c.in_ok-value-2.value) c.write_deferred.result (λ k. let f : SFits w32 c.evaluate_stored-2.new.active.programmer = search rules in property.put (c.in_ok-base.ensures.meaning tt) (c.in_ok-name.ensures.meaning tt) c.in_ok-value-2.ensures.ok (property_put _ (rw (to_z-of_z w32 c.evaluate_stored-2.new.active.programmer f) at (c.write_deferred.ensures.world k)) (known_kept _ _ c.write_deferred.result k c.write_deferred.ensures.kept)) refl)
 
-pub property_element::put_property_element-returns-then-is_longer_list-clause-err : goal.property_element::put_property_element-returns-then-is_longer_list-clause-err
-property_element::put_property_element-returns-then-is_longer_list-clause-err t c =
-    known_refused (deferred_tree c.in_ok-longer.longer) c.set_property_deferred_at.result (λ k. let f : SFits w32 c.evaluate.new.active.programmer = search rules in let g : SFits w32 c.evaluate_deferred.new.active.programmer = search rules in part_put (c.in_ok-base.ensures.meaning tt) (literal_read c.in_ok-take_tick.ensures.taken) (rw (to_z-of_z w32 c.evaluate.new.active.programmer f) at (c.in_ok-container.ensures.value tt)) (rw c.in_ok-take_tick.ensures.left at (c.in_ok-place.ensures.meaning tt)) c.in_ok-longer.ensures.ok (part_stored _ c.set_property_deferred_at.result refl (rw (to_z-of_z w32 c.evaluate_deferred.new.active.programmer g) at (c.set_property_deferred_at.ensures.world k)) c.set_property_deferred_at.ensures.kept k))
+pub property_element::put_property_element-returns-clause-ok : goal.property_element::put_property_element-returns-clause-ok
+property_element::put_property_element-returns-clause-ok t c =
+    known_put (deferred_tree c.in_ok-value.value) c.set_property_deferred_at.result (λ k. let f : SFits w32 c.evaluate.new.active.programmer = search rules in let g : SFits w32 c.evaluate_stored.new.active.programmer = search rules in part_put (c.in_ok-base.ensures.meaning tt) (literal_read c.in_ok-take_tick.ensures.taken) (rw (to_z-of_z w32 c.evaluate.new.active.programmer f) at (c.in_ok-container.ensures.value tt)) (rw c.in_ok-take_tick.ensures.left at (c.in_ok-place.ensures.meaning tt)) c.in_ok-value.ensures.ok (part_stored _ c.set_property_deferred_at.result refl (rw (to_z-of_z w32 c.evaluate_stored.new.active.programmer g) at (c.set_property_deferred_at.ensures.world k)) c.set_property_deferred_at.ensures.kept k))
 
-pub assignment::assign-returns-then-is_longer_list-clause-meaning : goal.assignment::assign-returns-then-is_longer_list-clause-meaning
-assignment::assign-returns-then-is_longer_list-clause-meaning t c =
-    λ k. rw (c.in-Variable.is, c.in_ok-set_deferred-in-Variable.ensures.value) (assigned c.in_ok-longer-in-Variable.ensures.ok (same_state (sym c.in_ok-set_deferred-in-Variable.ensures.set) refl))
+pub property::put_property-returns-in-Some-clause-err : goal.property::put_property-returns-in-Some-clause-err
+property::put_property-returns-in-Some-clause-err t c =
+    rw c.in-Some.ensures (known_refused (deferred_tree c.in_ok-value.value) c.write_written_deferred.result (λ k. let f : SFits w32 c.evaluate_stored.new.active.programmer = search rules in property.put (c.in_ok-base.ensures.meaning tt) (literal_read c.in_ok-take_tick.ensures.taken) (rw c.in_ok-take_tick.ensures.left at c.in_ok-value.ensures.ok) (property_put _ (rw (to_z-of_z w32 c.evaluate_stored.new.active.programmer f) at (c.write_written_deferred.ensures.world k)) (known_kept _ _ c.write_written_deferred.result k c.write_written_deferred.ensures.kept)) refl))
 
-pub assignment::assign-returns-in_err-longer-in-Variable-clause-meaning : goal.assignment::assign-returns-in_err-longer-in-Variable-clause-meaning
-assignment::assign-returns-in_err-longer-in-Variable-clause-meaning t c =
-    let p = err_from_is_err_and c.from_residual.result c.from_residual.ensures.1 in rw (p.1, p.2) (λ k. rw c.in-Variable.is (unassigned (c.in_err-longer-in-Variable.ensures.err k)))
+pub property::put_property-returns-clause-err : goal.property::put_property-returns-clause-err
+property::put_property-returns-clause-err t c =
+    known_refused (deferred_tree c.in_ok-value-2.value) c.write_deferred.result (λ k. let f : SFits w32 c.evaluate_stored-2.new.active.programmer = search rules in property.put (c.in_ok-base.ensures.meaning tt) (c.in_ok-name.ensures.meaning tt) c.in_ok-value-2.ensures.ok (property_put _ (rw (to_z-of_z w32 c.evaluate_stored-2.new.active.programmer f) at (c.write_deferred.ensures.world k)) (known_kept _ _ c.write_deferred.result k c.write_deferred.ensures.kept)) refl)
 
-pub assignment::assign_value-returns-then-is_longer_list-clause-meaning : goal.assignment::assign_value-returns-then-is_longer_list-clause-meaning
-assignment::assign_value-returns-then-is_longer_list-clause-meaning t c =
-    λ k. performed c.in_ok-take_tick.ensures.taken (assigned (rw c.in_ok-take_tick.ensures.left at c.in_ok-longer.ensures.ok) (same_state (sym c.in_ok-set_deferred.ensures.set) refl))
+pub property_element::put_property_element-returns-clause-err : goal.property_element::put_property_element-returns-clause-err
+property_element::put_property_element-returns-clause-err t c =
+    known_refused (deferred_tree c.in_ok-value.value) c.set_property_deferred_at.result (λ k. let f : SFits w32 c.evaluate.new.active.programmer = search rules in let g : SFits w32 c.evaluate_stored.new.active.programmer = search rules in part_put (c.in_ok-base.ensures.meaning tt) (literal_read c.in_ok-take_tick.ensures.taken) (rw (to_z-of_z w32 c.evaluate.new.active.programmer f) at (c.in_ok-container.ensures.value tt)) (rw c.in_ok-take_tick.ensures.left at (c.in_ok-place.ensures.meaning tt)) c.in_ok-value.ensures.ok (part_stored _ c.set_property_deferred_at.result refl (rw (to_z-of_z w32 c.evaluate_stored.new.active.programmer g) at (c.set_property_deferred_at.ensures.world k)) c.set_property_deferred_at.ensures.kept k))
 
-pub assignment::assign_value-returns-in_err-longer-clause-meaning : goal.assignment::assign_value-returns-in_err-longer-clause-meaning
-assignment::assign_value-returns-in_err-longer-clause-meaning t c =
-    let p = err_from_is_err_and c.from_residual-in_err-longer.result c.from_residual-in_err-longer.ensures.1 in rw (p.1, p.2) (λ k. unperformed c.in_ok-take_tick.ensures.taken (unassigned (rw c.in_ok-take_tick.ensures.left at (c.in_err-longer.ensures.err k))))
+pub property::put_property-returns-in_err-value-2-clause-err : goal.property::put_property-returns-in_err-value-2-clause-err
+property::put_property-returns-in_err-value-2-clause-err t c =
+    let p = err_from_is_err_and c.from_residual-in_err-value-2.result c.from_residual-in_err-value-2.ensures.1 in rw (p.1, p.2) (λ k. property.value_stops_put (c.in_ok-base.ensures.meaning tt) (c.in_ok-name.ensures.meaning tt) (c.in_err-value-2.ensures.err k))
 
-pub deferred::evaluate_deferred-returns-in_err-found-clause-err : goal.deferred::evaluate_deferred-returns-in_err-found-clause-err
-deferred::evaluate_deferred-returns-in_err-found-clause-err t c =
-    let p = err_from_is_err_and c.from_residual-in_err-found.result c.from_residual-in_err-found.ensures.1 in rw (p.1, p.2) (λ k. rw c.in-Some.ensures (begins c.in_ok-take_tick-2.ensures.taken (rw c.in_ok-take_tick-2.ensures.left at (first_stops {e = source c.in-Some.last.now} (c.in_err-found.ensures.meaning k))) refl))
+pub property_element::put_property_element-returns-in_err-value-clause-err : goal.property_element::put_property_element-returns-in_err-value-clause-err
+property_element::put_property_element-returns-in_err-value-clause-err t c =
+    let p = err_from_is_err_and c.from_residual-in_err-value.result c.from_residual-in_err-value.ensures.1 in rw (p.1, p.2) (λ k. let f : SFits w32 c.evaluate.new.active.programmer = search rules in value_stops_part (c.in_ok-base.ensures.meaning tt) (literal_read c.in_ok-take_tick.ensures.taken) (rw (to_z-of_z w32 c.evaluate.new.active.programmer f) at (c.in_ok-container.ensures.value tt)) (rw c.in_ok-take_tick.ensures.left at (c.in_ok-place.ensures.meaning tt)) (c.in_err-value.ensures.err k))
 
-pub deferred::evaluate_deferred-returns-in_err-last-clause-err : goal.deferred::evaluate_deferred-returns-in_err-last-clause-err
-deferred::evaluate_deferred-returns-in_err-last-clause-err t c =
-    let p = err_from_is_err_and c.from_residual-in_err-last.result c.from_residual-in_err-last.ensures.1 in rw (p.1, p.2) (λ k. rw c.in-Some.ensures (begins c.in_ok-take_tick-2.ensures.taken (rw c.in_ok-take_tick-2.ensures.left at (second_stops c.in-List.list (rw c.in-List.is at (c.in_ok-found.ensures.meaning tt)) (c.in_err-last.ensures.meaning k))) refl))
+pub lengthening::put_longer-returns-clause-ok : goal.lengthening::put_longer-returns-clause-ok
+lengthening::put_longer-returns-clause-ok t c =
+    lengthened c.in-List.list (rw c.in-List.is at (c.in_ok-found.ensures.meaning None c.args.world.now tt)) (c.in_ok-last.ensures.meaning tt) c.in-Some.ensures.some (same_state (sym c.in_ok-set_deferred.ensures) refl)
 
-pub setting::evaluate_changed-returns-in-Value-clause-ok : goal.setting::evaluate_changed-returns-in-Value-clause-ok
-setting::evaluate_changed-returns-in-Value-clause-ok t c =
-    value_reached _ _ (Ok c.in-Value.value) (λ k. rw c.in-Value.is at c.in_ok-value.ensures.ok)
+pub lengthening::put_longer-returns-in_err-found-clause-err : goal.lengthening::put_longer-returns-in_err-found-clause-err
+lengthening::put_longer-returns-in_err-found-clause-err t c =
+    let p = err_from_is_err_and c.from_residual.result c.from_residual.ensures.1 in rw (p.1, p.2) (λ k. first_stops (c.in_err-found.ensures.meaning None c.args.world.now k))
 
-pub setting::evaluate_changed-returns-in_ok-into_list-in-Longer-clause-ok : goal.setting::evaluate_changed-returns-in_ok-into_list-in-Longer-clause-ok
-setting::evaluate_changed-returns-in_ok-into_list-in-Longer-clause-ok t c =
-    let f : SFits w32 c.evaluate_deferred.new.active.programmer = search rules in rw c.in_ok-into_list-in-Longer.ensures (record { between = c.evaluate_deferred.new.world; holds = rw c.in-Longer.is at c.in_ok-value.ensures.ok; alike = rw (to_z-of_z w32 c.evaluate_deferred.new.active.programmer f) at c.drop_written.ensures })
+pub lengthening::put_longer-returns-in_default-clause-err : goal.lengthening::put_longer-returns-in_default-clause-err
+lengthening::put_longer-returns-in_default-clause-err t c =
+    λ k. first_fails (c.in_ok-found.ensures.meaning None c.args.world.now tt) (unspliced _ c.in_default.not-List)
 
-pub deferred::evaluate_deferred-returns-in_default-found-clause-ok : goal.deferred::evaluate_deferred-returns-in_default-found-clause-ok
-deferred::evaluate_deferred-returns-in_default-found-clause-ok t c =
-    rw c.in-Some.ensures (begins c.in_ok-take_tick-2.ensures.taken (rw c.in_ok-take_tick-2.ensures.left at (first_fails {e = source c.in-Some.last.now} (c.in_ok-found.ensures.meaning tt) (unspliced _ c.in_default-found.not-List))) (c.in_ok-settled.ensures.outcome tt))
+pub lengthening::put_longer-returns-in_err-last-clause-err : goal.lengthening::put_longer-returns-in_err-last-clause-err
+lengthening::put_longer-returns-in_err-last-clause-err t c =
+    let p = err_from_is_err_and c.from_residual-in_err-last.result c.from_residual-in_err-last.ensures.1 in rw (p.1, p.2) (λ k. second_stops c.in-List.list (rw c.in-List.is at (c.in_ok-found.ensures.meaning None c.args.world.now tt)) (c.in_err-last.ensures.meaning k))
 
-pub deferred::evaluate_deferred-returns-in_err-settled-clause-err : goal.deferred::evaluate_deferred-returns-in_err-settled-clause-err
-deferred::evaluate_deferred-returns-in_err-settled-clause-err t c =
-    let p = err_from_is_err_and c.from_residual-in_err-settled.result c.from_residual-in_err-settled.ensures.1 in rw (p.1, p.2) (λ k. rw c.in-Some.ensures (begins c.in_ok-take_tick-2.ensures.taken (rw c.in_ok-take_tick-2.ensures.left at (first_fails {e = source c.in-Some.last.now} (c.in_ok-found.ensures.meaning tt) (unspliced _ c.in_default-found.not-List))) (c.in_err-settled.ensures.outcome k)))
+pub lengthening::put_longer-returns-in_default-appended-clause-err : goal.lengthening::put_longer-returns-in_default-appended-clause-err
+lengthening::put_longer-returns-in_default-appended-clause-err t c =
+    λ k. too_long c.in-List.list (rw c.in-List.is at (c.in_ok-found.ensures.meaning None c.args.world.now tt)) (c.in_ok-last.ensures.meaning tt) (ap answers c.in_default-appended.ensures.none)
 
-pub deferred::evaluate_deferred-returns-in_ok-settled-in-None-clause-ok : goal.deferred::evaluate_deferred-returns-in_ok-settled-in-None-clause-ok
-deferred::evaluate_deferred-returns-in_ok-settled-in-None-clause-ok t c =
-    rw c.in-Some.ensures (begins c.in_ok-take_tick-2.ensures.taken (rw c.in_ok-take_tick-2.ensures.left at (too_long c.in-List.list (rw c.in-List.is at (c.in_ok-found.ensures.meaning tt)) (c.in_ok-last.ensures.meaning tt) (ap answers c.in-None.ensures.none))) (c.in_ok-settled-in-None.ensures.outcome tt))
+pub update::put_updated-returns-in_err-value-clause-err : goal.update::put_updated-returns-in_err-value-clause-err
+update::put_updated-returns-in_err-value-clause-err t c =
+    let p = err_from_is_err_and c.from_residual.result c.from_residual.ensures.1 in rw (p.1, p.2) (λ k. c.in_err-value.ensures.meaning k)
 
-pub deferred::evaluate_deferred-returns-in_err-settled-in-None-clause-err : goal.deferred::evaluate_deferred-returns-in_err-settled-in-None-clause-err
-deferred::evaluate_deferred-returns-in_err-settled-in-None-clause-err t c =
-    let p = err_from_is_err_and c.from_residual-in_err-settled-in-None.result c.from_residual-in_err-settled-in-None.ensures.1 in rw (p.1, p.2) (λ k. rw c.in-Some.ensures (begins c.in_ok-take_tick-2.ensures.taken (rw c.in_ok-take_tick-2.ensures.left at (too_long c.in-List.list (rw c.in-List.is at (c.in_ok-found.ensures.meaning tt)) (c.in_ok-last.ensures.meaning tt) (ap answers c.in-None.ensures.none))) (c.in_err-settled-in-None.ensures.outcome k)))
+pub assignment::assign-returns-in-Variable-clause-meaning : goal.assignment::assign-returns-in-Variable-clause-meaning
+assignment::assign-returns-in-Variable-clause-meaning t c =
+    λ k. rw c.in-Variable.is (c.assign_changed.ensures.meaning k)
 
-pub deferred::evaluate_deferred-returns-in-Some-new-clause-ok : goal.deferred::evaluate_deferred-returns-in-Some-new-clause-ok
-deferred::evaluate_deferred-returns-in-Some-new-clause-ok t c =
-    rw c.in-Some.ensures (begins c.in_ok-take_tick-2.ensures.taken (rw c.in_ok-take_tick-2.ensures.left at (longer c.in-List.list (rw c.in-List.is at (c.in_ok-found.ensures.meaning tt)) (c.in_ok-last.ensures.meaning tt) c.in-Some-new.ensures.some)) refl)
+pub assignment::assign_changed-returns-clause-meaning : goal.assignment::assign_changed-returns-clause-meaning
+assignment::assign_changed-returns-clause-meaning t c =
+    λ k. rw c.in_ok-assigned.ensures.value (assigned c.in_ok-value.ensures.ok (same_state (sym c.in_ok-assigned.ensures.set) refl))
 
-pub setting::evaluate_changed-returns-in_err-value-clause-err : goal.setting::evaluate_changed-returns-in_err-value-clause-err
-setting::evaluate_changed-returns-in_err-value-clause-err t c =
-    let p = err_from_is_err_and c.from_residual.result c.from_residual.ensures.1 in rw (p.1, p.2) (λ k. c.in_err-value.ensures.err k)
+pub assignment::assign_changed-returns-in_err-value-clause-meaning : goal.assignment::assign_changed-returns-in_err-value-clause-meaning
+assignment::assign_changed-returns-in_err-value-clause-meaning t c =
+    let p = err_from_is_err_and c.from_residual.result c.from_residual.ensures.1 in rw (p.1, p.2) (λ k. unassigned (c.in_err-value.ensures.err k))
+
+pub assignment::assign_value-returns-then-is_list_change-clause-meaning : goal.assignment::assign_value-returns-then-is_list_change-clause-meaning
+assignment::assign_value-returns-then-is_list_change-clause-meaning t c =
+    λ k. performed c.in_ok-take_tick.ensures.taken (assigned (rw c.in_ok-take_tick.ensures.left at c.in_ok-value.ensures.ok) (same_state (sym c.in_ok-set_deferred.ensures) refl))
+
+pub assignment::assign_value-returns-in_err-value-clause-meaning : goal.assignment::assign_value-returns-in_err-value-clause-meaning
+assignment::assign_value-returns-in_err-value-clause-meaning t c =
+    let p = err_from_is_err_and c.from_residual-in_err-value.result c.from_residual-in_err-value.ensures.1 in rw (p.1, p.2) (λ k. unperformed c.in_ok-take_tick.ensures.taken (unassigned (rw c.in_ok-take_tick.ensures.left at (c.in_err-value.ensures.err k))))
+
+pub assignment::assign_value-returns-in_err-value-2-clause-meaning : goal.assignment::assign_value-returns-in_err-value-2-clause-meaning
+assignment::assign_value-returns-in_err-value-2-clause-meaning t c =
+    let p = err_from_is_err_and c.from_residual-in_err-value-2.result c.from_residual-in_err-value-2.ensures.1 in rw (p.1, p.2) (λ k. unperformed c.in_ok-take_tick.ensures.taken (unassigned (rw c.in_ok-take_tick.ensures.left at (c.in_err-value-2.ensures.meaning k))))
+
+pub deferred::evaluate_stored-returns-in_err-value-clause-err : goal.deferred::evaluate_stored-returns-in_err-value-clause-err
+deferred::evaluate_stored-returns-in_err-value-clause-err t c =
+    let p = err_from_is_err_and c.from_residual.result c.from_residual.ensures.1 in rw (p.1, p.2) (λ k. c.in_err-value.ensures.meaning k)
+
+pub deferred::evaluate_deferred-returns-in-Ok-clause-ok : goal.deferred::evaluate_deferred-returns-in-Ok-clause-ok
+deferred::evaluate_deferred-returns-in-Ok-clause-ok t c =
+    rw c.in-Some.ensures (begins c.in_ok-take_tick-2.ensures.taken (rw (c.in_ok-take_tick-2.ensures.left, c.in-Ok.is) at (c.defer.ensures.meaning (rw c.in-Ok.is tt))) refl)
+
+pub deferred::evaluate_deferred-returns-in_ok-value-in-Err-clause-ok : goal.deferred::evaluate_deferred-returns-in_ok-value-in-Err-clause-ok
+deferred::evaluate_deferred-returns-in_ok-value-in-Err-clause-ok t c =
+    rw c.in-Some.ensures (begins c.in_ok-take_tick-2.ensures.taken (rw (c.in_ok-take_tick-2.ensures.left, c.in-Err.is) at (c.defer.ensures.meaning (rw c.in-Err.is (c.in_ok-value-in-Err.ensures.known tt)))) (c.in_ok-value-in-Err.ensures.outcome tt))
+
+pub deferred::evaluate_deferred-returns-in_err-value-in-Err-clause-err : goal.deferred::evaluate_deferred-returns-in_err-value-in-Err-clause-err
+deferred::evaluate_deferred-returns-in_err-value-in-Err-clause-err t c =
+    let p = err_from_is_err_and c.from_residual-in_err-value-in-Err.result c.from_residual-in_err-value-in-Err.ensures.1 in rw (p.1, p.2) (λ k. rw c.in-Some.ensures (begins c.in_ok-take_tick-2.ensures.taken (rw (c.in_ok-take_tick-2.ensures.left, c.in-Err.is) at (c.defer.ensures.meaning (rw c.in-Err.is (c.in_err-value-in-Err.ensures.known k)))) (c.in_err-value-in-Err.ensures.outcome k)))
+
+pub deferred::defer-returns-in-Appended-clause-meaning : goal.deferred::defer-returns-in-Appended-clause-meaning
+deferred::defer-returns-in-Appended-clause-meaning t c =
+    λ k. rw c.in-Appended.is (c.defer_appended.ensures.meaning k)
+
+pub deferred::defer-returns-in-Prepended-clause-meaning : goal.deferred::defer-returns-in-Prepended-clause-meaning
+deferred::defer-returns-in-Prepended-clause-meaning t c =
+    λ k. rw c.in-Prepended.is (c.defer_prepended.ensures.meaning k)
+
+pub deferred::defer-returns-in-Extended-clause-meaning : goal.deferred::defer-returns-in-Extended-clause-meaning
+deferred::defer-returns-in-Extended-clause-meaning t c =
+    λ k. rw c.in-Extended.is (c.defer_extended.ensures.meaning k)
+
+pub deferred::defer-returns-in-Called-clause-meaning : goal.deferred::defer-returns-in-Called-clause-meaning
+deferred::defer-returns-in-Called-clause-meaning t c =
+    λ k. rw c.in-Called.is (c.defer_call.ensures.meaning k)
+
+pub deferred::defer_appended-returns-in_err-found-clause-meaning : goal.deferred::defer_appended-returns-in_err-found-clause-meaning
+deferred::defer_appended-returns-in_err-found-clause-meaning t c =
+    let p = err_from_is_err_and c.from_residual.result c.from_residual.ensures.1 in rw (p.1, p.2) (λ k. first_stops (c.in_err-found.ensures.meaning k))
+
+pub deferred::defer_appended-returns-in_default-clause-meaning : goal.deferred::defer_appended-returns-in_default-clause-meaning
+deferred::defer_appended-returns-in_default-clause-meaning t c =
+    λ k. first_fails (c.in_ok-found.ensures.meaning tt) (unspliced _ c.in_default.not-List)
+
+pub deferred::defer_appended-returns-in_err-last-clause-meaning : goal.deferred::defer_appended-returns-in_err-last-clause-meaning
+deferred::defer_appended-returns-in_err-last-clause-meaning t c =
+    let p = err_from_is_err_and c.from_residual-in_err-last.result c.from_residual-in_err-last.ensures.1 in rw (p.1, p.2) (λ k. second_stops c.in-List.list (rw c.in-List.is at (c.in_ok-found.ensures.meaning tt)) (c.in_err-last.ensures.meaning k))
+
+pub deferred::defer_appended-returns-in-Some-clause-meaning : goal.deferred::defer_appended-returns-in-Some-clause-meaning
+deferred::defer_appended-returns-in-Some-clause-meaning t c =
+    λ k. longer c.in-List.list (rw c.in-List.is at (c.in_ok-found.ensures.meaning tt)) (c.in_ok-last.ensures.meaning tt) c.in-Some.ensures.some
+
+pub deferred::defer_appended-returns-in-None-clause-meaning : goal.deferred::defer_appended-returns-in-None-clause-meaning
+deferred::defer_appended-returns-in-None-clause-meaning t c =
+    λ k. too_long c.in-List.list (rw c.in-List.is at (c.in_ok-found.ensures.meaning tt)) (c.in_ok-last.ensures.meaning tt) (ap answers c.in-None.ensures.none)
+
+pub deferred::defer_prepended-returns-in_err-first-clause-meaning : goal.deferred::defer_prepended-returns-in_err-first-clause-meaning
+deferred::defer_prepended-returns-in_err-first-clause-meaning t c =
+    let p = err_from_is_err_and c.from_residual.result c.from_residual.ensures.1 in rw (p.1, p.2) (λ k. front.first_stops (c.in_err-first.ensures.meaning k))
+
+pub deferred::defer_prepended-returns-in_err-found-clause-meaning : goal.deferred::defer_prepended-returns-in_err-found-clause-meaning
+deferred::defer_prepended-returns-in_err-found-clause-meaning t c =
+    let p = err_from_is_err_and c.from_residual-in_err-found.result c.from_residual-in_err-found.ensures.1 in rw (p.1, p.2) (λ k. front.second_stops (c.in_ok-first.ensures.meaning tt) (c.in_err-found.ensures.meaning k))
+
+pub deferred::defer_prepended-returns-in_default-clause-meaning : goal.deferred::defer_prepended-returns-in_default-clause-meaning
+deferred::defer_prepended-returns-in_default-clause-meaning t c =
+    λ k. front.second_fails (c.in_ok-first.ensures.meaning tt) (c.in_ok-found.ensures.meaning tt) (unspliced _ c.in_default.not-List)
+
+pub deferred::defer_prepended-returns-in-Some-clause-meaning : goal.deferred::defer_prepended-returns-in-Some-clause-meaning
+deferred::defer_prepended-returns-in-Some-clause-meaning t c =
+    λ k. front.longer c.in-List.list (c.in_ok-first.ensures.meaning tt) (rw c.in-List.is at (c.in_ok-found.ensures.meaning tt)) c.in-Some.ensures.some
+
+pub deferred::defer_prepended-returns-in-None-clause-meaning : goal.deferred::defer_prepended-returns-in-None-clause-meaning
+deferred::defer_prepended-returns-in-None-clause-meaning t c =
+    λ k. front.too_long c.in-List.list (c.in_ok-first.ensures.meaning tt) (rw c.in-List.is at (c.in_ok-found.ensures.meaning tt)) (ap answers c.in-None.ensures.none)
+
+pub deferred::defer_extended-returns-in_err-found-clause-meaning : goal.deferred::defer_extended-returns-in_err-found-clause-meaning
+deferred::defer_extended-returns-in_err-found-clause-meaning t c =
+    let p = err_from_is_err_and c.from_residual.result c.from_residual.ensures.1 in rw (p.1, p.2) (λ k. spliced_stops (c.in_err-found.ensures.meaning k))
+
+pub deferred::defer_extended-returns-in_default-clause-meaning : goal.deferred::defer_extended-returns-in_default-clause-meaning
+deferred::defer_extended-returns-in_default-clause-meaning t c =
+    λ k. spliced_fails (c.in_ok-found.ensures.meaning tt) (unspliced _ c.in_default.not-List)
+
+pub deferred::defer_extended-returns-in_err-values-clause-meaning : goal.deferred::defer_extended-returns-in_err-values-clause-meaning
+deferred::defer_extended-returns-in_err-values-clause-meaning t c =
+    let p = err_from_is_err_and c.from_residual-in_err-values.result c.from_residual-in_err-values.ensures.1 in rw (p.1, p.2) (λ k. items_end c.in-List.list (rw c.in-List.is at (c.in_ok-found.ensures.meaning tt)) (c.in_err-values.ensures.meaning k))
+
+pub deferred::defer_extended-returns-in-Some-clause-meaning : goal.deferred::defer_extended-returns-in-Some-clause-meaning
+deferred::defer_extended-returns-in-Some-clause-meaning t c =
+    λ k. longer_all c.in-List.list (rw c.in-List.is at (c.in_ok-found.ensures.meaning tt)) (c.in_ok-values.ensures.meaning tt) (rw c.in_ok-values-2.ensures at c.in-Some.ensures.some)
+
+pub deferred::defer_extended-returns-in-None-clause-meaning : goal.deferred::defer_extended-returns-in-None-clause-meaning
+deferred::defer_extended-returns-in-None-clause-meaning t c =
+    λ k. too_long_by c.in-List.list (rw c.in-List.is at (c.in_ok-found.ensures.meaning tt)) (c.in_ok-values.ensures.meaning tt) (ap answers (rw c.in_ok-values-2.ensures at c.in-None.ensures.none))
+
+pub deferred::defer_call-returns-in_err-values-clause-meaning : goal.deferred::defer_call-returns-in_err-values-clause-meaning
+deferred::defer_call-returns-in_err-values-clause-meaning t c =
+    let p = err_from_is_err_and c.from_residual.result c.from_residual.ensures.1 in rw (p.1, p.2) (λ k. operands_end (c.in_err-values.ensures.meaning k))
+
+pub deferred::defer_call-returns-in-Ok-clause-meaning : goal.deferred::defer_call-returns-in-Ok-clause-meaning
+deferred::defer_call-returns-in-Ok-clause-meaning t c =
+    λ k. let h = c.in-Ok.ensures.ok in list_called (c.in_ok-values.ensures.meaning tt) c.in_ok-args.ensures (sym c.function.ensures ∙ h.1) h.2
+
+pub deferred::defer_call-returns-in_ok-value-in-Err-clause-meaning : goal.deferred::defer_call-returns-in_ok-value-in-Err-clause-meaning
+deferred::defer_call-returns-in_ok-value-in-Err-clause-meaning t c =
+    λ k. applies (c.in_ok-values.ensures.meaning tt) no_more (rw (c.of-values.ensures, c.in-Err.ensures.err, c.in_ok-args.ensures) at (c.in_ok-value-in-Err.ensures.meaning c.args.indexed (source_items c.args.items.now) tt))
+
+pub deferred::defer_call-returns-in_err-value-in-Err-clause-meaning : goal.deferred::defer_call-returns-in_err-value-in-Err-clause-meaning
+deferred::defer_call-returns-in_err-value-in-Err-clause-meaning t c =
+    let p = err_from_is_err_and c.from_residual-in_err-value-in-Err.result c.from_residual-in_err-value-in-Err.ensures.1 in rw (p.1, p.2) (λ k. applies (c.in_ok-values.ensures.meaning tt) no_more (rw (c.of-values.ensures, c.in-Err.ensures.err, c.in_ok-args.ensures) at (c.in_err-value-in-Err.ensures.meaning c.args.indexed (source_items c.args.items.now) k)))
+
+pub update::put_updated-returns-in_ok-room-in-Called-clause-ok : goal.update::put_updated-returns-in_ok-room-in-Called-clause-ok
+update::put_updated-returns-in_ok-room-in-Called-clause-ok t c =
+    record {
+      value = c.in-Called.call;
+      between = _;
+      computes = rw c.in-Called.is at (c.in_ok-value.ensures.meaning tt);
+      sets = same_state (sym c.in_ok-room-in-Called.ensures) refl;
+    }
+
+pub update::put_updated-returns-in_ok-set_deferred-in_default-clause-ok : goal.update::put_updated-returns-in_ok-set_deferred-in_default-clause-ok
+update::put_updated-returns-in_ok-set_deferred-in_default-clause-ok t c =
+    record {
+      value = deferred_tree c.in_ok-value.value;
+      between = _;
+      computes = c.in_ok-value.ensures.meaning tt;
+      sets = same_state (sym c.in_ok-set_deferred-in_default.ensures) refl;
+    }

@@ -57,12 +57,6 @@ decreases-nodes::evaluate_node l = 16 * l.task.now.ticks_left + 2
 abbrev pub decreases-assignment::assign_value : goal.decreases-assignment::assign_value
 decreases-assignment::assign_value l = 16 * l.task.now.ticks_left + 1
 
-abbrev pub decreases-lengthening::lengthen_by : goal.decreases-lengthening::lengthen_by
-decreases-lengthening::lengthen_by l = 16 * l.task.now.ticks_left
-
-abbrev pub decreases-lengthening::put_all_longer : goal.decreases-lengthening::put_all_longer
-decreases-lengthening::put_all_longer l = 16 * l.task.now.ticks_left + 8
-
 abbrev pub decreases-lengthening::lengthen : goal.decreases-lengthening::lengthen
 decreases-lengthening::lengthen l = 16 * l.task.now.ticks_left + 1
 
@@ -70,7 +64,7 @@ abbrev pub decreases-update::update : goal.decreases-update::update
 decreases-update::update l = 16 * l.task.now.ticks_left
 
 abbrev pub decreases-update::put_updated : goal.decreases-update::put_updated
-decreases-update::put_updated l = 16 * l.task.now.ticks_left + 11
+decreases-update::put_updated l = 16 * l.task.now.ticks_left + 12
 
 abbrev pub decreases-lengthening::put_longer : goal.decreases-lengthening::put_longer
 decreases-lengthening::put_longer l = 16 * l.task.now.ticks_left + 6
@@ -85,7 +79,7 @@ abbrev pub decreases-element::set_element : goal.decreases-element::set_element
 decreases-element::set_element l = 16 * l.task.now.ticks_left
 
 abbrev pub decreases-element::put_at : goal.decreases-element::put_at
-decreases-element::put_at l = 16 * l.task.now.ticks_left + 6
+decreases-element::put_at l = 16 * l.task.now.ticks_left + 7
 
 abbrev pub decreases-interpreter::evaluate_all : goal.decreases-interpreter::evaluate_all
 decreases-interpreter::evaluate_all l = 16 * l.task.now.ticks_left + 7
@@ -273,28 +267,13 @@ abbrev pub decreases-property::set_property : goal.decreases-property::set_prope
 decreases-property::set_property l = 16 * l.task.now.ticks_left
 
 abbrev pub decreases-property::put_property : goal.decreases-property::put_property
-decreases-property::put_property l = 16 * l.task.now.ticks_left + 6
+decreases-property::put_property l = 16 * l.task.now.ticks_left + 7
 
 abbrev pub decreases-property_element::set_property_element : goal.decreases-property_element::set_property_element
 decreases-property_element::set_property_element l = 16 * l.task.now.ticks_left
 
 abbrev pub decreases-property_element::put_property_element : goal.decreases-property_element::put_property_element
 decreases-property_element::put_property_element l = 16 * l.task.now.ticks_left + 4
-
-abbrev pub decreases-setting::evaluate_to_set : goal.decreases-setting::evaluate_to_set
-decreases-setting::evaluate_to_set l = 16 * l.task.now.ticks_left + 7
-
-abbrev pub decreases-setting::evaluate_changed : goal.decreases-setting::evaluate_changed
-decreases-setting::evaluate_changed l = 16 * l.task.now.ticks_left + 6
-
-abbrev pub decreases-setting::compute_changed : goal.decreases-setting::compute_changed
-decreases-setting::compute_changed l = 16 * l.task.now.ticks_left + 15
-
-abbrev pub decreases-setting::compute_prepended : goal.decreases-setting::compute_prepended
-decreases-setting::compute_prepended l = 16 * l.task.now.ticks_left + 4
-
-abbrev pub decreases-setting::compute_call : goal.decreases-setting::compute_call
-decreases-setting::compute_call l = 16 * l.task.now.ticks_left + 11
 
 abbrev pub decreases-scattering::scatter_alone : goal.decreases-scattering::scatter_alone
 decreases-scattering::scatter_alone l = 16 * l.task.now.ticks_left
@@ -340,12 +319,6 @@ invariant-calls::proceed-verbs l = record {
 
 abbrev pub decreases-calls::proceed-verbs : goal.decreases-calls::proceed-verbs
 decreases-calls::proceed-verbs l = l.task.ticks_left
-
-abbrev pub decreases-lengthening::prepend : goal.decreases-lengthening::prepend
-decreases-lengthening::prepend l = 16 * l.task.now.ticks_left
-
-abbrev pub decreases-lengthening::put_prepended : goal.decreases-lengthening::put_prepended
-decreases-lengthening::put_prepended l = 16 * l.task.now.ticks_left + 6
 
 abbrev pub decreases-scattering::scatter_names : goal.decreases-scattering::scatter_names
 decreases-scattering::scatter_names l = 16 * l.task.now.ticks_left + 1
@@ -410,6 +383,27 @@ invariant-loops::count-numbers l = record {
 
 abbrev pub decreases-loops::count-numbers : goal.decreases-loops::count-numbers
 decreases-loops::count-numbers l = l.task.ticks_left
+
+abbrev pub decreases-deferred::evaluate_stored : goal.decreases-deferred::evaluate_stored
+decreases-deferred::evaluate_stored l = 16 * l.task.now.ticks_left + 6
+
+abbrev pub decreases-deferred::defer : goal.decreases-deferred::defer
+decreases-deferred::defer l = 16 * l.task.now.ticks_left + 12
+
+abbrev pub decreases-deferred::defer_appended : goal.decreases-deferred::defer_appended
+decreases-deferred::defer_appended l = 16 * l.task.now.ticks_left + 4
+
+abbrev pub decreases-deferred::defer_prepended : goal.decreases-deferred::defer_prepended
+decreases-deferred::defer_prepended l = 16 * l.task.now.ticks_left + 4
+
+abbrev pub decreases-deferred::defer_extended : goal.decreases-deferred::defer_extended
+decreases-deferred::defer_extended l = 16 * l.task.now.ticks_left + 8
+
+abbrev pub decreases-deferred::defer_call : goal.decreases-deferred::defer_call
+decreases-deferred::defer_call l = 16 * l.task.now.ticks_left + 11
+
+abbrev pub decreases-assignment::assign_changed : goal.decreases-assignment::assign_changed
+decreases-assignment::assign_changed l = 16 * l.task.now.ticks_left + 6
 
 abbrev pub decreases-deferred::evaluate_deferred : goal.decreases-deferred::evaluate_deferred
 decreases-deferred::evaluate_deferred l = 16 * l.task.now.ticks_left + 5

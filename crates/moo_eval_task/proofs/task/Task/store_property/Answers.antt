@@ -5,7 +5,7 @@ use mir.Val.{SFits}
 use Rattle.moo_value.specs.View.{tree}
 use Rattle.moo_eval_access.proofs.Written.{unchanged_alike}
 use Rattle.moo_eval_semantics.specs.Meaning.{no_store}
-use Rattle.moo_eval_task.proofs.Reached.{taken_rebuilt, whole_stored}
+use Rattle.moo_eval_task.proofs.Stored.{taken_rebuilt, whole_stored}
 use Rattle.moo_eval_task.proofs.task.Task.store_property.Goals as goal
 use Rattle.moo_eval_task.proofs.task.Task.store_property.Goals.{then-is_taken, else-is_taken}
 

@@ -1,0 +1,97 @@
+-- Lists that functions on lists make.
+use Rattle.std.proofs.Common.{◌≡◌, ℕ, ℤ, zero, suc, ◌≤◌, List, [], ◌∷◌, ◌++◌, length, Option, Some, None, Result, Ok, Err, refl, ap, sym, arith}
+use Rattle.std.specs.Prelude.{insert, remove, slice_set, position, is_some, IsTrue}
+use Rattle.moo_value.specs.declared.value.Value.{Value}
+use Rattle.moo_value.specs.Tree.{Tree, integer, list_of, elements_of, trees_of}
+use Rattle.moo_value.specs.TreeCode.{trees_of-elements_of}
+use Rattle.moo_value.specs.View.{tree}
+use Rattle.moo_value.specs.Size.{IsWithinLimits, total_weight, greatest_depth}
+use Rattle.moo_syntax_function.specs.declared.function.Function.{Function}
+use Rattle.moo_syntax_function.specs.declared.function.Function.TheVariants.{ListAppend, ListInsert, ListSet, ListDelete, SetAdd, SetRemove}
+use Rattle.moo_builtin_operator.specs.declared.fault.OperationFault.{OperationFault}
+use Rattle.moo_builtin_operator.specs.declared.fault.OperationFault.TheVariants.{Raise, Memory}
+use Rattle.moo_builtin_operator.specs.Truth.{equal}
+use Rattle.moo_builtin_operator.proofs.Lawful.{limited_within}
+use Rattle.moo_builtin_value.specs.Calls.{plain_answer, GivesSome}
+use Rattle.moo_builtin_value.specs.Lists.{with_member, without_found, set_at, delete_at, taken_out}
+use Rattle.moo_eval_access.specs.ListCall.{MakesList, appends, inserts, adds, sets, deletes, removes, HasList, HasPlace, Takes, value_of_call}
+
+insert_last : (ts : List Tree) (t : Tree) → insert ts (length ts) t ≡ ts ++ t ∷ []
+insert_last [] t = refl
+insert_last (u ∷ ts) t = ap (◌∷◌ u) (insert_last ts t)
+
+-- a list with one more within the limits
+pub append_has : (ts : List Tree) (t : Tree) → IsWithinLimits (list_of (ts ++ t ∷ [])) → HasList ListAppend (list_of ts ∷ t ∷ [])
+append_has ts t h = (list_of (ts ++ t ∷ []), appends (rw (trees_of-elements_of ts, insert_last ts t) (limited_within _ h)))
+
+pub insert_has : (ts : List Tree) (t : Tree) → IsWithinLimits (list_of (t ∷ ts)) → HasList ListInsert (list_of ts ∷ t ∷ [])
+insert_has ts t h = (list_of (t ∷ ts), inserts (rw (trees_of-elements_of ts) (limited_within _ h)))
+
+member_has : (ts : List Tree) (t : Tree) (found : Option ℕ) → IsWithinLimits (list_of (ts ++ t ∷ [])) → position (equal t) ts ≡ found → (w : Tree) × (with_member ts t ≡ Ok w)
+member_has ts t None h e = (list_of (ts ++ t ∷ []), rw (e, insert_last ts t) (limited_within _ h))
+member_has ts t (Some k) h e = (list_of ts, rw e refl)
+
+pub add_has : (ts : List Tree) (t : Tree) → IsWithinLimits (list_of (ts ++ t ∷ [])) → HasList SetAdd (list_of ts ∷ t ∷ [])
+add_has ts t h = let p = member_has ts t _ h refl in (p.0, adds (rw (trees_of-elements_of ts) p.1))
+
+-- a list with an element replaced
+pub set_has : (ts : List Tree) (i : ℤ) (t : Tree) → Takes ts i t → HasList ListSet (list_of ts ∷ t ∷ integer i ∷ [])
+set_has ts i t (k, p, h) =
+    let made : set_at (trees_of (elements_of ts)) i t ≡ Ok (list_of (slice_set ts k t)) = rw (trees_of-elements_of ts, p) (limited_within _ h) in
+    (list_of (slice_set ts k t), sets made)
+
+-- a list with one less
+remove_lighter : (ts : List Tree) (k : ℕ) → total_weight (elements_of (remove ts k)) ≤ total_weight (elements_of ts)
+remove_lighter [] zero = omega arith
+remove_lighter [] (suc k) = omega arith
+remove_lighter (t ∷ ts) zero = omega arith
+remove_lighter (t ∷ ts) (suc k) = omega (arith, remove_lighter ts k)
+
+remove_shallower : (ts : List Tree) (k : ℕ) → greatest_depth (elements_of (remove ts k)) ≤ greatest_depth (elements_of ts)
+remove_shallower [] zero = omega arith
+remove_shallower [] (suc k) = omega arith
+remove_shallower (t ∷ ts) zero = omega arith
+remove_shallower (t ∷ ts) (suc k) = omega (arith, remove_shallower ts k)
+
+removed_within : (ts : List Tree) (k : ℕ) → IsWithinLimits (list_of ts) → taken_out ts k ≡ Ok (list_of (remove ts k))
+removed_within ts k h = limited_within _ (record { weight = omega (arith, h.weight, remove_lighter ts k); depth = omega (arith, h.depth, remove_shallower ts k) })
+
+pub delete_has : (ts : List Tree) (v : Tree) → HasPlace ts v → IsWithinLimits (list_of ts) → HasList ListDelete (list_of ts ∷ v ∷ [])
+delete_has ts v (i, k, e, p) h =
+    let made : delete_at (trees_of (elements_of ts)) i ≡ Ok (list_of (remove ts k)) = rw (trees_of-elements_of ts, p) (removed_within ts k h) in
+    rw e (list_of (remove ts k), deletes made)
+
+found_has : (ts : List Tree) (found : Option ℕ) → IsWithinLimits (list_of ts) → (w : Tree) × (without_found ts found ≡ Ok w)
+found_has ts None h = (list_of ts, refl)
+found_has ts (Some k) h = (list_of (remove ts k), removed_within ts k h)
+
+pub remove_has : (ts : List Tree) (t : Tree) → IsWithinLimits (list_of ts) → HasList SetRemove (list_of ts ∷ t ∷ [])
+remove_has ts t h = let p = found_has ts (position (equal t) ts) h in (p.0, removes (rw (trees_of-elements_of ts) p.1))
+
+pub some_there : (o : Option ℕ) → IsTrue (is_some o) → (k : ℕ) × (o ≡ Some k)
+some_there None h = absurd cc
+some_there (Some k) h = (k, refl)
+
+-- the answer of such a function
+pub answer_is : {f : Function} {args : List Tree} {w : Tree} → MakesList f args w → plain_answer f 0 args ≡ Some (Ok w)
+answer_is (appends e) = ap Some e
+answer_is (inserts e) = ap Some e
+answer_is (adds e) = ap Some e
+answer_is (sets e) = ap Some e
+answer_is (deletes e) = ap Some e
+answer_is (removes e) = ap Some e
+
+-- what the program computes is that list
+pub made_is : {f : Function} {args : List Tree} {r : Result Value OperationFault} (v : Value) → HasList f args → GivesSome f args (Some r) (plain_answer f 0 args) → r ≡ Ok v → MakesList f args (tree v)
+made_is v (w, h) g is = let q = rw (answer_is h, is) at g in let same : w ≡ tree v = cc in rw (sym same) h
+
+pub lacks_memory : {f : Function} {args : List Tree} {r : Result Value OperationFault} (fault : OperationFault) → HasList f args → GivesSome f args (Some r) (plain_answer f 0 args) → r ≡ Err fault → fault ≡ Memory
+lacks_memory {args = args} (Raise e) (w, h) g is = let q = rw (answer_is h, is) at g in absurd cc
+lacks_memory Memory h g is = refl
+
+-- the value of the call is that list
+pub value_is : {f : Function} {args : List Tree} {w : Tree} → MakesList f args w → value_of_call f args ≡ w
+value_is h = rw (answer_is h) refl
+
+pub call_makes : (f : Function) (args : List Tree) → HasList f args → MakesList f args (value_of_call f args)
+call_makes f args (w, h) = rw (value_is h) h

@@ -1,0 +1,11 @@
+use Rattle.std.proofs.Common.{rules, FitsSigned, w32}
+use Rattle.std.proofs.lemmas.Int.{to_z-of_z}
+use Rattle.moo_value.specs.View.{tree}
+use Rattle.moo_eval_access.proofs.ListCalls.{set_has}
+use Rattle.moo_eval_access.proofs.list_call.has_list_set.Goals as goal
+
+pub returns-in-ListSet : goal.returns-in-ListSet
+returns-in-ListSet c =
+    λ h.
+    let fits : FitsSigned w32 c.args.place = search rules in
+    rw c.in-ListSet.is (set_has c.args.list.now c.args.place (tree c.args.value.now) (simp to_z-of_z at (c.takes.ensures h)))

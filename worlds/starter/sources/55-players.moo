@@ -24,18 +24,25 @@
 @property $player.gagged_by r wiz = {}
 @property $player.refusals r wiz = {}
 @property $player.muted r wiz = {0, 0}
+// The kinds of players of the core, of which no more has to be asked.
+@property $player.kinds r wiz = {}
+;$player.kinds = {$builder, $prog, $wiz, $guest};
 
 // Drops what is caused by a player whom this one gags, or who is muted. A line that begins with #$ would be a command to
 // some clients (#$# edit): it gets a blank before it, as nobody but the world itself sends those.
 @program $player:"tell tell_lines" this none this rxd wiz
-if (player != this && valid(player))
-  {at, span} = `player.muted ! ANY => {0, 0}';
-  if (player in this.gags || (span && time() - at >= 0 && time() - at < span))
+if (player == this)
+  // for most lines, which the core sends to who has typed the command, no other frames have to be looked at
+  by = caller_perms() == this || caller_perms() == $keeper ? 0 | $player:maker_of(callers(), this);
+else
+  if (valid(player) && (player in this.gags || ((`player.muted ! E_PROPNF' != {0, 0} || !(parent(player) in $player.kinds)) && $player:muted_for(player))))
     return;
   endif
+  // a look_self of the core shows what a thing's owner has written
+  by = caller_perms() == $keeper && callers()[1][2] != "look_self" ? 0 | $player:maker_of(callers(), this);
 endif
 if (verb == "tell")
-  text = tostr(@args);
+  text = by ? $player:signed(tostr(@args), by) | tostr(@args);
   notify(this, index(text, "#$") == 1 ? " " + text | text);
   return;
 endif
@@ -47,10 +54,59 @@ if (this.pagelength && length(lines) > this.pagelength)
 endif
 for l in (lines)
   l = tostr(l);
+  l = by ? $player:signed(l, by) | l;
   for part in (this.linelength < 78 && length(l) > this.linelength ? $string:wrap(l, this.linelength) | {l})
     notify(this, index(part, "#$") == 1 ? " " + part | part);
   endfor
 endfor
+.
+
+// For how many seconds more nobody hears WHO; -1 if that has no end. A player who has made himself another kind of thing has lost
+// his mute and the list of those who gag him, so nobody hears him until a wizard gives him back a kind of players.
+@program $player:muted_for this none this rxd wiz
+{who} = args;
+kind = parent(who);
+if (!(valid(kind) && valid(kind.owner) && kind.owner.wizard && $isa(kind, $player)))
+  return -1;
+endif
+{at, span} = who.muted;
+since = time() - at;
+return span && since >= 0 && since < span ? span - since | 0;
+.
+
+// {who has made the program that sends a line to WHOM}: the first of FRAMES with the rights of anybody but the core, a wizard and
+// WHOM; or {}.
+@program $player:maker_of this none this rxd wiz
+{frames, ?whom = $keeper} = args;
+for f in (frames)
+  by = f[3];
+  if (!(by in {$keeper, whom} || (valid(by) && by.wizard)))
+    return {by};
+  endif
+endfor
+return {};
+.
+
+// TEXT as a program of BY[1] sends it. If it begins with the name of another player, or with that of who typed the command and has
+// speech in it, whose program it is comes first. A name that looks like a player's counts as his.
+@program $player:signed this none this rxd
+{text, by} = args;
+by = by[1];
+i = 1;
+last = min(60, length(text));
+while (i <= last && index("abcdefghijklmnopqrstuvwxyz0123456789-_", text[i]))
+  i = i + 1;
+endwhile
+word = text[1..i - 1];
+if (!word || (valid(by) && word == by.name) || (valid(player) && word == player.name && !index(text, "\"")))
+  return text;
+endif
+for look in ($match:looks(word))
+  if (index($match.alike, "|" + look + "|"))
+    return tostr(valid(by) ? by.name + "'s program: " | "A program: ", text);
+  endif
+endfor
+return text;
 .
 
 @program $player:@more none none none rd wiz
@@ -88,11 +144,9 @@ endif
 // verb of this name on a programmer's own character would take back no mute.
 @program $player:lets_speak this none this rxd wiz
 {who, ?whom = #-1, ?kind = ""} = args;
-{at, span} = `who.muted ! ANY => {0, 0}';
-since = time() - at;
 refused = valid(whom) ? `whom.refusals ! ANY => {}' | {};
-if (span && since >= 0 && since < span)
-  notify(who, tostr("You are muted, for ", $time:span(span - since), " more."));
+if (left = $player:muted_for(who))
+  notify(who, left < 0 ? "Nobody hears you: you are no kind of player any more. A wizard can mend that." | tostr("You are muted, for ", $time:span(left), " more."));
 elseif (valid(whom) && whom in `who.gagged_by ! ANY => {}')
   notify(who, whom.name + " hears nothing of you.");
 elseif ({kind, #-1} in refused || {kind, who} in refused)
@@ -105,6 +159,13 @@ return 0;
 
 @program $player:may_speak this none this rxd
 return $player:lets_speak(this, @args);
+.
+
+// The server calls it in `recycle`, the function: no player takes himself away by mistake. Wizards have @toad.
+@program $player:recycle this none this rxd wiz
+if (!caller_perms().wizard)
+  raise(E_PERM, "players aren't recycled");
+endif
 .
 
 // Things come into somebody's hands by `give`, @move and programs: not from one who is gagged, or whose things are refused.

@@ -172,7 +172,7 @@ endif
 {kind, what, name, lines, at, raw, @rest} = who.editing;
 fault = "";
 try
-  if (!valid(what) || what.owner == #-1)
+  if (!valid(what) || what.owner == #-1 || (kind == "board" && !$isa(what, $board)))
     fault = "What it was for is gone.";
   elseif (!raw && rest && kind in {"verb", "text"} && !equal(now = this:lines_of(who, kind, what, name), rest[1]))
     // somebody else wrote there too: that is lost only if the writer says so

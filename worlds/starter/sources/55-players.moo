@@ -38,8 +38,8 @@ else
   if (valid(player) && (player in this.gags || ((`player.muted ! E_PROPNF' != {0, 0} || !(parent(player) in $player.kinds)) && $player:muted_for(player))))
     return;
   endif
-  // a look_self of the core shows what a thing's owner has written
-  by = caller_perms() == $keeper && callers()[1][2] != "look_self" ? 0 | $player:maker_of(callers(), this);
+  // look_self, and move of an exit, show what a thing's owner has written
+  by = caller_perms() == $keeper && !(callers()[1][2] in {"look_self", "move"}) ? 0 | $player:maker_of(callers(), this);
 endif
 if (verb == "tell")
   text = by ? $player:signed(tostr(@args), by) | tostr(@args);
@@ -144,7 +144,8 @@ endif
 // verb of this name on a programmer's own character would take back no mute.
 @program $player:lets_speak this none this rxd wiz
 {who, ?whom = #-1, ?kind = ""} = args;
-refused = valid(whom) ? `whom.refusals ! ANY => {}' | {};
+// only of players: else a thing of a programmer's could have any words as its name and its refusals
+refused = valid(whom) && is_player(whom) ? `whom.refusals ! ANY => {}' | {};
 if (left = $player:muted_for(who))
   notify(who, left < 0 ? "Nobody hears you: you are no kind of player any more. A wizard can mend that." | tostr("You are muted, for ", $time:span(left), " more."));
 elseif (valid(whom) && whom in `who.gagged_by ! ANY => {}')

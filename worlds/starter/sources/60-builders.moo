@@ -113,7 +113,7 @@ if (!$match:found(kind, p[1], player))
 elseif (($isa(kind, $room) && !$isa(kind, $vehicle)) || $isa(kind, $exit))
   player:tell("Rooms and exits are made by @dig.");
   return;
-elseif (!(kind.f || $controls(player, kind)))
+elseif (is_player(kind) || !(kind.f || $controls(player, kind)))
   player:tell("You can't make things of the kind ", kind.name, ". Kinds of things: $thing, $container, $board, $note, $vehicle.");
   return;
 elseif (length(player.contents) >= 50 && !player.wizard && !$isa(kind, $vehicle))

@@ -75,12 +75,12 @@ return span && since >= 0 && since < span ? span - since | 0;
 .
 
 // {who has made the program that sends a line to WHOM}: the first of FRAMES with the rights of anybody but the core, a wizard and
-// WHOM; or {}.
+// WHOM; or {}. A command of the core with the rights of who types it is the core's.
 @program $player:maker_of this none this rxd wiz
 {frames, ?whom = $keeper} = args;
 for f in (frames)
   by = f[3];
-  if (!(by in {$keeper, whom} || (valid(by) && by.wizard)))
+  if (!(by in {$keeper, whom} || (valid(by) && by.wizard) || (by == f[5] && f[4] != #-1 && f[4] <= $login.core_end)))
     return {by};
   endif
 endfor

@@ -279,7 +279,7 @@ if (prepstr == "at" && !dobjstr)
 elseif (prepstr in {"in", "inside", "into"} && !dobjstr)
   o = valid(iobj) ? iobj | $match:object(iobjstr, player);
   if ($match:found(o, iobjstr, player))
-    o:look_inside(player);
+    $isa(o, $root) ? o:look_inside(player) | player:tell("You can't look into ", $string:the(o.name), ".");
   endif
   return;
 elseif (prepstr in {"in", "on", "from"} && dobjstr)
@@ -304,7 +304,8 @@ if (!valid(o))
   o = o == #-2 ? o | $match:object(text, player, seen);
 endif
 if ($match:found(o, text, player))
-  o:look_self(player);
+  // a programmer can take the kind from a thing
+  $isa(o, $root) ? o:look_self(player) | player:tell("You see nothing special about ", $string:the(o.name), ".");
   if (valid(here))
     here:noticed(player, "look", o);
   endif
@@ -422,14 +423,15 @@ if (!$match:found_player(o, argstr, player))
 elseif (verb == "@ungag")
   player:tell(o in this.gags ? "You hear " + o.name + " again." | "You don't gag " + o.name + ".");
   this.gags = setremove(this.gags, o);
-  o.gagged_by = setremove(o.gagged_by, this);
+  `o.gagged_by = setremove(o.gagged_by, this) ! E_PROPNF';
 elseif (o == player)
   player:tell("You can't gag yourself.");
 elseif (length(this.gags) >= 50)
   player:tell("You gag fifty already. @ungag somebody first.");
 else
   this.gags = setadd(this.gags, o);
-  o.gagged_by = setadd(o.gagged_by, this);
+  // who has made himself another kind of thing has no such list, and nobody hears him
+  `o.gagged_by = setadd(o.gagged_by, this) ! E_PROPNF';
   player:tell("You hear no more of ", o.name, ". (@ungag ", o.name, ")");
 endif
 .

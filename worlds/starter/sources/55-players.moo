@@ -207,7 +207,7 @@ if (caller != #0 && caller != this)
 endif
 this.last_connect = time();
 if (valid(this.location))
-  this.location:look_self(this);
+  $isa(this.location, $root) && this.location:look_self(this);
 else
   for place in ({this.last_place, this.home, $login.start})
     if ($isa(place, $room) && `place:accept(this) ! ANY => 0')
@@ -257,7 +257,7 @@ if (valid(place))
   this.last_place = place;
   // first the body goes: what verbs of the room do can't keep it there
   move(this, #-1);
-  place:announce(this.name + " fades into the mist.", {this});
+  $isa(place, $root) && place:announce(this.name + " fades into the mist.", {this});
 endif
 .
 
@@ -266,6 +266,10 @@ here = player.location;
 if (!argstr || argstr in {"here", "around"})
   if (!valid(here))
     player:tell("You are nowhere. Type home.");
+    return;
+  elseif (!$isa(here, $root))
+    // a programmer has taken the kind from his room
+    player:tell(here.name, " isn't a room any more. Type home.");
     return;
   endif
   here:look_self(player);
@@ -557,7 +561,7 @@ if (!$controls(player, dest) && !`dest:accept(player) ! ANY => 0')
 endif
 // first the move: what a room does with `announce` keeps nobody in it
 move(player, dest);
-if (valid(here))
+if ($isa(here, $root))
   here:announce(player.name + words[1], {player});
 endif
 dest:announce(player.name + words[2], {player});

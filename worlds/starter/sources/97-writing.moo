@@ -618,7 +618,7 @@ endif
 @program $note:look_self this none this rxd
 {who} = args;
 pass(who);
-who:tell(this.text ? "There is something written on it. (read it)" | "Nothing is written on it.");
+who:tell(`this.text ! E_PERM => 1' ? "There is something written on it. (read it)" | "Nothing is written on it.");
 .
 
 @program $note:read this none none rd
@@ -626,7 +626,7 @@ if (!(this.location in {player, player.location}) && !$controls(player, this))
   player:tell("It isn't within reach.");
   return;
 endif
-lines = $string:lines(this.text);
+lines = $string:lines(`this.text ! E_PERM => "You can't read it."');
 player:tell_lines(lines ? lines | {"Nothing is written on it."});
 .
 

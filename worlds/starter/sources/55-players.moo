@@ -164,7 +164,7 @@ return $player:lets_speak(this, @args);
 
 // The server calls it in `recycle`, the function: no player takes himself away by mistake. Wizards have @toad.
 @program $player:recycle this none this rxd wiz
-if (!caller_perms().wizard)
+if (is_player(this) && !caller_perms().wizard)
   raise(E_PERM, "players aren't recycled");
 endif
 .
@@ -310,7 +310,7 @@ endif
 if ($match:found(o, text, player))
   // a programmer can take the kind from a thing
   $isa(o, $root) ? o:look_self(player) | player:tell("You see nothing special about ", $string:the(o.name), ".");
-  if (valid(here))
+  if ($isa(here, $root))
     here:noticed(player, "look", o);
   endif
 endif
@@ -519,7 +519,7 @@ except e (ANY)
   player:tell("That can't be done: ", e[2], ".");
   return;
 endtry
-if (valid(player.location))
+if ($isa(player.location, $root))
   player.location:noticed(player, "describe", o);
 endif
 .

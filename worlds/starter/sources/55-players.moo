@@ -88,16 +88,16 @@ return {};
 .
 
 // TEXT as a program of BY[1] sends it. If it begins with the name of another player, or with that of who typed the command and has
-// speech in it, whose program it is comes first. A name that looks like a player's counts as his.
+// speech in it, whose program it is comes first. A name that looks like a player's counts as his, and blanks before it don't count.
 @program $player:signed this none this rxd
 {text, by} = args;
 by = by[1];
-i = 1;
-last = min(60, length(text));
+from = i = text && text[1] == " " ? $string:past_blanks(text, 1) | 1;
+last = min(from + 59, length(text));
 while (i <= last && index("abcdefghijklmnopqrstuvwxyz0123456789-_", text[i]))
   i = i + 1;
 endwhile
-word = text[1..i - 1];
+word = text[from..i - 1];
 if (!word || (valid(by) && word == by.name) || (valid(player) && word == player.name && !index(text, "\"")))
   return text;
 endif

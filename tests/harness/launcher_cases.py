@@ -61,11 +61,11 @@ class Folder:
         (self.kit / "rt").write_text(f"#!/bin/sh\n{commands}\n")
         (self.kit / "rt").chmod(stat.S_IRWXU)
 
-    def set_clock(self, text):
-        """Makes this program the command `date`."""
-        (self.tools / "date").unlink()
-        (self.tools / "date").write_text(text)
-        (self.tools / "date").chmod(stat.S_IRWXU)
+    def set_tool(self, name, text):
+        """Makes this program the command of that name."""
+        (self.tools / name).unlink()
+        (self.tools / name).write_text(text)
+        (self.tools / name).chmod(stat.S_IRWXU)
 
     def sum(self):
         return subprocess.run([self.top / "release/sum"], stdout=subprocess.PIPE, text=True, check=True).stdout
@@ -281,10 +281,19 @@ def a_signal_of_the_same_moment_kills_nothing(folder):
     """Some programs send a signal twice. One that comes two seconds later kills the server, which was asked once for a shutdown."""
     folder.release(STUBBORN)
     folder.write("a.db.asked", "")
-    folder.set_clock(CLOCK)
+    folder.set_tool("date", CLOCK)
     yield Result(folder.run("serve", "a.db", "0", folder=folder.top).status, b""), 128 + signal.SIGKILL, ""
     yield Result(0, (folder.top / "a.db.typed").read_bytes()), 0, "\nshutdown\n"
     yield Result(0, (folder.top / "a.db.asked").read_bytes()), 0, "100\n101\n102\n"
+
+
+def a_checkpoint_that_is_asked_for_before_the_server_ends_nothing(folder):
+    """The launcher looks at the permissions of the database by `find`, which sends it these signals."""
+    folder.release()
+    for name in "HUP", "USR1", "USR2":
+        folder.set_tool("find", f'#!/bin/sh\nkill -s {name} "$PPID"\n')
+        yield (folder.run("serve", "a.db", "0", "--rounds", "3", command=folder.top / "release/launch", folder=folder.top, MOO_PROGRAM="release/moo"), 0,
+               "released serve --login-seconds 300 --most-unconnected 1000 --telnet --must-save --log-logins 10 --console a.db 0 --rounds 3\n")
 
 
 def a_signal_types_nothing_for_another_server(folder):
@@ -449,6 +458,7 @@ CASES = [
     a_server_has_limits_and_a_console,
     a_signal_ends_half_a_line_first,
     a_signal_of_the_same_moment_kills_nothing,
+    a_checkpoint_that_is_asked_for_before_the_server_ends_nothing,
     a_signal_types_nothing_for_another_server,
     a_pipe_that_was_left_is_used_again,
     options_may_come_before_the_database,

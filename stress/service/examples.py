@@ -45,6 +45,9 @@ os.chmod(clock, 0o700)
 words, path = [os.path.join(EXAMPLES, "backup"), named, os.path.join(folder, "same")], f"{folder}:{os.environ['PATH']}"
 runs = [subprocess.Popen(words, stdout=subprocess.DEVNULL, env={**os.environ, "MOO": moo, "PATH": path}) for _ in range(4)]
 checks.check("four runs in one second all have a copy", [run.wait(60) for run in runs] == [0] * 4)
+shutil.copy(named, os.path.join(folder, "-odd.db"))
+answer = subprocess.run([os.path.join(EXAMPLES, "backup"), "-odd.db", "-copies"], stdout=subprocess.PIPE, text=True, cwd=folder, env={**os.environ, "MOO": moo})
+checks.check("names may begin with a hyphen", os.path.exists(os.path.join(folder, answer.stdout.strip())), answer.stdout)
 checks.check("to keep none is refused", run(os.path.join(EXAMPLES, "backup"), named, both, "0", MOO=moo).returncode == 2)
 checks.check("a program that isn't there is named", run(os.path.join(EXAMPLES, "backup"), named, both, MOO="nowhere").returncode == 2)
 server.kill()

@@ -209,6 +209,15 @@ def an_installed_program_needs_no_repository(folder):
         yield headings(folder.run(*words, command=place / "moo")), 0, "The launcher adds:"
 
 
+def an_installation_replaces_no_program_of_the_repository(folder):
+    folder.release()
+    for place in ".", "release", str(folder.top), "./release/":
+        yield (folder.run("install", place, folder=folder.top), 2,
+               f"moo: {place} has a moo of the repository, which would be replaced: name another folder\n")
+    yield folder.run("--path"), 0, f"{folder.top}/release/moo\n"
+    yield folder.run("install", "a/b", folder=folder.top), 0, ""
+
+
 def a_server_has_limits_and_a_console(folder):
     folder.release()
     world = folder.top / "a.db"
@@ -455,6 +464,7 @@ CASES = [
     each_file_counts_but_those_of_out,
     the_path_is_printed,
     an_installed_program_needs_no_repository,
+    an_installation_replaces_no_program_of_the_repository,
     a_server_has_limits_and_a_console,
     a_signal_ends_half_a_line_first,
     a_signal_of_the_same_moment_kills_nothing,

@@ -9,8 +9,8 @@ ones, so that each line keeps its number), and asks it about the copy. It prints
 were the first, in order. Then comes `N programs refused`, or a fault of the copy that is no program's: nothing after that is
 reported. MENDED gets the text with the refused programs empty. DB is never written.
 
-The exit status is 0 if nothing is refused, 1 if something is, 3 if DB can't be read, 4 if memory ran out, and 2 for a command
-line that asks for nothing or names no program.
+The exit status is 0 if nothing is refused, 1 if something is, 3 if DB can't be read or MENDED can't be written, 4 if memory ran
+out, and 2 for a command line that asks for nothing or names no program.
 """
 
 import argparse
@@ -140,7 +140,11 @@ def main():
         print(error, file=sys.stderr)
         return 2
     if words.MENDED:
-        words.MENDED.write_bytes(b"\n".join(lines))
+        try:
+            words.MENDED.write_bytes(b"\n".join(lines))
+        except OSError as error:
+            print(error, file=sys.stderr)
+            return 3
     return tell(found, status, said, sys.stdout.buffer)
 
 

@@ -39,13 +39,13 @@ unfoldable pub verb_to_set : World → ℤ → ℤ → Tree → Result ℕ Error
 verb_to_set w p o t = on_verb (chosen w o t) (place_to_set w p o)
 
 -- the lines of a list of strings
-abbrev pub behind : List ℕ → Result (List (List ℕ)) ErrorCode → Result (List (List ℕ)) ErrorCode
-behind line (Ok lines) = Ok (line ∷ lines)
-behind line (Err e) = Err e
+abbrev pub with_first : List ℕ → Result (List (List ℕ)) ErrorCode → Result (List (List ℕ)) ErrorCode
+with_first line (Ok lines) = Ok (line ∷ lines)
+with_first line (Err e) = Err e
 
 abbrev pub lines_in : List Tree → Result (List (List ℕ)) ErrorCode
 lines_in [] = Ok []
-lines_in (string line ∷ ts) = behind line (lines_in ts)
+lines_in (string line ∷ ts) = with_first line (lines_in ts)
 lines_in _ = Err TypeMismatch
 
 abbrev pub given_lines : Tree → Result (List (List ℕ)) ErrorCode

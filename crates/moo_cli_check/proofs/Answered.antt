@@ -35,8 +35,8 @@ use Rattle.moo_cli_check.specs.declared.readers.Answer.TheVariants as answer
 well_goes : (c : DbReader) (bytes : List ℕ) (d : Told) → IsWell c → HasFed c bytes → taken_on limited begin bytes ≡ Err d → ⊥
 well_goes c bytes d well fed stops =
     let loading = taken_going c bytes well fed in
-    let behind = read_well c.programs bytes loading.well loading.read in
-    let no = sym behind.at.leads ∙ stops in
+    let after = read_well c.programs bytes loading.well loading.read in
+    let no = sym after.at.leads ∙ stops in
     cc
 
 pub program_goes : (c : DbReader) (bytes : List ℕ) (e : DbFault) → is_of_program e.kind ≡ true → IsRefusedFrom bytes e → GoesOn c bytes

@@ -12,7 +12,7 @@ use Rattle.moo_dbtext_record.specs.Faults.{kind_of_refusal, fault_of}
 use Rattle.moo_dbtext_record.specs.declared.record_reader.RecordFault.{RecordFault}
 use Rattle.moo_dbtext_record.specs.declared.fault.DbFault.{DbFault}
 use Rattle.moo_dbtext_record.proofs.TakenLaws.{taken_on-append, rest_taken}
-use Rattle.moo_dbtext_record.proofs.Standing.{stands_on, stand_so, stand_ends, taken_ends, line_fault, told_behind, sources_stand}
+use Rattle.moo_dbtext_record.proofs.Standing.{stands_on, stand_so, stand_ends, taken_ends, line_fault, told_after, sources_stand}
 use Rattle.moo_cli_check.specs.Survey.{AreTheRefused, IsSurvey}
 use Rattle.moo_cli_check.specs.Reading.{IsAfter, IsEnded, IsWholly, Surveys, SurveysOn}
 use Rattle.moo_cli_check.specs.declared.survey.Survey.{Survey}
@@ -60,7 +60,7 @@ line_ended r bytes line f whole h stops = at f.kind refl stops
             let split : (bytes ++ line) ++ more ≡ bytes ++ (line ++ more) = append_assoc bytes line more in
             record {
               programs = subst (λ (b : List ℕ). AreTheRefused b r.faults.items) (sym split) (all_looked_at r bytes (line ++ more) h (λ n stand.
-                  let before = told_behind limited n (bytes ++ (line ++ more)) d (ap (answer_to limited) (sym split) ∙ answer) stand in
+                  let before = told_after limited n (bytes ++ (line ++ more)) d (ap (answer_to limited) (sym split) ∙ answer) stand in
                   omega (arith, before, number)));
               end = record { fault = g; kind = ap kind_of_refusal is; answer = answer };
             }

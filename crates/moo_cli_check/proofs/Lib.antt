@@ -1,5 +1,5 @@
 pub mod Shown
 pub mod Noted
-pub mod Behind
+pub mod After
 pub mod Ended
 pub mod Answered

@@ -68,10 +68,10 @@ end_of line front word e =
     ap (λ k. drop k line) n ∙ ap (drop (length front)) e ∙ drop-append_seam front word
 
 -- a property of the rest after a word is one of every text after it
-pub told_behind : {A : Type 0} (P : List ℕ → A → Type 0) (line word rest : List ℕ) (r : Option A) → line ≡ word ++ rest → MatchOption r ((x : A) → ¬ P rest x) (P rest)
+pub told_after : {A : Type 0} (P : List ℕ → A → Type 0) (line word rest : List ℕ) (r : Option A) → line ≡ word ++ rest → MatchOption r ((x : A) → ¬ P rest x) (P rest)
     → MatchOption r ((other : List ℕ) (x : A) → line ≡ word ++ other → ¬ P other x) (λ x. (other : List ℕ) × (line ≡ word ++ other) × P other x)
-told_behind P line word rest None e h = λ other x f p. h x (subst (λ (l : List ℕ). P l x) (cancel_word line word other rest f e) p)
-told_behind P line word rest (Some x) e h = (rest, e, h)
+told_after P line word rest None e h = λ other x f p. h x (subst (λ (l : List ℕ). P l x) (cancel_word line word other rest f e) p)
+told_after P line word rest (Some x) e h = (rest, e, h)
 
 pub cancel_end : (xs ys end : List ℕ) → xs ++ end ≡ ys ++ end → xs ≡ ys
 cancel_end xs ys end e =

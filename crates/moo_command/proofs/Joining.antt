@@ -7,17 +7,17 @@ use Rattle.moo_value.specs.Size.{total_weight, list_weight, weight_limit, IsStri
 use Rattle.moo_command.specs.Prepositions.{joined}
 
 -- words, each after a blank
-abbrev pub behind_blanks : List (List ℕ) → List ℕ
-behind_blanks [] = []
-behind_blanks (w ∷ ws) = 32 ∷ (w ++ behind_blanks ws)
+abbrev pub after_blanks : List (List ℕ) → List ℕ
+after_blanks [] = []
+after_blanks (w ∷ ws) = 32 ∷ (w ++ after_blanks ws)
 
-pub joined_first : (w : List ℕ) (ws : List (List ℕ)) → joined (w ∷ ws) ≡ w ++ behind_blanks ws
+pub joined_first : (w : List ℕ) (ws : List (List ℕ)) → joined (w ∷ ws) ≡ w ++ after_blanks ws
 joined_first w [] = sym (append-nil w)
 joined_first w (v ∷ ws) = ap (λ t. w ++ (32 ∷ t)) (joined_first v ws)
 
 -- how far words are joined
 pub record IsJoining (words : List (List ℕ)) (left : List (List ℕ)) (text : List ℕ) : Type 0 where
-  pub goes_on : joined words ≡ text ++ behind_blanks left
+  pub goes_on : joined words ≡ text ++ after_blanks left
   pub allowed : IsText text
 
 pub joining_begins : (words : List (List ℕ)) (first : List ℕ) (others : List (List ℕ)) → words ≡ first ∷ others → IsString first → IsJoining words others first
@@ -27,14 +27,14 @@ pub word_joined : (words others : List (List ℕ)) (i : ℕ) (text word d : List
     → IsJoining words (drop (i + 1) others) ((text ++ 32 ∷ []) ++ word)
 word_joined words others i text word d inside joining is fine = record {
   goes_on = joining.goes_on
-      ∙ ap (λ ws. text ++ behind_blanks ws) (drop_more others i d inside ∙ ap (λ v. v ∷ drop (i + 1) others) (sym is))
-      ∙ sym (append_assoc text (32 ∷ []) (word ++ behind_blanks (drop (i + 1) others)))
-      ∙ sym (append_assoc (text ++ 32 ∷ []) word (behind_blanks (drop (i + 1) others)));
+      ∙ ap (λ ws. text ++ after_blanks ws) (drop_more others i d inside ∙ ap (λ v. v ∷ drop (i + 1) others) (sym is))
+      ∙ sym (append_assoc text (32 ∷ []) (word ++ after_blanks (drop (i + 1) others)))
+      ∙ sym (append_assoc (text ++ 32 ∷ []) word (after_blanks (drop (i + 1) others)));
   allowed = All-append IsTextByte (text ++ 32 ∷ []) word (All-push IsTextByte text 32 joining.allowed (inr (omega arith, omega arith))) fine.text;
 }
 
 pub all_joined : (words others : List (List ℕ)) (i : ℕ) (text : List ℕ) → length others ≤ i → IsJoining words (drop i others) text → joined words ≡ text
-all_joined words others i text over joining = joining.goes_on ∙ ap (λ ws. text ++ behind_blanks ws) (drop_all i others over) ∙ append-nil text
+all_joined words others i text over joining = joining.goes_on ∙ ap (λ ws. text ++ after_blanks ws) (drop_all i others over) ∙ append-nil text
 
 pub joined_is_string : (words others : List (List ℕ)) (i : ℕ) (text : List ℕ) → length others ≤ i → IsJoining words (drop i others) text → length (joined words) < weight_limit
     → IsString text
@@ -50,13 +50,13 @@ weight_is : (ws : List (List ℕ)) → total_weight (elements_of (map (λ w. str
 weight_is [] = refl
 weight_is (w ∷ ws) = ap (λ n. 1 + length w + n) (weight_is ws)
 
-behind_fits : (ws : List (List ℕ)) → length (behind_blanks ws) ≡ spread ws
-behind_fits [] = refl
-behind_fits (w ∷ ws) = omega (arith, length-append w (behind_blanks ws), behind_fits ws)
+after_fits : (ws : List (List ℕ)) → length (after_blanks ws) ≡ spread ws
+after_fits [] = refl
+after_fits (w ∷ ws) = omega (arith, length-append w (after_blanks ws), after_fits ws)
 
 joined_fits : (ws : List (List ℕ)) (n : ℕ) → spread ws ≤ n + 1 → length (joined ws) ≤ n
 joined_fits [] n h = omega arith
-joined_fits (w ∷ ws) n h = omega (arith, h, ap length (joined_first w ws), length-append w (behind_blanks ws), behind_fits ws)
+joined_fits (w ∷ ws) n h = omega (arith, h, ap length (joined_first w ws), length-append w (after_blanks ws), after_fits ws)
 
 spread_take : (i : ℕ) (ws : List (List ℕ)) → spread (take i ws) ≤ spread ws
 spread_take zero ws = omega arith

@@ -81,10 +81,10 @@ below ds (suc k) r o some small spelled h e =
     (λ fits. (fits, ap (λ (l : List ℕ). 45 ∷ l) spelled))
     (λ wide n lt f. let same = decimal_injective (suc k) (suc n) (omega (arith, small)) (omega (arith, lt)) (sym spelled ∙ f) in wide (omega (arith, ints, same, lt)))
 
-pub behind_sign : (line : List ℕ) (r : Option (Bor (List ℕ))) (x : Bor (List ℕ))
+pub after_sign : (line : List ℕ) (r : Option (Bor (List ℕ))) (x : Bor (List ℕ))
     → MatchOption r (pointwise eqb (take 1 line) (45 ∷ []) ≡ false) (λ y. (pointwise eqb (take 1 line) (45 ∷ []) ≡ true) × (y.now ≡ drop 1 line) × (length y.now + 1 ≡ length line))
     → r ≡ Some x → line ≡ 45 ∷ x.now
-behind_sign line r x h e = subst (λ (o : Option (Bor (List ℕ))). MatchOption o ((rest : List ℕ) → line ≢ 45 ∷ rest) (λ y. line ≡ 45 ∷ y.now)) e (strip_prefix_is Decides-eqb line (45 ∷ []) r h)
+after_sign line r x h e = subst (λ (o : Option (Bor (List ℕ))). MatchOption o ((rest : List ℕ) → line ≢ 45 ∷ rest) (λ y. line ≡ 45 ∷ y.now)) e (strip_prefix_is Decides-eqb line (45 ∷ []) r h)
 
 unsigned : (digits : List ℕ) (n : ℕ) → n < 2 ^ 31 → 45 ∷ digits ≢ decimal n
 unsigned digits zero lt e = let same : 45 ≡ 48 = ap (λ (l : List ℕ). get_or l 0 0) (e ∙ decimal_digit 0 (omega arith)) in omega (arith, same)

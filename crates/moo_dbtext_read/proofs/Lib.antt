@@ -1,7 +1,7 @@
 pub mod Cases
 pub mod Blame
 pub mod Rows
-pub mod Behind
+pub mod After
 pub mod Refused
 pub mod ProgramWhole
 pub mod ProgramOrder

@@ -49,7 +49,7 @@ one_first P n x y h k = elim (cases_lt x y) [
   | inl before ↦ absurd (first_of_two P n x y h k before)
   | inr not_before ↦ elim (cases_lt y x) [
     | inl following ↦ absurd (first_of_two P n y x k h following)
-    | inr not_behind ↦ omega arith
+    | inr not_after ↦ omega arith
   ]
 ]
 

@@ -12,7 +12,7 @@ use Rattle.moo_dbtext_record.specs.Placing.{lines_to_objects, BeginsWithObjects}
 use Rattle.moo_dbtext_record.specs.declared.dump.Dump.{Dump}
 use Rattle.moo_dbtext_record.proofs.Standing.{stands_on}
 use Rattle.moo_dbtext_record.proofs.Placed.{objects_begin}
-use Rattle.moo_dbtext_read.specs.Reading.{HasRead, IsWell, IsBehind, place_of}
+use Rattle.moo_dbtext_read.specs.Reading.{HasRead, IsWell, IsAfter, place_of}
 use Rattle.moo_dbtext_read.specs.declared.program_reader.ProgramReader.{ProgramReader}
 use Rattle.moo_dbtext_read.proofs.Refused.{read_well}
 use Rattle.moo_dbtext_read.specs.Loading.{IsRefusedSo, IsRefusedFrom, IsTextUntold, LoadAnswers}
@@ -62,7 +62,7 @@ begins_on bytes more players objects h = record {
 }
 
 module _ (p : ProgramReader) (bytes : List ℕ) (d : Dump) (read : HasRead p bytes) (well : IsWell p) (past : has_objects (place_of p).section ≡ true) (text : text_of d ≡ (place_of p).text) where
-  following : IsBehind p bytes
+  following : IsAfter p bytes
   following = read_well p bytes well read
 
   alike : outline_read following.at.state.progress ≡ outline_read (place_of p)

@@ -13,7 +13,7 @@ use Rattle.moo_dbtext_record.specs.declared.fault.DbFault.{DbFault}
 use Rattle.moo_dbtext_record.specs.declared.fault.DbFaultKind.{DbFaultKind}
 use Rattle.moo_dbtext_record.specs.declared.fault.DbFaultKind.TheVariants as kind
 use Rattle.moo_dbtext_record.specs.declared.fault.ProgramFault.{ProgramFault}
-use Rattle.moo_dbtext_record.proofs.Standing.{stand_at, one_stand, told_behind, sources_stand}
+use Rattle.moo_dbtext_record.proofs.Standing.{stand_at, one_stand, told_after, sources_stand}
 use Rattle.moo_dbtext_read.specs.Faults.{AreSoundBefore, AreToldAlike, IsBlamed, Choice, TellsBy, chosen_by}
 use Rattle.moo_dbtext_read.specs.Reading.{IsRecordFault, IsToldProgram, IsRefused}
 use Rattle.moo_dbtext_read.proofs.Blame.{blamed_is_outside}
@@ -68,7 +68,7 @@ line_or_program : (bytes : List ℕ) (d e : DbFault) → IsToldLine (answer_to l
 line_or_program bytes d e h sound p =
     let place = p.is.place in
     let n = e.line + length p.is.source + 1 in
-    let before : n < d.line = told_behind limited n bytes (record { line = d.line; fault = h.fault }) h.answers place.ended in
+    let before : n < d.line = told_after limited n bytes (record { line = d.line; fault = h.fault }) h.answers place.ended in
     let there = sources_stand limited n (d.line - 1) bytes place.ended sound.stand (omega arith) p.object p.verb p.is.source place.kept in
     let b = sound.parsed p.object p.verb p.is.source there in
     blamed_is_outside p.is.source p.fault b.0 p.is.blamed b.1
@@ -111,7 +111,7 @@ one_program bytes d e p q = elim (cases_lt (dot_of bytes d p) (dot_of bytes e q)
   | inl before ↦ absurd (later_program bytes d e p q before)
   | inr not_before ↦ elim (cases_lt (dot_of bytes e q) (dot_of bytes d p)) [
     | inl following ↦ absurd (later_program bytes e d q p following)
-    | inr not_behind ↦ same_program bytes d e p q (omega arith)
+    | inr not_after ↦ same_program bytes d e p q (omega arith)
   ]
 ]
 

@@ -18,12 +18,12 @@ use Rattle.moo_dbtext_record.proofs.Sources.{finished_text}
 use Rattle.moo_dbtext_read.specs.Says.{AreParsedAs, HasProgramsWithin, programs_of}
 use Rattle.moo_dbtext_read.specs.declared.program_reader.ProgramReader.{ProgramReader}
 use Rattle.moo_dbtext_read.specs.Faults.{AreSoundBefore, through_program}
-use Rattle.moo_dbtext_read.specs.Reading.{IsRecordFault, IsToldProgram, IsRefused, IsBehind, Reads, ReadsOn, HasRead, IsWell, HasRefused, IsRead}
-use Rattle.moo_dbtext_read.proofs.Behind.{parsed_within}
+use Rattle.moo_dbtext_read.specs.Reading.{IsRecordFault, IsToldProgram, IsRefused, IsAfter, Reads, ReadsOn, HasRead, IsWell, HasRefused, IsRead}
+use Rattle.moo_dbtext_read.proofs.After.{parsed_within}
 
 -- ---- the text before a fault
 
-sound_here : (r : ProgramReader) (bytes : List ℕ) (n : ℕ) (h : IsBehind r bytes) → n ≡ h.at.state.lines + 1 → AreSoundBefore n bytes
+sound_here : (r : ProgramReader) (bytes : List ℕ) (n : ℕ) (h : IsAfter r bytes) → n ≡ h.at.state.lines + 1 → AreSoundBefore n bytes
 sound_here r bytes n h is =
     let s = h.at.state in
     let so = stand_so limited bytes s h.at.leads in
@@ -32,7 +32,7 @@ sound_here r bytes n h is =
 sound_on : (bytes more : List ℕ) (n : ℕ) → AreSoundBefore n bytes → AreSoundBefore n (bytes ++ more)
 sound_on bytes more n h = record { stand = stands_on limited (n - 1) bytes more h.stand; parsed = h.parsed }
 
-taken_from : {A : Type 0} (r : ProgramReader) (bytes : List ℕ) (f : Taken → Result A Told) (h : IsBehind r bytes) → and_then (taken_on limited begin bytes) f ≡ f h.at.state
+taken_from : {A : Type 0} (r : ProgramReader) (bytes : List ℕ) (f : Taken → Result A Told) (h : IsAfter r bytes) → and_then (taken_on limited begin bytes) f ≡ f h.at.state
 taken_from r bytes f h = ap (λ (x : Result Taken Told). and_then x f) h.at.leads
 
 -- if the records stop at a fault of this line, or because memory ran out
@@ -44,7 +44,7 @@ stopped {A = A} bytes answer f sound stops = at f.kind refl stops
     at (refusal.Fault g) is h = inr (inl (record { fault = f; told = refl; stops = stops; sound = sound (record { line = f.line; fault = g }) h }))
 
 -- at the end of a line
-pub line_refused : (r : ProgramReader) (bytes line : List ℕ) (f : RecordFault) → IsWholeLine line → IsBehind r bytes → Stops f (taken_on limited begin (bytes ++ line)) → IsRefused (bytes ++ line) (taken_on limited begin (bytes ++ line)) (fault_of f)
+pub line_refused : (r : ProgramReader) (bytes line : List ℕ) (f : RecordFault) → IsWholeLine line → IsAfter r bytes → Stops f (taken_on limited begin (bytes ++ line)) → IsRefused (bytes ++ line) (taken_on limited begin (bytes ++ line)) (fault_of f)
 line_refused r bytes line f whole h =
     stopped (bytes ++ line) (taken_on limited begin (bytes ++ line)) f (λ d e.
     let here : taken_on limited h.at.state (whole.line ++ 10 ∷ []) ≡ Err d =
@@ -52,7 +52,7 @@ line_refused r bytes line f whole h =
     sound_on bytes line d.line (sound_here r bytes d.line h (line_fault limited h.at.state whole.line d whole.clean here)))
 
 -- bytes without an end stop only if memory runs out
-pub part_refused : (r : ProgramReader) (bytes part : List ℕ) (f : RecordFault) → HasNoEnd part → IsBehind r bytes → Stops f (taken_on limited begin (bytes ++ part)) → IsRefused (bytes ++ part) (taken_on limited begin (bytes ++ part)) (fault_of f)
+pub part_refused : (r : ProgramReader) (bytes part : List ℕ) (f : RecordFault) → HasNoEnd part → IsAfter r bytes → Stops f (taken_on limited begin (bytes ++ part)) → IsRefused (bytes ++ part) (taken_on limited begin (bytes ++ part)) (fault_of f)
 part_refused r bytes part f clean h =
     stopped (bytes ++ part) (taken_on limited begin (bytes ++ part)) f (λ d e. absurd (
     let goes = taken_on-append limited begin bytes part ∙ taken_from r bytes (λ t. taken_on limited t part) h ∙ rest_taken limited h.at.state part clean in
@@ -61,7 +61,7 @@ part_refused r bytes part f clean h =
     ))
 
 -- at the end of the text
-pub end_refused : (r : ProgramReader) (bytes : List ℕ) (f : RecordFault) → IsBehind r bytes → Stops f (answer_to limited bytes) → IsRefused bytes (answer_to limited bytes) (fault_of f)
+pub end_refused : (r : ProgramReader) (bytes : List ℕ) (f : RecordFault) → IsAfter r bytes → Stops f (answer_to limited bytes) → IsRefused bytes (answer_to limited bytes) (fault_of f)
 unfolding answer_to
 end_refused r bytes f h =
     stopped bytes (answer_to limited bytes) f (λ d e. sound_here r bytes d.line h (finished_line h.at.state d (sym (taken_from r bytes finished h) ∙ e)))
@@ -125,10 +125,10 @@ read_failed r e bytes failed h = at r.outcome failed h
     at (Ok x) is h = absurd cc
     at (Err d) is h = subst (IsRefused bytes (taken_on limited begin bytes)) (let same : d ≡ e = cc in same) h
 
-pub read_well : (r : ProgramReader) (bytes : List ℕ) → IsWell r → HasRead r bytes → IsBehind r bytes
+pub read_well : (r : ProgramReader) (bytes : List ℕ) → IsWell r → HasRead r bytes → IsAfter r bytes
 read_well r bytes well h = at r.outcome well h
   where
-    at : (o : Result ⊤ DbFault) → o ≡ Ok tt → Reads o r bytes → IsBehind r bytes
+    at : (o : Result ⊤ DbFault) → o ≡ Ok tt → Reads o r bytes → IsAfter r bytes
     at (Ok x) is h = h
     at (Err d) is h = absurd cc
 
@@ -148,7 +148,7 @@ pub answered_text : (bytes : List ℕ) (s : Taken) (t : Text) → taken_on limit
 unfolding answer_to
 answered_text bytes s t a b = finished_text s t (sym (ap (λ (r : Result Taken Told). and_then r finished) a) ∙ b)
 
-pub read_says : (r : ProgramReader) (bytes : List ℕ) (dump : Dump) → IsBehind r bytes → (t : Text) → answer_to limited bytes ≡ Ok t → outline t ≡ outline (text_of dump) → IsRead bytes (record { players = dump.players; objects = dump.objects; programs = r.programs; connections = dump.connections })
+pub read_says : (r : ProgramReader) (bytes : List ℕ) (dump : Dump) → IsAfter r bytes → (t : Text) → answer_to limited bytes ≡ Ok t → outline t ≡ outline (text_of dump) → IsRead bytes (record { players = dump.players; objects = dump.objects; programs = r.programs; connections = dump.connections })
 read_says r bytes dump h t a same =
     let text = answered_text bytes h.at.state t h.at.leads a in
     record {

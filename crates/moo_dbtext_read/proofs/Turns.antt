@@ -13,13 +13,13 @@ use Rattle.moo_dbtext_record.specs.declared.fault.DbFaultKind.TheVariants as kin
 use Rattle.moo_dbtext_record.specs.declared.dump_reader.Section.{Section}
 use Rattle.moo_dbtext_record.specs.declared.dump_reader.Section.TheVariants as section
 use Rattle.moo_dbtext_record.proofs.TakenLaws.{taken_on-append}
-use Rattle.moo_dbtext_record.proofs.Standing.{stand_so, stands_on, stand_in, stand_ends, stopped_behind, ends, ends_append, clean_ends, taken_ends, fault_ends}
+use Rattle.moo_dbtext_record.proofs.Standing.{stand_so, stands_on, stand_in, stand_ends, stopped_after, ends, ends_append, clean_ends, taken_ends, fault_ends}
 use Rattle.moo_dbtext_record.proofs.Placed.{bytes_past, objects_stand, one_set_of_objects, whole_begins}
 use Rattle.moo_dbtext_read.specs.Reading as programs
-use Rattle.moo_dbtext_read.specs.Reading.{IsBehind, IsRead, IsToldProgram, IsRefused, HasRead, IsWell, place_of}
+use Rattle.moo_dbtext_read.specs.Reading.{IsAfter, IsRead, IsToldProgram, IsRefused, HasRead, IsWell, place_of}
 use Rattle.moo_dbtext_read.specs.declared.database.Database.{Database}
 use Rattle.moo_dbtext_read.specs.declared.program_reader.ProgramReader.{ProgramReader}
-use Rattle.moo_dbtext_read.proofs.Behind.{taken_between, part_sources}
+use Rattle.moo_dbtext_read.proofs.After.{taken_between, part_sources}
 use Rattle.moo_dbtext_read.proofs.Refused.{refused_then, refused_whole, read_failed, read_well}
 use Rattle.moo_dbtext_read.proofs.ProgramOrder.{told_line}
 use Rattle.moo_dbtext_restore.specs.First.{IsFirst}
@@ -33,23 +33,23 @@ use Rattle.moo_dbtext_read.proofs.Order.{faultless_begun}
 
 -- ---- the state of the reader
 
-abbrev behind_of : (r : WorldReader) (bytes : List ℕ) → IsLoading r bytes → IsBehind r.programs bytes
-behind_of r bytes h = read_well r.programs bytes h.well h.read
+abbrev after_of : (r : WorldReader) (bytes : List ℕ) → IsLoading r bytes → IsAfter r.programs bytes
+after_of r bytes h = read_well r.programs bytes h.well h.read
 
 abbrev state_of : (r : WorldReader) (bytes : List ℕ) → IsLoading r bytes → Taken
-state_of r bytes h = (behind_of r bytes h).at.state
+state_of r bytes h = (after_of r bytes h).at.state
 
-section_of : (p : ProgramReader) (bytes : List ℕ) (h : IsBehind p bytes) → has_objects h.at.state.progress.section ≡ has_objects (place_of p).section
+section_of : (p : ProgramReader) (bytes : List ℕ) (h : IsAfter p bytes) → has_objects h.at.state.progress.section ≡ has_objects (place_of p).section
 section_of p bytes h = ap (λ (x : Progress). has_objects x.section) h.at.alike.progress.rest
 
-objects_of : (p : ProgramReader) (bytes : List ℕ) (h : IsBehind p bytes) → h.at.state.progress.text.objects ≡ (place_of p).text.objects
+objects_of : (p : ProgramReader) (bytes : List ℕ) (h : IsAfter p bytes) → h.at.state.progress.text.objects ≡ (place_of p).text.objects
 objects_of p bytes h = ap (λ (x : Progress). x.text.objects) h.at.alike.progress.rest
 
 -- ---- objects that have been looked at
 
 pub looked_faultless : (r : WorldReader) (bytes more : List ℕ) → IsLoading r bytes → r.is_checked ≡ true → HasNoObjectFault (bytes ++ more)
 looked_faultless r bytes more h checked n k past =
-    let b = behind_of r bytes h in
+    let b = after_of r bytes h in
     let so = stand_so limited bytes b.at.state b.at.leads in
     let here = stands_on limited b.at.state.lines bytes more so.stand in
     let all = ap (λ (p : Progress). has_objects p.section) so.same ∙ section_of r.programs bytes b ∙ sym h.looked ∙ checked in
@@ -61,7 +61,7 @@ looked_faultless r bytes more h checked n k past =
 
 unlooked : (r : WorldReader) (bytes more : List ℕ) (h : IsLoading r bytes) → r.is_checked ≡ false → (n : ℕ) (k : Stand limited n (bytes ++ more)) → n ≤ (state_of r bytes h).lines → has_objects k.state.progress.section ≡ true → ⊥
 unlooked r bytes more h early n k le past =
-    let b = behind_of r bytes h in
+    let b = after_of r bytes h in
     let so = stand_so limited bytes b.at.state b.at.leads in
     let here = stands_on limited b.at.state.lines bytes more so.stand in
     let on = objects_stand limited n b.at.state.lines (bytes ++ more) k here le past in
@@ -113,7 +113,7 @@ refused_early r bytes part more e h early few refused known n k past = absurd (a
     s = state_of r bytes h
 
     leads : taken_on limited begin bytes ≡ Ok s
-    leads = (behind_of r bytes h).at.leads
+    leads = (after_of r bytes h).at.leads
 
     no_more : (m : ℕ) (j : Stand limited m ((bytes ++ part) ++ more)) → m ≤ s.lines → has_objects j.state.progress.section ≡ true → ⊥
     no_more m j le all = unlooked r bytes (part ++ more) h early m (stand_in limited m ((bytes ++ part) ++ more) (bytes ++ (part ++ more)) (append_assoc bytes part more) j) le all
@@ -126,7 +126,7 @@ refused_early r bytes part more e h early few refused known n k past = absurd (a
         let stops : taken_on limited s part ≡ Err d = sym (taken_on-append limited begin bytes part ∙ ap (λ (x : Result Taken Told). and_then x (λ u. taken_on limited u part)) leads) ∙ t.answers in
         let whole : taken_on limited begin ((bytes ++ part) ++ more) ≡ Err d = taken_on-append limited begin (bytes ++ part) more ∙ ap (λ (x : Result Taken Told). and_then x (λ u. taken_on limited u more)) t.answers in
         let low = fault_ends limited part s d stops in
-        let high = stopped_behind limited n ((bytes ++ part) ++ more) d whole k in
+        let high = stopped_after limited n ((bytes ++ part) ++ more) d whole k in
         no_more n k (omega arith) past
     at (inr (inr p)) =
         let place = p.is.place in
@@ -161,7 +161,7 @@ ended_faultless r bytes h = elim (either_way r.is_checked) [
   | inl checked ↦ subst HasNoObjectFault (append-nil bytes) (looked_faultless r bytes [] h checked)
   | inr early ↦ λ n k past. absurd (
       let few = stand_ends limited n bytes k in
-      let count = taken_ends limited bytes begin (state_of r bytes h) (behind_of r bytes h).at.leads in
+      let count = taken_ends limited bytes begin (state_of r bytes h) (after_of r bytes h).at.leads in
       unlooked r bytes [] h early n (stand_in limited n bytes (bytes ++ []) (sym (append-nil bytes)) k) (omega arith) past
       )
 ]
@@ -191,7 +191,7 @@ loading_nothing r read well early =
     }
 
 -- bytes that end no line bring no object, and bytes after the objects change none
-on_of : (p q : ProgramReader) (bytes part : List ℕ) (checked : Bool) → IsBehind p bytes → IsBehind q (bytes ++ part) → checked ≡ has_objects (place_of p).section → (checked ≡ true) ⊎ HasNoEnd part
+on_of : (p q : ProgramReader) (bytes part : List ℕ) (checked : Bool) → IsAfter p bytes → IsAfter q (bytes ++ part) → checked ≡ has_objects (place_of p).section → (checked ≡ true) ⊎ HasNoEnd part
     → (checked ≡ has_objects (place_of q).section) × (checked ≡ true → (place_of q).text.objects ≡ (place_of p).text.objects)
 on_of p q bytes part checked b c looked (inl is) =
     let past = bytes_past limited part b.at.state c.at.state (section_of p bytes b ∙ sym looked ∙ is) (taken_between bytes part b.at.state c.at.state b.at.leads c.at.leads) in
@@ -204,7 +204,7 @@ on_of p q bytes part checked b c looked (inr clean) =
 
 pub loading_on : (r u : WorldReader) (bytes part : List ℕ) → IsLoading r bytes → u.is_checked ≡ r.is_checked → HasRead u.programs (bytes ++ part) → IsWell u.programs → (r.is_checked ≡ true) ⊎ HasNoEnd part → IsLoading u (bytes ++ part)
 loading_on r u bytes part h same read well parts =
-    let on = on_of r.programs u.programs bytes part r.is_checked (behind_of r bytes h) (read_well u.programs (bytes ++ part) well read) h.looked parts in
+    let on = on_of r.programs u.programs bytes part r.is_checked (after_of r bytes h) (read_well u.programs (bytes ++ part) well read) h.looked parts in
     record {
       read = read;
       well = well;

@@ -27,7 +27,7 @@ use Rattle.moo_dbtext_read.specs.Says.{Programs, HasSource, HaveSources}
 use Rattle.moo_dbtext_read.specs.Faults.{IsProgramFault, IsOfLine, IsOfLimits}
 use Rattle.moo_dbtext_read.specs.Reading.{IsRefused, IsRead}
 use Rattle.moo_dbtext_read.specs.declared.database.Database.{Database}
-use Rattle.moo_dbtext_read.proofs.Behind.{some_source}
+use Rattle.moo_dbtext_read.proofs.After.{some_source}
 use Rattle.moo_dbtext_read.proofs.ProgramWhole.{is_read_only, is_read_within, is_placed, is_sized, is_told_large, is_told_past}
 use Rattle.moo_dbtext_restore.specs.Records.{Records}
 use Rattle.moo_dbtext_restore.specs.Faults.{IsWellPlaced, HasItsCells, IsHierarchyFault, IsCountFault}

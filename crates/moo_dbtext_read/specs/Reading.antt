@@ -21,7 +21,7 @@ use Rattle.moo_dbtext_read.specs.declared.database.Database.{Database}
 use Rattle.moo_dbtext_read.specs.declared.program_reader.ProgramReader.{ProgramReader}
 
 -- The bytes are taken, and each source among them that has its dot has its program. The sources may be dropped by then.
-pub record IsBehind (r : ProgramReader) (bytes : List ℕ) : Type 0 where
+pub record IsAfter (r : ProgramReader) (bytes : List ℕ) : Type 0 where
   pub going : IsGoing r.records
   pub at : IsAt r.records bytes
   pub parsed : AreParsedAs at.state.progress.text.programs (programs_of r.programs)
@@ -51,11 +51,11 @@ IsRefused bytes answer e = (e.kind ≡ kind.Memory) ⊎ IsRecordFault bytes answ
 
 -- What a reader has done with bytes, given the result: it is in this state, or has refused them.
 abbrev pub Reads : Result ⊤ DbFault → ProgramReader → List ℕ → Type 0
-Reads result r bytes = MatchResult result (λ _. IsBehind r bytes) (IsRefused bytes (taken_on limited begin bytes))
+Reads result r bytes = MatchResult result (λ _. IsAfter r bytes) (IsRefused bytes (taken_on limited begin bytes))
 
 -- From one state, more bytes lead to the result and to another state.
 abbrev pub ReadsOn : ProgramReader → List ℕ → Result ⊤ DbFault → ProgramReader → Type 0
-ReadsOn r more result s = (bytes : List ℕ) → IsBehind r bytes → Reads result s (bytes ++ more)
+ReadsOn r more result s = (bytes : List ℕ) → IsAfter r bytes → Reads result s (bytes ++ more)
 
 -- The reader has taken these bytes, in whatever pieces, or has refused them.
 abbrev pub HasRead : ProgramReader → List ℕ → Type 0

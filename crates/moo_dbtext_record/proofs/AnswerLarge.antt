@@ -50,23 +50,23 @@ abbrev next : Taken → Progress → Taken
 next s p = record { lines = s.lines + 1; progress = p; rest = [] }
 
 -- line n is one of those after a state in which a line ends, which without limits reads as q
-record StandBehind (n : ℕ) (s : Taken) (q : Result Progress LineFault) (bs : List ℕ) : Type 0 where
+record StandAfter (n : ℕ) (s : Taken) (q : Result Progress LineFault) (bs : List ℕ) : Type 0 where
   more : ℕ
   line : n ≡ s.lines + suc more
   state : Taken
   taken : and_then (and_then (told (s.lines + 1) q) (λ p. Ok (next s p))) (λ t. taken_on unlimited t (front_lines more bs)) ≡ Ok state
   lines : state.lines ≡ n
 
-taken_here : (n : ℕ) (s : Taken) (q : Result Progress LineFault) (bs : List ℕ) → IsTaken q → s.lines + 1 ≡ n → StandBehind n s q bs
+taken_here : (n : ℕ) (s : Taken) (q : Result Progress LineFault) (bs : List ℕ) → IsTaken q → s.lines + 1 ≡ n → StandAfter n s q bs
 unfolding taken_on
 taken_here n s (Ok p) bs h at = record { more = 0; line = omega arith; state = next s p; taken = refl; lines = at }
 taken_here n s (Err f) bs h at = absurd h
 
 following : (n : ℕ) (s : Taken) (r q : Result Progress LineFault) (bs : List ℕ) → Cut r q → Strict r q → ((t : Taken) → taken_on limited t bs ≡ err_taken (told_at n TooLarge) → Stand n t bs)
-    → and_then (and_then (told (s.lines + 1) r) (λ p. Ok (next s p))) (λ t. taken_on limited t bs) ≡ err_taken (told_at n TooLarge) → StandBehind n s q bs
+    → and_then (and_then (told (s.lines + 1) r) (λ p. Ok (next s p))) (λ t. taken_on limited t bs) ≡ err_taken (told_at n TooLarge) → StandAfter n s q bs
 following n s (Ok p) q bs (inl e) strict rest h =
     let t = rest (next s p) h in
-    subst (λ (x : Result Progress LineFault). StandBehind n s x bs) e (record { more = suc t.more; line = omega (arith, t.line); state = t.state; taken = t.taken; lines = t.lines })
+    subst (λ (x : Result Progress LineFault). StandAfter n s x bs) e (record { more = suc t.more; line = omega (arith, t.line); state = t.state; taken = t.taken; lines = t.lines })
 following n s (Ok p) q bs (inr e) strict rest h = absurd cc
 following n s (Err f) q bs cut strict rest h =
     let same = taken_told (told_at (s.lines + 1) f) (told_at n TooLarge) h in

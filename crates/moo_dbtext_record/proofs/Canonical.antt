@@ -17,22 +17,22 @@ abbrev pub emptied : Table → Table
 emptied table = map emptied_row table
 
 -- a verb after others
-open_behind_in : (front row : Row) → is_open_in (length front) (front ++ row) ≡ is_open_in 0 row
-open_behind_in [] row = refl
-open_behind_in (None ∷ front) row = open_behind_in front row
-open_behind_in (Some s ∷ front) row = open_behind_in front row
+open_after_in : (front row : Row) → is_open_in (length front) (front ++ row) ≡ is_open_in 0 row
+open_after_in [] row = refl
+open_after_in (None ∷ front) row = open_after_in front row
+open_after_in (Some s ∷ front) row = open_after_in front row
 
-put_behind_in : (front : Row) (s : List Line) (row : Row) → with_source_in (length front) s (front ++ row) ≡ front ++ with_source_in 0 s row
-put_behind_in [] s row = refl
-put_behind_in (p ∷ front) s row = ap (λ (r : Row). p ∷ r) (put_behind_in front s row)
+put_after_in : (front : Row) (s : List Line) (row : Row) → with_source_in (length front) s (front ++ row) ≡ front ++ with_source_in 0 s row
+put_after_in [] s row = refl
+put_after_in (p ∷ front) s row = ap (λ (r : Row). p ∷ r) (put_after_in front s row)
 
-open_behind : (front : Table) (v : ℕ) (table : Table) → is_open (length front) v (front ++ table) ≡ is_open 0 v table
-open_behind [] v table = refl
-open_behind (r ∷ front) v table = open_behind front v table
+open_after : (front : Table) (v : ℕ) (table : Table) → is_open (length front) v (front ++ table) ≡ is_open 0 v table
+open_after [] v table = refl
+open_after (r ∷ front) v table = open_after front v table
 
-put_behind : (front : Table) (v : ℕ) (s : List Line) (table : Table) → with_source (length front) v s (front ++ table) ≡ front ++ with_source 0 v s table
-put_behind [] v s table = refl
-put_behind (r ∷ front) v s table = ap (λ (t : Table). r ∷ t) (put_behind front v s table)
+put_after : (front : Table) (v : ℕ) (s : List Line) (table : Table) → with_source (length front) v s (front ++ table) ≡ front ++ with_source 0 v s table
+put_after [] v s table = refl
+put_after (r ∷ front) v s table = ap (λ (t : Table). r ∷ t) (put_after front v s table)
 
 -- one filling after another
 fills_then : (a b c : Table) (ps qs : List Program) → Fills a ps b → Fills b qs c → Fills a (ps ++ qs) c
@@ -53,11 +53,11 @@ row_fills front done (Some s ∷ row) back o v at_o at_v =
     let more = row_fills front (done ++ Some s ∷ []) row back o (v + 1) at_o (omega arith) in
     let rest = emptied_row row in
     let free : is_open o v (front ++ (done ++ None ∷ rest) ∷ back) ≡ true =
-    ap (λ (i : ℕ). is_open i v (front ++ (done ++ None ∷ rest) ∷ back)) at_o ∙ open_behind front v ((done ++ None ∷ rest) ∷ back)
-    ∙ ap (λ (j : ℕ). is_open_in j (done ++ None ∷ rest)) at_v ∙ open_behind_in done (None ∷ rest) in
+    ap (λ (i : ℕ). is_open i v (front ++ (done ++ None ∷ rest) ∷ back)) at_o ∙ open_after front v ((done ++ None ∷ rest) ∷ back)
+    ∙ ap (λ (j : ℕ). is_open_in j (done ++ None ∷ rest)) at_v ∙ open_after_in done (None ∷ rest) in
     let put : with_source o v s (front ++ (done ++ None ∷ rest) ∷ back) ≡ front ++ ((done ++ Some s ∷ []) ++ rest) ∷ back =
-    ap (λ (i : ℕ). with_source i v s (front ++ (done ++ None ∷ rest) ∷ back)) at_o ∙ put_behind front v s ((done ++ None ∷ rest) ∷ back)
-    ∙ ap (λ (j : ℕ). front ++ with_source_in j s (done ++ None ∷ rest) ∷ back) at_v ∙ ap (λ (r : Row). front ++ r ∷ back) (put_behind_in done s (None ∷ rest))
+    ap (λ (i : ℕ). with_source i v s (front ++ (done ++ None ∷ rest) ∷ back)) at_o ∙ put_after front v s ((done ++ None ∷ rest) ∷ back)
+    ∙ ap (λ (j : ℕ). front ++ with_source_in j s (done ++ None ∷ rest) ∷ back) at_v ∙ ap (λ (r : Row). front ++ r ∷ back) (put_after_in done s (None ∷ rest))
     ∙ ap (λ (r : Row). front ++ r ∷ back) (sym (append_assoc done (Some s ∷ []) rest)) in (
       free,
       subst (λ (t : Table). Fills t (row_programs o (v + 1) row) (front ++ (done ++ Some s ∷ row) ∷ back)) (sym put)

@@ -12,7 +12,7 @@ use Rattle.moo_dbtext_object.proofs.ObjectCut.{object_cut}
 use Rattle.moo_dbtext_object.proofs.ObjectStrict.{object_strict}
 use Rattle.moo_dbtext_record.specs.Programs.{Table, is_open}
 use Rattle.moo_dbtext_record.specs.Texts.{Link, header_front, live_line, recycled_line}
-use Rattle.moo_dbtext_record.specs.Headings.{told_as, parts_of, following, count_or, number_or, is_read, known_version, version_in, version_behind, version_of, head_of, verb_in, verb_behind, verb_named, open_verb, program_head_of, no_tasks, tasks_in, tasks_of, form_of, connections_in, connection_count_of, pair_in, connection_of}
+use Rattle.moo_dbtext_record.specs.Headings.{told_as, parts_of, following, count_or, number_or, is_read, known_version, version_in, version_after, version_of, head_of, verb_in, verb_after, verb_named, open_verb, program_head_of, no_tasks, tasks_in, tasks_of, form_of, connections_in, connection_count_of, pair_in, connection_of}
 use Rattle.moo_dbtext_record.specs.DumpReading.{Progress, after_players, after_connections, after_object_line, after_source, dump_step}
 use Rattle.moo_dbtext_record.specs.declared.dump.Form.{Form}
 use Rattle.moo_dbtext_record.specs.declared.dump.Form.TheVariants as form
@@ -49,7 +49,7 @@ no_connections e = cc
 
 version_never : (line : Line) → NeverLarge (version_of line)
 unfolding version_of
-version_never line = behind_never (following header_front line)
+version_never line = after_never (following header_front line)
   where
     known_never : (v : ℕ) → NeverLarge (known_version v)
     known_never v = chosen (is_read v) v (Version v) (λ e. cc)
@@ -62,9 +62,9 @@ version_never line = behind_never (following header_front line)
     in_never None = no_header
     in_never (Some p) = never_then (count_or BadHeader p.0) (λ v. cond (bytes_eq p.1 (codes "**")) (known_version v) (Err BadHeader)) (count_or_never BadHeader p.0 no_header) (λ v. ended_never v (bytes_eq p.1 (codes "**")))
 
-    behind_never : (o : Option Line) → NeverLarge (version_behind o)
-    behind_never None = no_header
-    behind_never (Some rest) = in_never (parts_of 32 rest)
+    after_never : (o : Option Line) → NeverLarge (version_after o)
+    after_never None = no_header
+    after_never (Some rest) = in_never (parts_of 32 rest)
 
 head_never : (n : ℕ) (line : Line) → NeverLarge (head_of n line)
 unfolding head_of
@@ -77,7 +77,7 @@ head_never n line = decide (bytes_eq line (live_line n)) (bytes_eq line (recycle
 
 program_head_never : (table : Table) (line : Line) → NeverLarge (program_head_of table line)
 unfolding program_head_of verb_named
-program_head_never table line = never_then (verb_behind (following (codes "#") line)) (open_verb table) (behind_never (following (codes "#") line)) (λ p. chosen (is_open p.0 p.1 table) p BadProgramLine no_program_line)
+program_head_never table line = never_then (verb_after (following (codes "#") line)) (open_verb table) (after_never (following (codes "#") line)) (λ p. chosen (is_open p.0 p.1 table) p BadProgramLine no_program_line)
   where
     in_never : (o : Option (Line × Line)) → NeverLarge (verb_in o)
     in_never None = no_program_line
@@ -85,9 +85,9 @@ program_head_never table line = never_then (verb_behind (following (codes "#") l
         never_then (count_or BadProgramLine p.0) (λ o. count_or BadProgramLine p.1 >>= λ v. Ok (o, v)) (count_or_never BadProgramLine p.0 no_program_line)
         (λ o. never_then (count_or BadProgramLine p.1) (λ v. Ok (o, v)) (count_or_never BadProgramLine p.1 no_program_line) (λ v. tt))
 
-    behind_never : (o : Option Line) → NeverLarge (verb_behind o)
-    behind_never None = no_program_line
-    behind_never (Some rest) = in_never (parts_of 58 rest)
+    after_never : (o : Option Line) → NeverLarge (verb_after o)
+    after_never None = no_program_line
+    after_never (Some rest) = in_never (parts_of 58 rest)
 
 tasks_never : (words line : Line) → NeverLarge (tasks_of words line)
 unfolding tasks_of

@@ -20,10 +20,10 @@ use Rattle.moo_dbtext_object.proofs.TextLaws.{number_again, count_again, count_f
 use Rattle.moo_dbtext_object.proofs.ValueSmall.{within_is}
 use Rattle.moo_dbtext_record.specs.Programs.{Table, is_open, program_line}
 use Rattle.moo_dbtext_record.specs.Texts.{Link, header_front, header_line, live_line, recycled_line, link_line, connections_line, IsLink, IsVersion}
-use Rattle.moo_dbtext_record.specs.Headings.{before, parts_of, following, told_as, count_or, number_or, is_read, known_version, version_in, version_behind, version_of, head_of, verb_in, verb_behind, verb_named, open_verb, program_head_of, no_tasks, tasks_in, tasks_of, form_of, connections_in, connection_count_of, pair_in, connection_of}
+use Rattle.moo_dbtext_record.specs.Headings.{before, parts_of, following, told_as, count_or, number_or, is_read, known_version, version_in, version_after, version_of, head_of, verb_in, verb_after, verb_named, open_verb, program_head_of, no_tasks, tasks_in, tasks_of, form_of, connections_in, connection_count_of, pair_in, connection_of}
 use Rattle.moo_dbtext_record.specs.declared.dump.Form.{Form}
 use Rattle.moo_dbtext_record.specs.declared.dump.Form.TheVariants as form
-use Rattle.moo_dbtext_record.proofs.HeadingLaws.{skip, stop, behind_again, behind_found}
+use Rattle.moo_dbtext_record.proofs.HeadingLaws.{skip, stop, after_again, after_found}
 
 eq_self : (line : Line) → bytes_eq line line ≡ true
 eq_self line = (bytes_eq-Decides line line).1 refl
@@ -146,7 +146,7 @@ guarded false r d x e = absurd cc
 pub version_again : (v : ℕ) → IsVersion v → version_of (header_line v) ≡ Ok v
 unfolding version_of
 version_again v h =
-    let front : following header_front (header_line v) ≡ Some (count_line v ++ codes " **") = behind_again header_front (count_line v ++ codes " **") in
+    let front : following header_front (header_line v) ≡ Some (count_line v ++ codes " **") = after_again header_front (count_line v ++ codes " **") in
     let parts : parts_of 32 (count_line v ++ codes " **") ≡ Some (count_line v, codes "**") = parts_again 32 (count_line v) (codes "**") (number_apart 32 blank_apart (pos v) (count_fits v (omega (arith, h.high)))) in
     rw (front, parts, count_or_again BadHeader v (omega (arith, h.high)), le-leb 1 v h.low, le-leb v 4 h.high) refl
 
@@ -166,16 +166,16 @@ version_found line v e = from (following header_front line) refl e
           split ∙ ap (λ (r : Line). header_front ++ r) (parts_found 32 rest p is ∙ ap (λ (ds : Line). ds ++ 32 ∷ p.1) n.1 ∙ ap (λ (ws : Line). count_line b.0 ++ 32 ∷ ws) (eq_is p.1 _ g.0)) ∙ ap header_line k.1,
         )
 
-    from : (o : Option Line) → following header_front line ≡ o → version_behind o ≡ Ok v → IsVersion v × (line ≡ header_line v)
+    from : (o : Option Line) → following header_front line ≡ o → version_after o ≡ Ok v → IsVersion v × (line ≡ header_line v)
     from None is f = absurd cc
-    from (Some rest) is f = within_line rest (behind_found header_front line rest is) (parts_of 32 rest) refl f
+    from (Some rest) is f = within_line rest (after_found header_front line rest is) (parts_of 32 rest) refl f
 
 -- ---- the line of a program
 
 pub verb_again : (o v : ℕ) → o < 2 ^ 31 → v < 2 ^ 31 → verb_named (program_line o v) ≡ Ok (o, v)
 unfolding verb_named
 verb_again o v ho hv =
-    let front : following (codes "#") (program_line o v) ≡ Some (count_line o ++ 58 ∷ count_line v) = behind_again (codes "#") (count_line o ++ 58 ∷ count_line v) in
+    let front : following (codes "#") (program_line o v) ≡ Some (count_line o ++ 58 ∷ count_line v) = after_again (codes "#") (count_line o ++ 58 ∷ count_line v) in
     let parts : parts_of 58 (count_line o ++ 58 ∷ count_line v) ≡ Some (count_line o, count_line v) = parts_again 58 (count_line o) (count_line v) (number_apart 58 colon_apart (pos o) (count_fits o ho)) in
     rw (front, parts, count_or_again BadProgramLine o ho, count_or_again BadProgramLine v hv) refl
 
@@ -200,9 +200,9 @@ verb_found line p e = from (following (codes "#") line) refl e
         subst (λ (x : ℕ × ℕ). (x.0 < 2 ^ 31) × (x.1 < 2 ^ 31) × (line ≡ program_line x.0 x.1)) (ok_is (b.0, c.0) p c.2)
         (m.0, n.0, split ∙ ap (λ (r : Line). codes "#" ++ r) (parts_found 58 rest q is ∙ ap (λ (ds : Line). ds ++ 58 ∷ q.1) m.1 ∙ ap (λ (ds : Line). count_line b.0 ++ 58 ∷ ds) n.1))
 
-    from : (o : Option Line) → following (codes "#") line ≡ o → verb_behind o ≡ Ok p → (p.0 < 2 ^ 31) × (p.1 < 2 ^ 31) × (line ≡ program_line p.0 p.1)
+    from : (o : Option Line) → following (codes "#") line ≡ o → verb_after o ≡ Ok p → (p.0 < 2 ^ 31) × (p.1 < 2 ^ 31) × (line ≡ program_line p.0 p.1)
     from None is f = absurd cc
-    from (Some rest) is f = within_line rest (behind_found (codes "#") line rest is) (parts_of 58 rest) refl f
+    from (Some rest) is f = within_line rest (after_found (codes "#") line rest is) (parts_of 58 rest) refl f
 
 pub program_head_found : (table : Table) (line : Line) (p : ℕ × ℕ) → program_head_of table line ≡ Ok p → IsHead table line p
 unfolding program_head_of

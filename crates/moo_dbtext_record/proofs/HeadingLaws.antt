@@ -73,13 +73,13 @@ joined_none line front back r h e =
 eq_self : (line : Line) → bytes_eq line line ≡ true
 eq_self line = (bytes_eq-Decides line line).1 refl
 
-pub behind_again : (front x : Line) → rest_after front (front ++ x) ≡ Some x
+pub after_again : (front x : Line) → rest_after front (front ++ x) ≡ Some x
 unfolding rest_after
-behind_again front x = rw (take-append_seam front x, drop-append_seam front x, eq_self front) refl
+after_again front x = rw (take-append_seam front x, drop-append_seam front x, eq_self front) refl
 
-pub behind_found : (front line x : Line) → rest_after front line ≡ Some x → line ≡ front ++ x
+pub after_found : (front line x : Line) → rest_after front line ≡ Some x → line ≡ front ++ x
 unfolding rest_after
-behind_found front line x e = decide (bytes_eq (take (length front) line) front) refl e
+after_found front line x e = decide (bytes_eq (take (length front) line) front) refl e
   where
     decide : (b : Bool) → bytes_eq (take (length front) line) front ≡ b → cond b (Some (drop (length front) line)) None ≡ Some x → line ≡ front ++ x
     decide true is f =
@@ -87,9 +87,9 @@ behind_found front line x e = decide (bytes_eq (take (length front) line) front)
         sym (take-append-drop (length front) line) ∙ ap (λ (l : Line). l ++ drop (length front) line) ((bytes_eq-Decides (take (length front) line) front).0 is) ∙ ap (λ (l : Line). front ++ l) rest
     decide false is f = absurd cc
 
-behind_none : (front line : Line) → ((rest : Line) → line ≢ front ++ rest) → rest_after front line ≡ None
+after_none : (front line : Line) → ((rest : Line) → line ≢ front ++ rest) → rest_after front line ≡ None
 unfolding rest_after
-behind_none front line h = decide (bytes_eq (take (length front) line) front) refl
+after_none front line h = decide (bytes_eq (take (length front) line) front) refl
   where
     decide : (b : Bool) → bytes_eq (take (length front) line) front ≡ b → cond b (Some (drop (length front) line)) None ≡ None
     decide true is = absurd (h (drop (length front) line) (sym (take-append-drop (length front) line) ∙ ap (λ (l : Line). l ++ drop (length front) line) ((bytes_eq-Decides (take (length front) line) front).0 is)))
@@ -97,7 +97,7 @@ behind_none front line h = decide (bytes_eq (take (length front) line) front) re
 
 pub stripped : (front line : Line) (r : Option (Bor (List ℕ))) → MatchOption r (pointwise eqb (take (length front) line) front ≡ false) (λ y. (pointwise eqb (take (length front) line) front ≡ true) × (y.now ≡ drop (length front) line) × (length y.now + length front ≡ length line))
     → option_map (λ y. y.now) r ≡ rest_after front line
-stripped front line None h = sym (behind_none front line (strip_prefix_is Decides-eqb line front None h))
+stripped front line None h = sym (after_none front line (strip_prefix_is Decides-eqb line front None h))
 stripped front line (Some y) h =
     let split : line ≡ front ++ y.now = strip_prefix_is Decides-eqb line front (Some y) h in
-    sym (ap (rest_after front) split ∙ behind_again front y.now)
+    sym (ap (rest_after front) split ∙ after_again front y.now)

@@ -128,8 +128,8 @@ one_set_of_objects z m n bytes h k past other = elim (cases_lt m n) [
 abbrev front_of : Text → Slack → ℕ → List Line
 front_of t k m = lines_to_objects t.version m k.unused k.notes t.players t.objects
 
-programmed_behind : (t : Text) (k : Slack) (m : ℕ) (more : List Line) → programmed t k m more ≡ front_of t k m ++ (flat_map program_lines k.programs ++ more)
-programmed_behind t k m more =
+programmed_after : (t : Text) (k : Slack) (m : ℕ) (more : List Line) → programmed t k m more ≡ front_of t k m ++ (flat_map program_lines k.programs ++ more)
+programmed_after t k m more =
     ap (λ (ls : List Line). header_line t.version ∷ count_line (length t.objects) ∷ count_line m ∷ signed_decimal k.unused ∷ count_line (length t.players) ∷ ls)
     (sym (append_assoc (map signed_decimal t.players) (objects_lines 0 t.objects k.notes) (flat_map program_lines k.programs ++ more)))
 
@@ -142,14 +142,14 @@ fronted section.PlayerCount p k past = absurd cc
 fronted section.Player p k past = absurd cc
 fronted section.Head p k past = absurd cc
 fronted section.Object p k past = absurd cc
-fronted section.ProgramHead p k past = (length k.programs + suc p.programs_left, _, programmed_behind p.text k (length k.programs + suc p.programs_left) [])
-fronted section.Source p k past = (length k.programs + suc p.programs_left, _, programmed_behind p.text k (length k.programs + suc p.programs_left) (program_line p.object p.verb ∷ p.source))
-fronted section.Clocks p k past = (length k.programs, _, programmed_behind p.text k (length k.programs) [])
-fronted section.Queued p k past = (length k.programs, _, programmed_behind p.text k (length k.programs) (codes "0 clocks" ∷ []))
-fronted section.Suspended p k past = (length k.programs, _, programmed_behind p.text k (length k.programs) (codes "0 clocks" ∷ codes "0 queued tasks" ∷ []))
-fronted section.ConnectionCount p k past = (length k.programs, _, programmed_behind p.text k (length k.programs) (tasks_lines []))
-fronted section.Connection p k past = (length k.programs, _, programmed_behind p.text k (length k.programs) (tasks_lines (connections_line p.text.form (length p.text.links + suc p.left) ∷ map link_line p.text.links)))
-fronted section.End p k past = (length k.programs, _, programmed_behind p.text k (length k.programs) (tasks_lines (connections_lines p.text.form p.text.links)))
+fronted section.ProgramHead p k past = (length k.programs + suc p.programs_left, _, programmed_after p.text k (length k.programs + suc p.programs_left) [])
+fronted section.Source p k past = (length k.programs + suc p.programs_left, _, programmed_after p.text k (length k.programs + suc p.programs_left) (program_line p.object p.verb ∷ p.source))
+fronted section.Clocks p k past = (length k.programs, _, programmed_after p.text k (length k.programs) [])
+fronted section.Queued p k past = (length k.programs, _, programmed_after p.text k (length k.programs) (codes "0 clocks" ∷ []))
+fronted section.Suspended p k past = (length k.programs, _, programmed_after p.text k (length k.programs) (codes "0 clocks" ∷ codes "0 queued tasks" ∷ []))
+fronted section.ConnectionCount p k past = (length k.programs, _, programmed_after p.text k (length k.programs) (tasks_lines []))
+fronted section.Connection p k past = (length k.programs, _, programmed_after p.text k (length k.programs) (tasks_lines (connections_line p.text.form (length p.text.links + suc p.left) ∷ map link_line p.text.links)))
+fronted section.End p k past = (length k.programs, _, programmed_after p.text k (length k.programs) (tasks_lines (connections_lines p.text.form p.text.links)))
 
 -- after its last object the bytes of a text begin with all of them
 pub objects_begin : (bytes : List ℕ) (s : Taken) → taken_on limited begin bytes ≡ Ok s → has_objects s.progress.section ≡ true → BeginsWithObjects bytes s.progress.text.players s.progress.text.objects

@@ -73,10 +73,10 @@ fault_ends z (b ∷ bs) s d h = decide (eqb b 10) (λ u f. fault_ends z bs u d f
 
 -- ---- the bytes of the first lines
 
-pub behind_front : (n : ℕ) (bytes : List ℕ) → (after : List ℕ) × (bytes ≡ front_lines n bytes ++ after)
-behind_front zero bytes = (bytes, refl)
-behind_front (suc n) [] = ([], refl)
-behind_front (suc n) (b ∷ bs) = decide (eqb b 10) (behind_front n bs) (behind_front (suc n) bs)
+pub after_front : (n : ℕ) (bytes : List ℕ) → (after : List ℕ) × (bytes ≡ front_lines n bytes ++ after)
+after_front zero bytes = (bytes, refl)
+after_front (suc n) [] = ([], refl)
+after_front (suc n) (b ∷ bs) = decide (eqb b 10) (after_front n bs) (after_front (suc n) bs)
   where
     decide : (is : Bool) → (after : List ℕ) × (bs ≡ front_lines n bs ++ after) → (after : List ℕ) × (bs ≡ front_lines (suc n) bs ++ after)
         → (after : List ℕ) × (b ∷ bs ≡ b ∷ (cond is (front_lines n bs) (front_lines (suc n) bs) ++ after))
@@ -111,7 +111,7 @@ pub stand_ends : (z : Sizes) (n : ℕ) (bytes : List ℕ) → Stand z n bytes �
 stand_ends z n bytes h =
     let count = taken_ends z (front_lines n bytes) begin h.state h.taken in
     let lines = h.lines in
-    let a = behind_front n bytes in
+    let a = after_front n bytes in
     let whole : ends bytes ≡ ends (front_lines n bytes) + ends a.0 = ap ends a.1 ∙ ends_append (front_lines n bytes) a.0 in
     omega arith
 
@@ -153,7 +153,7 @@ record IsCutAt (z : Sizes) (s : Taken) (bs : List ℕ) (t : Taken) : Type 0 wher
   progress : state.progress ≡ t.progress
 
 -- the state after the lines that have ended, if the next byte ends a line or doesn't
-record IsCutBehind (z : Sizes) (s : Taken) (b : ℕ) (bs : List ℕ) (t : Taken) (is : Bool) : Type 0 where
+record IsCutAfter (z : Sizes) (s : Taken) (b : ℕ) (bs : List ℕ) (t : Taken) (is : Bool) : Type 0 where
   state : Taken
   taken : cond is (and_then (line_ended z s s.rest) (λ u. taken_on z u bs)) (taken_on z (record s { rest = s.rest ++ b ∷ [] }) bs) ≡ Ok state
   lines : state.lines ≡ t.lines
@@ -168,7 +168,7 @@ cut_at z (b ∷ bs) s t (suc k) h e =
     record { state = c.state; taken = c.taken; lines = c.lines; progress = c.progress }
   where
     decide : (is : Bool) → ((u : Taken) (j : ℕ) → taken_on z u bs ≡ Ok t → t.lines ≡ u.lines + j → IsCutAt z u (front_lines j bs) t)
-        → cond is (and_then (line_ended z s s.rest) (λ u. taken_on z u bs)) (taken_on z (record s { rest = s.rest ++ b ∷ [] }) bs) ≡ Ok t → IsCutBehind z s b (cond is (front_lines k bs) (front_lines (suc k) bs)) t is
+        → cond is (and_then (line_ended z s s.rest) (λ u. taken_on z u bs)) (taken_on z (record s { rest = s.rest ++ b ∷ [] }) bs) ≡ Ok t → IsCutAfter z s b (cond is (front_lines k bs) (front_lines (suc k) bs)) t is
     decide true rest f =
         let c = then_ok (line_ended z s s.rest) (λ u. taken_on z u bs) t f in
         let one = ended_lines z s c.0 s.rest c.1 in
@@ -210,20 +210,20 @@ finished_line s d h = at s.rest h
     at [] e = told_line (s.lines + 1) (ended s.progress) d e
     at (x ∷ rest) e = sym (ap (λ (r : Result Text Told). elim r [ Ok t ↦ 0 | Err x ↦ x.line ]) e)
 
-pub stopped_behind : (z : Sizes) (n : ℕ) (bytes : List ℕ) (d : Told) → taken_on z begin bytes ≡ Err d → Stand z n bytes → n < d.line
-stopped_behind z n bytes d stopped h =
-    let a = behind_front n bytes in
+pub stopped_after : (z : Sizes) (n : ℕ) (bytes : List ℕ) (d : Told) → taken_on z begin bytes ≡ Err d → Stand z n bytes → n < d.line
+stopped_after z n bytes d stopped h =
+    let a = after_front n bytes in
     let front = front_lines n bytes in
     let on : taken_on z h.state a.0 ≡ Err d = sym (taken_on-append z begin front a.0 ∙ ap (λ (r : Result Taken Told). and_then r (λ t. taken_on z t a.0)) h.taken) ∙ ap (taken_on z begin) (sym a.1) ∙ stopped in
     let past = fault_line z a.0 h.state d on in
     let lines = h.lines in
     omega arith
 
-pub told_behind : (z : Sizes) (n : ℕ) (bytes : List ℕ) (d : Told) → answer_to z bytes ≡ Err d → Stand z n bytes → n < d.line
+pub told_after : (z : Sizes) (n : ℕ) (bytes : List ℕ) (d : Told) → answer_to z bytes ≡ Err d → Stand z n bytes → n < d.line
 unfolding answer_to
-told_behind z n bytes d answer h =
+told_after z n bytes d answer h =
     elim (then_err (taken_on z begin bytes) finished d answer) [
-      | inl stopped ↦ stopped_behind z n bytes d stopped h
+      | inl stopped ↦ stopped_after z n bytes d stopped h
       | inr p ↦
           let count = taken_ends z bytes begin p.0 p.1 in
           let line = finished_line p.0 d p.2 in
@@ -235,7 +235,7 @@ told_behind z n bytes d answer h =
 
 pub stand_between : (z : Sizes) (m n : ℕ) (bytes : List ℕ) (h : Stand z m bytes) (k : Stand z n bytes) → m ≤ n → (more : List ℕ) × (taken_on z h.state more ≡ Ok k.state)
 stand_between z m n bytes h k le =
-    let a = behind_front m (front_lines n bytes) in
+    let a = after_front m (front_lines n bytes) in
     let split : front_lines n bytes ≡ front_lines m bytes ++ a.0 = a.1 ∙ ap (λ (b : List ℕ). b ++ a.0) (front_of_front m n bytes le) in
     (a.0, sym (taken_on-append z begin (front_lines m bytes) a.0 ∙ ap (λ (r : Result Taken Told). and_then r (λ t. taken_on z t a.0)) h.taken) ∙ ap (taken_on z begin) (sym split) ∙ k.taken)
 

@@ -44,12 +44,12 @@ abbrev pub version_in : Option (Line × Line) → Result ℕ LineFault
 version_in None = Err BadHeader
 version_in (Some p) = count_or BadHeader p.0 >>= λ v. if bytes_eq p.1 (codes "**") then known_version v else Err BadHeader
 
-abbrev pub version_behind : Option Line → Result ℕ LineFault
-version_behind None = Err BadHeader
-version_behind (Some rest) = version_in (parts_of 32 rest)
+abbrev pub version_after : Option Line → Result ℕ LineFault
+version_after None = Err BadHeader
+version_after (Some rest) = version_in (parts_of 32 rest)
 
 unfoldable pub version_of : Line → Result ℕ LineFault
-version_of line = version_behind (following header_front line)
+version_of line = version_after (following header_front line)
 
 -- ---- objects and programs
 
@@ -62,12 +62,12 @@ abbrev pub verb_in : Option (Line × Line) → Result (ℕ × ℕ) LineFault
 verb_in None = Err BadProgramLine
 verb_in (Some p) = count_or BadProgramLine p.0 >>= λ o. count_or BadProgramLine p.1 >>= λ v. Ok (o, v)
 
-abbrev pub verb_behind : Option Line → Result (ℕ × ℕ) LineFault
-verb_behind None = Err BadProgramLine
-verb_behind (Some rest) = verb_in (parts_of 58 rest)
+abbrev pub verb_after : Option Line → Result (ℕ × ℕ) LineFault
+verb_after None = Err BadProgramLine
+verb_after (Some rest) = verb_in (parts_of 58 rest)
 
 unfoldable pub verb_named : Line → Result (ℕ × ℕ) LineFault
-verb_named line = verb_behind (following (codes "#") line)
+verb_named line = verb_after (following (codes "#") line)
 
 abbrev pub open_verb : Table → ℕ × ℕ → Result (ℕ × ℕ) LineFault
 open_verb table p = if is_open p.0 p.1 table then Ok p else Err BadProgramLine

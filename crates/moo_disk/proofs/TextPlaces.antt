@@ -85,8 +85,8 @@ texts_len base later first = ap suc (length-map (drop first later) (λ (v : Vec 
 -- the text at an index past the first
 pub text_at : (base : List ℕ) (later : List (Vec ℕ Global)) (first place : ℕ) (d : Vec ℕ Global) → (place ≡ 0 → ⊥)
     → place < length (texts_from base later first) → slice_get (texts_from base later first) place ≡ Some (get_or later (first + place - 1) d).items
-text_at base later first zero d behind lt = absurd (behind refl)
-text_at base later first (suc k) d behind lt =
+text_at base later first zero d after lt = absurd (after refl)
+text_at base later first (suc k) d after lt =
     let within : first + k < length later = omega (arith, lt, texts_len base later first) in
     let same : first + k ≡ first + suc k - 1 = omega arith in
     later_at base later first k d within ∙ ap (λ (j : ℕ). Some (get_or later j d).items) same

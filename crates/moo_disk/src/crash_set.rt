@@ -57,7 +57,7 @@ impl CrashSet {
     }
 
     // Returns the texts after the first one.
-    fn behind_first(&self) -> &[Vec<u8>]
+    fn after_first(&self) -> &[Vec<u8>]
         ensures { result.now ≡ drop self.now.first self.now.later.items }
     {
         &self.later[self.first..]
@@ -72,7 +72,7 @@ impl CrashSet {
         if self.base.as_slice() == text {
             return Some(0);
         }
-        for (i, one) in self.behind_first().iter().enumerate() {
+        for (i, one) in self.after_first().iter().enumerate() {
             if one.as_slice() == text {
                 return Some(i + 1);
             }

@@ -45,19 +45,19 @@ ends_at_list fault from at spliced ss i s own elements last vs h is values list 
     ends_as fault (from vs) (spliced (trees elements ++ rest)) (ap from (sym all) ∙ stands last ∙ ap at (split ss i s last h is ∙ ap (λ x. trees x ++ (s.list ++ rest)) (sym values)) ∙ past (s.list ++ rest) ∙ ap (λ x. spliced (x ++ rest)) (sym list)) (ends rest)
 
 -- past the last stretch the values after it are left
-left : (from at : Giving) (ss : List Stretch) (i : ℕ) (behind last : List Value) (vs : List Tree) → length ss ≤ i → behind ≡ last → in_a_row ss ++ trees last ≡ vs → StandsAt from ss i at → from vs ≡ at (trees behind ++ [])
-left from at ss i behind last vs h same all stands =
-    ap from (sym all) ∙ stands (trees last) ∙ ap (λ x. at (in_a_row x ++ trees last)) (drop_all i ss h) ∙ ap at (ap trees (sym same) ∙ sym (append-nil (trees behind)))
+left : (from at : Giving) (ss : List Stretch) (i : ℕ) (after last : List Value) (vs : List Tree) → length ss ≤ i → after ≡ last → in_a_row ss ++ trees last ≡ vs → StandsAt from ss i at → from vs ≡ at (trees after ++ [])
+left from at ss i after last vs h same all stands =
+    ap from (sym all) ∙ stands (trees last) ∙ ap (λ x. at (in_a_row x ++ trees last)) (drop_all i ss h) ∙ ap at (ap trees (sym same) ∙ sym (append-nil (trees after)))
 
-pub finished : (from at to : Giving) (ss : List Stretch) (i : ℕ) (behind last : List Value) (vs : List Tree) → length ss ≤ i → behind ≡ last → in_a_row ss ++ trees last ≡ vs → StandsAt from ss i at → GoesOn at (trees behind) to → from vs ≡ to []
-finished from at to ss i behind last vs h same all stands past = left from at ss i behind last vs h same all stands ∙ past []
+pub finished : (from at to : Giving) (ss : List Stretch) (i : ℕ) (after last : List Value) (vs : List Tree) → length ss ≤ i → after ≡ last → in_a_row ss ++ trees last ≡ vs → StandsAt from ss i at → GoesOn at (trees after) to → from vs ≡ to []
+finished from at to ss i after last vs h same all stands past = left from at ss i after last vs h same all stands ∙ past []
 
-pub ends_at_last : (fault : OperationFault) (from at : Giving) (ss : List Stretch) (i : ℕ) (behind last : List Value) (vs : List Tree) → length ss ≤ i → behind ≡ last → in_a_row ss ++ trees last ≡ vs → StandsAt from ss i at → Ends fault at (trees behind) → Gives (Err fault) (from vs)
-ends_at_last fault from at ss i behind last vs h same all stands ends = ends_as fault (from vs) (at (trees behind ++ [])) (left from at ss i behind last vs h same all stands) (ends [])
+pub ends_at_last : (fault : OperationFault) (from at : Giving) (ss : List Stretch) (i : ℕ) (after last : List Value) (vs : List Tree) → length ss ≤ i → after ≡ last → in_a_row ss ++ trees last ≡ vs → StandsAt from ss i at → Ends fault at (trees after) → Gives (Err fault) (from vs)
+ends_at_last fault from at ss i after last vs h same all stands ends = ends_as fault (from vs) (at (trees after ++ [])) (left from at ss i after last vs h same all stands) (ends [])
 
 -- if there is no stretch
-pub alone : (from : Giving) (ss : List Stretch) (behind last : List Value) (vs : List Tree) → ss ≡ [] → behind ≡ last → in_a_row ss ++ trees last ≡ vs → from (trees behind) ≡ from vs
-alone from ss behind last vs none same all = ap from (ap trees same ∙ ap (λ x. in_a_row x ++ trees last) (sym none) ∙ all)
+pub alone : (from : Giving) (ss : List Stretch) (after last : List Value) (vs : List Tree) → ss ≡ [] → after ≡ last → in_a_row ss ++ trees last ≡ vs → from (trees after) ≡ from vs
+alone from ss after last vs none same all = ap from (ap trees same ∙ ap (λ x. in_a_row x ++ trees last) (sym none) ∙ all)
 
 -- the stretches as a slice sees them
 pub viewed : (seen ss : List Stretch) (last vs : List Tree) → seen ≡ ss → in_a_row ss ++ last ≡ vs → in_a_row seen ++ last ≡ vs

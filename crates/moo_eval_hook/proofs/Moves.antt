@@ -9,7 +9,7 @@ use Rattle.moo_world.specs.Rights.{may_own}
 use Rattle.moo_eval_hook.specs.declared.progress.Stage.TheVariants.{Accepting, Leaving, Entering}
 use Rattle.moo_eval_hook.specs.Progressing.{Calling, Progress, gives, refuses, after_raise}
 use Rattle.moo_eval_hook.specs.Objects.{is_place, location}
-use Rattle.moo_eval_hook.specs.Moving.{move_calls, is_to_move, moved, moving, may_enter, accepted, has_come, left_behind}
+use Rattle.moo_eval_hook.specs.Moving.{move_calls, is_to_move, moved, moving, may_enter, accepted, has_come, after_leaving}
 
 module _ (k : Calling) (w : World) (what to : ℤ) where
   pub stays : is_to_move w what to ≡ false → moved k w what to ≡ (gives (integer (pos 0)), w)
@@ -46,10 +46,10 @@ module _ (k : Calling) (w : World) (what to : ℤ) where
   unfolding accepted
   enters answer p h q = rw h q
 
-  pub gone : has_come w what to ≡ false → left_behind k w what to ≡ (gives (integer (pos 0)), w)
-  unfolding left_behind
+  pub gone : has_come w what to ≡ false → after_leaving k w what to ≡ (gives (integer (pos 0)), w)
+  unfolding after_leaving
   gone h = rw h refl
 
-  pub comes : (p : Progress × World) → has_come w what to ≡ true → move_calls k w to (codes "enterfunc") what Entering ≡ p → left_behind k w what to ≡ p
-  unfolding left_behind
+  pub comes : (p : Progress × World) → has_come w what to ≡ true → move_calls k w to (codes "enterfunc") what Entering ≡ p → after_leaving k w what to ≡ p
+  unfolding after_leaving
   comes p h q = rw h q

@@ -17,7 +17,7 @@ use Rattle.moo_eval_hook.specs.declared.progress.Stage.{Stage}
 use Rattle.moo_eval_hook.specs.declared.progress.Stage.TheVariants as stage
 use Rattle.moo_eval_hook.specs.declared.progress.Progress as code_progress
 use Rattle.moo_eval_hook.specs.Progressing.{Calling, Progress, stage_next, refuses, after_raise, hooked, hook}
-use Rattle.moo_eval_hook.specs.Moving.{is_to_move, moved, may_enter, accepted, has_come, left_behind}
+use Rattle.moo_eval_hook.specs.Moving.{is_to_move, moved, may_enter, accepted, has_come, after_leaving}
 use Rattle.moo_eval_hook.specs.Recycling.{recycle_calls, taken_away, moved_out, emptied}
 use Rattle.moo_eval_hook.specs.Stages.{next_progress}
 use Rattle.moo_eval_hook.specs.Turns.{count_inside, stage_turns, progress_turns}
@@ -56,8 +56,8 @@ accepted_turns : (k : Calling) (w : World) (what to : ℤ) (answer : Bool) → I
 unfolding accepted
 accepted_turns k w what to answer = either (IsBelow 2) (may_enter w k.programmer answer) _ _ (moved_turns k w what to) (omega arith)
 
-left_turns : (k : Calling) (w : World) (what to : ℤ) → IsBelow 1 (left_behind k w what to)
-unfolding left_behind
+left_turns : (k : Calling) (w : World) (what to : ℤ) → IsBelow 1 (after_leaving k w what to)
+unfolding after_leaving
 left_turns k w what to = either (IsBelow 1) (has_come w what to) _ _ (hook_turns k w _ _ _ _ stage.Entering) (omega arith)
 
 taken_turns : (n : ℕ) (w : World) (o : ℤ) → IsBelow (suc n) (taken_away w o)

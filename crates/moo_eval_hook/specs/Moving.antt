@@ -50,5 +50,5 @@ abbrev pub has_come : World → ℤ → ℤ → Bool
 has_come w what to = is_valid w what && is_valid w to && int_eq (location w what) to
 
 -- after the `exitfunc` of the old place: the `enterfunc` of the new one is called, if the object is still there
-unfoldable pub left_behind : Calling → World → ℤ → ℤ → Progress × World
-left_behind k w what to = if has_come w what to then move_calls k w to (codes "enterfunc") what Entering else (gives (integer (pos 0)), w)
+unfoldable pub after_leaving : Calling → World → ℤ → ℤ → Progress × World
+after_leaving k w what to = if has_come w what to then move_calls k w to (codes "enterfunc") what Entering else (gives (integer (pos 0)), w)

@@ -13,7 +13,7 @@ use Rattle.moo_eval_hook.specs.declared.progress.Stage.TheVariants as stage
 use Rattle.moo_eval_hook.specs.Progressing.{Calling, calling, Progress, done, gives}
 use Rattle.moo_eval_hook.specs.Objects.{first_inside}
 use Rattle.moo_eval_hook.specs.Evaluating.{has_given}
-use Rattle.moo_eval_hook.specs.Moving.{accepted, left_behind}
+use Rattle.moo_eval_hook.specs.Moving.{accepted, after_leaving}
 use Rattle.moo_eval_hook.specs.Recycling.{emptied}
 
 -- by what the verb has answered
@@ -21,7 +21,7 @@ abbrev pub next_progress : Calling → World → Stage → Tree → Progress × 
 next_progress k w stage.Passed v = (gives v, w)
 next_progress k w (stage.Created o) v = (gives (object o), w)
 next_progress k w (stage.Accepting what to) v = accepted k w what to (is_true v)
-next_progress k w (stage.Leaving what to) v = left_behind k w what to
+next_progress k w (stage.Leaving what to) v = after_leaving k w what to
 next_progress k w stage.Entering v = (gives (integer (pos 0)), w)
 next_progress k w (stage.Emptying o) v = emptied k w o (first_inside w o)
 next_progress k w (stage.Recycled o) v = (gives (integer (pos 0)), w)

@@ -3,7 +3,7 @@
 //! stay.
 ghost use Rattle.std.specs.Prelude.{◌≡◌};
 ghost use Rattle.moo_eval_frame.specs.Seen.{IsKnownFailure};
-ghost use Rattle.moo_eval_hook.specs.Moving.{move_calls, is_to_move, moved, moving, may_enter, accepted, has_come, left_behind};
+ghost use Rattle.moo_eval_hook.specs.Moving.{move_calls, is_to_move, moved, moving, may_enter, accepted, has_come, after_leaving};
 ghost use Rattle.moo_eval_hook.specs.SeenByHooks.{calling_of, seen_progress};
 
 use crate::hook::hook;
@@ -102,7 +102,7 @@ pub(crate) fn leave<'a>(
     what: i32,
     to: i32,
 ) -> Result<Progress<'a>, Failure>
-    ensures { IsKnownFailure result → left_behind (calling_of stack.now active.now) world.now what to ≡ (seen_progress result, world.now) }
+    ensures { IsKnownFailure result → after_leaving (calling_of stack.now active.now) world.now what to ≡ (seen_progress result, world.now) }
 {
     if !has_come(world, what, to) {
         return Ok(Progress::Done(Value::Int(0)));

@@ -30,7 +30,7 @@ use Rattle.moo_eval_hook.specs.declared.progress.Stage.TheVariants as stage
 use Rattle.moo_eval_hook.specs.Progressing.{Calling, calling, Progress, done, verb_next, stage_next, refuses, after_raise, is_missing, hooked, hook}
 use Rattle.moo_eval_hook.specs.Passing.{passing, run_by}
 use Rattle.moo_eval_hook.specs.Objects.{is_place, first_inside}
-use Rattle.moo_eval_hook.specs.Moving.{is_to_move, moved, moving, may_enter, accepted, has_come, left_behind}
+use Rattle.moo_eval_hook.specs.Moving.{is_to_move, moved, moving, may_enter, accepted, has_come, after_leaving}
 use Rattle.moo_eval_hook.specs.Creating.{may_be_parent, creating}
 use Rattle.moo_eval_hook.specs.Quota.{quota, is_used_up}
 use Rattle.moo_eval_hook.specs.Recycling.{taken_away, moved_out, recycling, emptied}
@@ -125,8 +125,8 @@ accepted_room : (k : Calling) (w : World) (what to : ℤ) (answer : Bool) → Ro
 unfolding accepted
 accepted_room k w what to answer = either RoomAfter (may_enter w k.programmer answer) _ _ (moved_room k w what to) tt
 
-left_room : (k : Calling) (w : World) (what to : ℤ) → RoomAfter (left_behind k w what to)
-unfolding left_behind
+left_room : (k : Calling) (w : World) (what to : ℤ) → RoomAfter (after_leaving k w what to)
+unfolding after_leaving
 left_room k w what to = either RoomAfter (has_come w what to) _ _ (hook_room k w _ _ _ _ stage.Entering) tt
 
 created_room : (k : Calling) (w : World) (up owner : ℤ) → RoomAfter (creating k w up owner)

@@ -21,7 +21,7 @@ use Rattle.moo_eval_hook.specs.Progressing.{Calling, calling, Progress, done, ve
 use Rattle.moo_eval_hook.specs.Objects.{is_place}
 use Rattle.moo_eval_hook.specs.Quota.{quota, is_used_up}
 use Rattle.moo_eval_hook.specs.Creating.{may_be_parent, next_number, creating}
-use Rattle.moo_eval_hook.specs.Moving.{is_to_move, moved, moving, may_enter, accepted, has_come, left_behind}
+use Rattle.moo_eval_hook.specs.Moving.{is_to_move, moved, moving, may_enter, accepted, has_come, after_leaving}
 use Rattle.moo_eval_hook.specs.Stages.{resumed}
 use Rattle.moo_eval_hook.specs.VerbCalls.{create_begins, move_begins, Starts, refused, starts}
 use Rattle.moo_eval_semantics.specs.Meaning.{Proceeds, is_done, hook_stops, hook_then, at_once}
@@ -128,8 +128,8 @@ accepted_on : (k : Calling) (s : State) (w : World) (what to : ℤ) (answer : Bo
 unfolding accepted
 accepted_on k s w what to answer = either (GoesOnFrom IsOfMove IsZero s) (may_enter w k.programmer answer) _ _ (moved_on k s w what to) tt
 
-left_on : (k : Calling) (s : State) (w : World) (what to : ℤ) → GoesOnFrom IsOfMove IsZero s (left_behind k w what to)
-unfolding left_behind
+left_on : (k : Calling) (s : State) (w : World) (what to : ℤ) → GoesOnFrom IsOfMove IsZero s (after_leaving k w what to)
+unfolding after_leaving
 left_on k s w what to = either (GoesOnFrom IsOfMove IsZero s) (has_come w what to) _ _ (hook_on IsOfMove IsZero k w _ _ _ _ stage.Entering _ (λ u l. tt)) refl
 
 move_next : (c : Context) (at : Stage) (v : Tree) (s : State) → IsOfMove at s → GoesOn IsOfMove IsZero (resumed c at v s).0 (resumed c at v s).1

@@ -14,7 +14,7 @@ use Rattle.moo_eval_hook.specs.declared.progress.Stage.TheVariants.{Accepting, L
 use Rattle.moo_eval_hook.specs.Progressing.{calling, Progress, gives, refuses, after_raise}
 use Rattle.moo_builtin_world.specs.Objects.{is_valid}
 use Rattle.moo_eval_hook.specs.Objects.{is_place, location}
-use Rattle.moo_eval_hook.specs.Moving.{move_calls, is_to_move, moved, moving, may_enter, accepted, has_come, left_behind}
+use Rattle.moo_eval_hook.specs.Moving.{move_calls, is_to_move, moved, moving, may_enter, accepted, has_come, after_leaving}
 use Rattle.moo_eval_hook.specs.VerbCalls.{Starts, refused, starts}
 use Rattle.moo_eval_semantics.specs.Meaning.{Proceeds, is_done}
 use Rattle.moo_eval_semantics.specs.Moves as law
@@ -31,8 +31,8 @@ module _ (T : Telling) (c : Context) (what to : ℤ) where
   arrival_by s true h d = arrival_after h (hook_then_follows T c (codes "move") to (codes "enterfunc") (object what ∷ []) Entering {s = s} d)
   arrival_by s false h is_done = law.gone_on h
 
-  arrival : (s : State) {s' : State} {r : Result Tree Failure} → GoesOn T c s (left_behind (calling c s) s.world what to) r s' → Arrives T c what to s r s'
-  unfolding left_behind
+  arrival : (s : State) {s' : State} {r : Result Tree Failure} → GoesOn T c s (after_leaving (calling c s) s.world what to) r s' → Arrives T c what to s r s'
+  unfolding after_leaving
   arrival s d = arrival_by s (has_come s.world what to) refl d
 
   departure_after : {s s' : State} {r : Result Tree Failure} → is_to_move s.world what to ≡ true → move_error s what to ≡ None →

@@ -22,18 +22,18 @@ step : (flush : Bool) (left rest : ℕ) → (left ≡ 1 → flush ≡ true → �
 step true left rest not_last some enough = let not_one : left ≢ 1 = λ is. not_last is refl in (omega arith, omega arith)
 step false left rest not_last some enough = (omega arith, omega arith)
 
-pub in_time_behind : (left : ℕ) (es es' : List Trace) → IsInTime left (es ++ es') → IsInTime (turns_left_after left es) es'
-in_time_behind left [] es' in_time = in_time
-in_time_behind left (e ∷ es) es' in_time = in_time_behind (turns_after left e) es es' in_time.2
+pub in_time_after : (left : ℕ) (es es' : List Trace) → IsInTime left (es ++ es') → IsInTime (turns_left_after left es) es'
+in_time_after left [] es' in_time = in_time
+in_time_after left (e ∷ es) es' in_time = in_time_after (turns_after left e) es es' in_time.2
 
 -- what is in time is so up to any event
 in_time_front : (left : ℕ) (es es' : List Trace) → IsInTime left (es ++ es') → IsInTime left es
 in_time_front left [] es' in_time = tt
 in_time_front left (e ∷ es) es' in_time = (in_time.0, in_time.1, in_time_front (turns_after left e) es es' in_time.2)
 
-pub turns_behind : (left : ℕ) (es : List Trace) (e : Trace) (text : List ℕ) → e.mark ≡ Some text → turns_left_after left (es ++ e ∷ []) ≡ turns_for text
-turns_behind left [] e text is = ap (λ (m : Option (List ℕ)). turns_marked m (turns_unmarked left e.flush e.report)) is
-turns_behind left (f ∷ es) e text is = turns_behind (turns_after left f) es e text is
+pub turns_after_mark : (left : ℕ) (es : List Trace) (e : Trace) (text : List ℕ) → e.mark ≡ Some text → turns_left_after left (es ++ e ∷ []) ≡ turns_for text
+turns_after_mark left [] e text is = ap (λ (m : Option (List ℕ)). turns_marked m (turns_unmarked left e.flush e.report)) is
+turns_after_mark left (f ∷ es) e text is = turns_after_mark (turns_after left f) es e text is
 
 pub turns_within : (text : List ℕ) → turns_for text ≤ length text / 65536 + 6
 turns_within text = omega arith
@@ -120,10 +120,10 @@ module _ {S Application : Type 0} (l : Layer S Application Saved) {D : Type 0} (
           ∙ ap (λ (ts : List Trace). (traces_under l.meaning front ++ trace ∷ []) ++ ts) (traces-append l near far)
 
       count : turns_left_after (turns_of before.writing) (traces_under l.meaning front ++ trace ∷ []) ≡ turns_for (l.meaning.text_of saved)
-      count = turns_behind (turns_of before.writing) (traces_under l.meaning front) trace (l.meaning.text_of saved) (ap (option_map l.meaning.text_of) is)
+      count = turns_after_mark (turns_of before.writing) (traces_under l.meaning front) trace (l.meaning.text_of saved) (ap (option_map l.meaning.text_of) is)
 
       in_time : IsInTime (turns_for (l.meaning.text_of saved)) (traces_under l.meaning near)
       in_time = in_time_front (turns_for (l.meaning.text_of saved)) (traces_under l.meaning near) (traces_under l.meaning far)
           (subst (λ (n : ℕ). IsInTime n (traces_under l.meaning near ++ traces_under l.meaning far)) count
-          (in_time_behind (turns_of before.writing) (traces_under l.meaning front ++ trace ∷ []) (traces_under l.meaning near ++ traces_under l.meaning far)
+          (in_time_after (turns_of before.writing) (traces_under l.meaning front ++ trace ∷ []) (traces_under l.meaning near ++ traces_under l.meaning far)
           (subst (λ (ts : List Trace). IsInTime (turns_of before.writing) ts) split lived.in_time)))

@@ -14,7 +14,7 @@ use Rattle.moo_server_core.proofs.Marked.{IsMarkAt, mark_at, mark_is_prefix, pla
 use Rattle.moo_server_core.specs.declared.life.LifeStop.{LifeStop}
 use Rattle.moo_server_core.specs.declared.life.LifeStop.TheVariants.{Crash, ServerOnly}
 use Rattle.moo_server_core.specs.Lives.{IsLife, IsStopped, LifeRun, Lives}
-use Rattle.moo_server_core.specs.Marks.{BeginFromKept, IsKeptIn, IsMarked, KeptBehind, ReportsNone}
+use Rattle.moo_server_core.specs.Marks.{BeginFromKept, IsKeptIn, IsMarked, KeptAfter, ReportsNone}
 
 module _ {S Application D : Type 0} (l : Layer S Application Saved) (kind : DiskKind D) (images : D → List (List ℕ)) where
   -- it spells a world that these lives keep, the last of them first
@@ -27,9 +27,9 @@ module _ {S Application D : Type 0} (l : Layer S Application Saved) (kind : Disk
   IsAlone ServerOnly disk = Unit {0}
 
   -- a disk after these lives, the last of them first
-  abbrev IsBehind : List (LifeRun S D) → D → Type 0
-  IsBehind [] disk = LeavesOnly (kind.view disk).main_text (kind.view disk)
-  IsBehind (last ∷ earlier) disk = IsAlone last.stop (kind.view disk) × ((c : List ℕ) → (kind.view disk).may_leave c → SpellsKept (last ∷ earlier) c)
+  abbrev IsAfter : List (LifeRun S D) → D → Type 0
+  IsAfter [] disk = LeavesOnly (kind.view disk).main_text (kind.view disk)
+  IsAfter (last ∷ earlier) disk = IsAlone last.stop (kind.view disk) × ((c : List ℕ) → (kind.view disk).may_leave c → SpellsKept (last ∷ earlier) c)
 
   -- what a crash leaves after a life: what it left before, if none of its checkpoints was reported done, or the text of a mark
   left_by : (run : LifeRun S D) → kind.honest run.old → IsLife l kind run → (c : List ℕ) → (kind.view run.new).may_leave c
@@ -59,56 +59,56 @@ module _ {S Application D : Type 0} (l : Layer S Application Saved) (kind : Disk
       → (c : List ℕ) → (kind.view run.old).may_leave c → l.meaning.Spells c run.saved
   began run is spells only c left = subst (λ (t : List ℕ). l.meaning.Spells t run.saved) (is.main ∙ sym (only c left)) spells
 
-  kept_behind : (earlier : List (LifeRun S D)) (run : LifeRun S D) → IsBehind earlier run.old → kind.honest run.old → IsLife l kind run → l.meaning.Spells run.main run.saved
+  kept_after : (earlier : List (LifeRun S D)) (run : LifeRun S D) → IsAfter earlier run.old → kind.honest run.old → IsLife l kind run → l.meaning.Spells run.main run.saved
       → (c : List ℕ) → (kind.view run.new).may_leave c → SpellsKept (run ∷ earlier) c
-  kept_behind [] run following h is spells c left =
+  kept_after [] run following h is spells c left =
       ⊎_elim (λ was. (run.saved, began run is spells following c was.1, inr (was.0, refl))) (λ mark. (mark.0, mark.1, inl mark.2)) (left_by run h is c left)
-  kept_behind (before ∷ earlier) run following h is spells c left =
+  kept_after (before ∷ earlier) run following h is spells c left =
       ⊎_elim (λ was. by_stop before.stop refl following.0 was) (λ mark. (mark.0, mark.1, inl mark.2)) (left_by run h is c left)
     where
       by_stop : (stop : LifeStop) → before.stop ≡ stop → IsAlone stop (kind.view run.old) → ReportsNone l run × (kind.view run.old).may_leave c → SpellsKept (run ∷ before ∷ earlier) c
       by_stop (Crash i) stop_is alone was = (
         run.saved,
         began run is spells alone c was.1,
-        inr (was.0, subst (λ (s : LifeStop). KeptBehind s (run.saved ≡ run.saved) (IsKeptIn l (before ∷ earlier) run.saved)) (sym stop_is) refl),
+        inr (was.0, subst (λ (s : LifeStop). KeptAfter s (run.saved ≡ run.saved) (IsKeptIn l (before ∷ earlier) run.saved)) (sym stop_is) refl),
       )
       by_stop ServerOnly stop_is alone was =
           let kept = following.1 c was.1 in (
             kept.0,
             kept.1,
-            inr (was.0, subst (λ (s : LifeStop). KeptBehind s (kept.0 ≡ run.saved) (IsKeptIn l (before ∷ earlier) kept.0)) (sym stop_is) kept.2),
+            inr (was.0, subst (λ (s : LifeStop). KeptAfter s (kept.0 ≡ run.saved) (IsKeptIn l (before ∷ earlier) kept.0)) (sym stop_is) kept.2),
           )
 
-  behind_more : (earlier : List (LifeRun S D)) (run : LifeRun S D) (next : D) → IsBehind earlier run.old → kind.honest run.old → IsLife l kind run → l.meaning.Spells run.main run.saved
-      → IsStopped kind images run.stop run.new next → IsBehind (run ∷ earlier) next
-  behind_more earlier run next following h is spells stopped = by_stop run.stop refl stopped
+  after_more : (earlier : List (LifeRun S D)) (run : LifeRun S D) (next : D) → IsAfter earlier run.old → kind.honest run.old → IsLife l kind run → l.meaning.Spells run.main run.saved
+      → IsStopped kind images run.stop run.new next → IsAfter (run ∷ earlier) next
+  after_more earlier run next following h is spells stopped = by_stop run.stop refl stopped
     where
-      by_stop : (stop : LifeStop) → run.stop ≡ stop → IsStopped kind images stop run.new next → IsBehind (run ∷ earlier) next
+      by_stop : (stop : LifeStop) → run.stop ≡ stop → IsStopped kind images stop run.new next → IsAfter (run ∷ earlier) next
       by_stop ServerOnly stop_is same = (
         subst (λ (s : LifeStop). IsAlone s (kind.view next)) (sym stop_is) tt,
-        λ c left. kept_behind earlier run following h is spells c (subst (λ (d : D). (kind.view d).may_leave c) same left),
+        λ c left. kept_after earlier run following h is spells c (subst (λ (d : D). (kind.view d).may_leave c) same left),
       )
       by_stop (Crash i) stop_is crash =
           let crashed = crash (is.honest_still h) in
           let rest = crashed.left in (
             subst (λ (s : LifeStop). IsAlone s (kind.view next)) (sym stop_is) rest.only,
-            λ c left. subst (λ (t : List ℕ). SpellsKept (run ∷ earlier) t) (sym (rest.only c left)) (kept_behind earlier run following h is spells (kind.view next).main_text rest.text),
+            λ c left. subst (λ (t : List ℕ). SpellsKept (run ∷ earlier) t) (sym (rest.only c left)) (kept_after earlier run following h is spells (kind.view next).main_text rest.text),
           )
 
   pub begin_from_kept : (reads : (disk : D) → kind.honest disk → (kind.view disk).may_leave (kind.view disk).main_text)
-      (earlier runs : List (LifeRun S D)) (disk last : D) (texts left : Texts) → IsBehind earlier disk → Lives l kind images disk texts runs left last
+      (earlier runs : List (LifeRun S D)) (disk last : D) (texts left : Texts) → IsAfter earlier disk → Lives l kind images disk texts runs left last
       → BeginFromKept l earlier runs
   begin_from_kept reads earlier [] disk last texts left following all = tt
   begin_from_kept reads [] (run ∷ runs) disk last texts left following all =
       let one = all.2 in
       begin_from_kept reads (run ∷ []) runs all.1 last all.0 left
-      (behind_more [] run all.1 (subst (λ (d : D). IsBehind [] d) (sym one.begins_over) following) one.honest_then one.lived one.begins_from one.ends) all.3
+      (after_more [] run all.1 (subst (λ (d : D). IsAfter [] d) (sym one.begins_over) following) one.honest_then one.lived one.begins_from one.ends) all.3
   begin_from_kept reads (before ∷ earlier) (run ∷ runs) disk last texts left following all =
       let one = all.2 in
-      let following' = subst (λ (d : D). IsBehind (before ∷ earlier) d) (sym one.begins_over) following in
+      let following' = subst (λ (d : D). IsAfter (before ∷ earlier) d) (sym one.begins_over) following in
       let found = following'.1 (kind.view run.old).main_text (reads run.old one.honest_then) in
       let same : found.0 ≡ run.saved = one.lived.opened.only one.honest_then found.0 found.1 in (
         subst (λ (s : Saved). IsKeptIn l (before ∷ earlier) s) same found.2,
         begin_from_kept reads (run ∷ before ∷ earlier) runs all.1 last all.0 left
-            (behind_more (before ∷ earlier) run all.1 following' one.honest_then one.lived one.begins_from one.ends) all.3,
+            (after_more (before ∷ earlier) run all.1 following' one.honest_then one.lived one.begins_from one.ends) all.3,
       )

@@ -112,7 +112,7 @@ module _ {S Application : Type 0} (l : Layer S Application Saved) where
         (one_of_either texts (texts_of_marks (traces_under l.meaning run.entries)) c (no_others texts (traces_under l.meaning run.entries) c one))
 
     -- the disk after a life's end, and what may be under its main
-    pub record Behind (run : LifeRun S D) (texts : Texts) (new : D) : Type 0 where
+    pub record After (run : LifeRun S D) (texts : Texts) (new : D) : Type 0 where
       pub after : Texts
       pub goes : IsLeft run.stop texts after
       pub honest_still : kind.honest new
@@ -120,7 +120,7 @@ module _ {S Application : Type 0} (l : Layer S Application Saved) where
       pub spelled : (c : List ℕ) → IsOneOf after c → (s : Saved) × l.meaning.Spells c s
 
     stopped : (run : LifeRun S D) (texts : Texts) (new : D) (stop : LifeStop) → run.stop ≡ stop → kind.honest run.new → IsStopped kind images stop run.new new
-        → ((c : List ℕ) → (kind.view run.new).may_leave c → IsOneOf texts c) → ((c : List ℕ) → IsOneOf texts c → (s : Saved) × l.meaning.Spells c s) → Behind run texts new
+        → ((c : List ℕ) → (kind.view run.new).may_leave c → IsOneOf texts c) → ((c : List ℕ) → IsOneOf texts c → (s : Saved) × l.meaning.Spells c s) → After run texts new
     stopped run texts new ServerOnly is_stop h same within spelled = record {
       after = texts;
       goes = subst (λ (s : LifeStop). IsLeft s texts texts) (sym is_stop) refl;

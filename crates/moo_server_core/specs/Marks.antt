@@ -10,9 +10,9 @@ use Rattle.moo_server_core.specs.declared.life.LifeStop.{LifeStop}
 use Rattle.moo_server_core.specs.declared.life.LifeStop.TheVariants.{Crash, ServerOnly}
 
 -- What was kept before a life, by the end of the one before it: after a crash only what the life began from, and else all that was kept.
-abbrev pub KeptBehind : LifeStop → Type 0 → Type 0 → Type 0
-KeptBehind (Crash i) began kept = began
-KeptBehind ServerOnly began kept = kept
+abbrev pub KeptAfter : LifeStop → Type 0 → Type 0 → Type 0
+KeptAfter (Crash i) began kept = began
+KeptAfter ServerOnly began kept = kept
 
 module _ {S Application D : Type 0} (l : Layer S Application Saved) where
   -- none of its checkpoints was reported done
@@ -29,7 +29,7 @@ module _ {S Application D : Type 0} (l : Layer S Application Saved) where
   IsKeptIn [] saved = ⊥
   IsKeptIn (life ∷ []) saved = IsMarked life saved ⊎ (ReportsNone life × (saved ≡ life.saved))
   IsKeptIn (life ∷ before ∷ earlier) saved =
-      IsMarked life saved ⊎ (ReportsNone life × KeptBehind before.stop (saved ≡ life.saved) (IsKeptIn (before ∷ earlier) saved))
+      IsMarked life saved ⊎ (ReportsNone life × KeptAfter before.stop (saved ≡ life.saved) (IsKeptIn (before ∷ earlier) saved))
 
   -- Each life but the first begins from a world that the lives before it keep, the last of these first.
   abbrev pub BeginFromKept : List (LifeRun S D) → List (LifeRun S D) → Type 0

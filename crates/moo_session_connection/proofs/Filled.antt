@@ -26,15 +26,15 @@ none_waits rows filled numbers c only all none = by_test (contains nat_cmp fille
 
 -- ---- those for which bytes wait
 
-kept_behind : (b : Bool) (x : ℕ) (xs : List ℕ) (c : ℕ) → Contains xs c → Contains (cond b (x ∷ xs) xs) c
-kept_behind true x xs c there = (suc there.0, omega (arith, there.1), there.2)
-kept_behind false x xs c there = there
+kept_after : (b : Bool) (x : ℕ) (xs : List ℕ) (c : ℕ) → Contains xs c → Contains (cond b (x ∷ xs) xs) c
+kept_after true x xs c there = (suc there.0, omega (arith, there.1), there.2)
+kept_after false x xs c there = there
 
 kept_at : (p : ℕ → Bool) (xs : List ℕ) (c k : ℕ) → p c ≡ true → k < length xs → slice_index_or xs k c ≡ c → Contains (filter p xs) c
 kept_at p [] c k passes lt is = absurd (omega (arith, lt))
 kept_at p (x ∷ xs) c zero passes lt is =
     subst (λ (b : Bool). Contains (cond b (x ∷ filter p xs) (filter p xs)) c) (sym (ap p is ∙ passes)) (0, omega arith, is)
-kept_at p (x ∷ xs) c (suc k) passes lt is = kept_behind (p x) x (filter p xs) c (kept_at p xs c k passes (omega (arith, lt)) is)
+kept_at p (x ∷ xs) c (suc k) passes lt is = kept_after (p x) x (filter p xs) c (kept_at p xs c k passes (omega (arith, lt)) is)
 
 none_if : (bytes : List ℕ) → nat_lt 0 (length bytes) ≡ false → bytes ≡ []
 none_if [] is = refl

@@ -76,7 +76,7 @@ apart cs i k d h l m e =
     ⊎_elim (λ (is : k ≡ i). is)
     (λ other. ⊎_elim
     (λ (before : k < i). absurd (omega (arith, same, rising cs h k i before (omega (arith, many, l)))))
-    (λ (behind : i < k). absurd (omega (arith, same, rising cs h i k behind (omega (arith, many, m)))))
+    (λ (after : i < k). absurd (omega (arith, same, rising cs h i k after (omega (arith, many, m)))))
     other)
     (cases_order k i)
 
@@ -96,7 +96,7 @@ found_no_place cs n i gap =
     unequal (number_of (get_or cs k first)) n
     (λ e. ⊎_elim
     (λ (before : k < i). absurd (omega (arith, e, gap.below k before, same_number cs k first l)))
-    (λ (behind : i ≤ k). absurd (omega (arith, e, gap.above k behind (omega (arith, l, length-map cs (λ (c : Client). c.connection))), same_number cs k first l)))
+    (λ (after : i ≤ k). absurd (omega (arith, e, gap.above k after (omega (arith, l, length-map cs (λ (c : Client). c.connection))), same_number cs k first l)))
     (cases_lt k i)))
 
 at_most : (a b : ℕ) → a < b → nat_lt b a ≡ false

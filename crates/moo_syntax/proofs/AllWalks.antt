@@ -19,12 +19,12 @@ use Rattle.moo_syntax_grammar.specs.Tokens.{is_keyword, name_at, literal_at, ope
 use Rattle.moo_syntax_grammar.specs.Grammar
 use Rattle.moo_syntax_grammar.specs.Grammar.{Sort, Of, Kind, Derives, sort, has_optional, joined, text, system_object}
 use Rattle.moo_syntax_grammar.specs.Machine.{Reading, give, phrase, Reads, gives, takes, sees, misses, reads, by_rule, Fails, forbids, takes_fails, sees_fails, misses_fails, phrase_fails, then_fails}
-use Rattle.moo_syntax_grammar.specs.Predictive.{grammar, mark, behind_brace, after_member, named, verb_arguments, behind_in, if_sign, expect, expect_keyword, loop_at, jump}
+use Rattle.moo_syntax_grammar.specs.Predictive.{grammar, mark, after_brace, after_member, named, verb_arguments, after_in, if_sign, expect, expect_keyword, loop_at, jump}
 use Rattle.moo_syntax_grammar.proofs.Derived.{derived}
 use Rattle.moo_syntax_grammar.proofs.Leads.{keyword_is}
 use Rattle.moo_syntax.specs.Places.{is_jump}
-use Rattle.moo_syntax.specs.Ground.{Ground, Naming, of_value, of_member, of_loop, naming_behind, named_loops, loops_behind, outer}
-use Rattle.moo_syntax.proofs.Walks.{Place, ground, IsFree, behind, labelled, Wrong, at_target, at_call, at_jump, at_label, Enters, Leaves, Walks, Walk, gives_walk, refuses_walk, phrase_walk, peek_walk, allowed_walk, taken_walk, sign_walk, expect_walk, keyword_taken_walk, keyword_walk, needed_walk, option_walk, name_walk}
+use Rattle.moo_syntax.specs.Ground.{Ground, Naming, of_value, of_member, of_loop, naming_after, named_loops, loops_after, outer}
+use Rattle.moo_syntax.proofs.Walks.{Place, ground, IsFree, after, labelled, Wrong, at_target, at_call, at_jump, at_label, Enters, Leaves, Walks, Walk, gives_walk, refuses_walk, phrase_walk, peek_walk, allowed_walk, taken_walk, sign_walk, expect_walk, keyword_taken_walk, keyword_walk, needed_walk, option_walk, name_walk}
 
 loops_of : {g h : Ground} → g ≡ h → g.loops ≡ h.loops
 loops_of is = ap (λ v. v.loops) is
@@ -32,19 +32,19 @@ loops_of is = ap (λ v. v.loops) is
 naming_of : {g h : Ground} → g ≡ h → g.naming ≡ h.naming
 naming_of is = ap (λ v. v.naming) is
 
-literal_kept : (h : Ground) (x : Token) (l : Literal) → literal_at x ≡ Some l → loops_behind h x ≡ h.loops
+literal_kept : (h : Ground) (x : Token) (l : Literal) → literal_at x ≡ Some l → loops_after h x ≡ h.loops
 literal_kept h (token.Integer n) l e = refl
 literal_kept h (token.Object n) l e = refl
 literal_kept h (token.Error n) l e = refl
 literal_kept h (token.Str n) l e = refl
 literal_kept h _ l e = absurd cc
 
-operator_kept : (h : Ground) (l : Level) (x : Token) (o : Operator) → operator_at l x ≡ Some o → loops_behind h x ≡ h.loops
+operator_kept : (h : Ground) (l : Level) (x : Token) (o : Operator) → operator_at l x ≡ Some o → loops_after h x ≡ h.loops
 operator_kept h l (token.Sign s) o e = refl
 operator_kept h Relation (token.Keyword keyword.In) o e = refl
 operator_kept h _ _ o e = absurd cc
 
-operator_frees : (l : Level) (x : Token) (o : Operator) → operator_at l x ≡ Some o → naming_behind x ≡ of_value
+operator_frees : (l : Level) (x : Token) (o : Operator) → operator_at l x ≡ Some o → naming_after x ≡ of_value
 operator_frees Logic (token.Sign sign.Dot) o e = absurd cc
 operator_frees Logic (token.Sign sign.Colon) o e = absurd cc
 operator_frees Logic (token.Sign sign.Dollar) o e = absurd cc
@@ -84,7 +84,7 @@ mark_walk : {g : Rules} {all : List Token} (i : Bool) {q : Expr → Place all �
 mark_walk true m = gives_walk (m tree.length_mark)
 mark_walk false m = refuses_walk
 
-brace_walk : {g : Rules} {all : List Token} (b : Bool) (e : Expr) {q : Expr → Place all → Type 0} {p : Place all} → q e p → Walk g all Sort.expr (behind_brace b e) q p
+brace_walk : {g : Rules} {all : List Token} (b : Bool) (e : Expr) {q : Expr → Place all → Type 0} {p : Place all} → q e p → Walk g all Sort.expr (after_brace b e) q p
 brace_walk true e m = peek_walk (λ h. gives_walk m) (λ h. refuses_walk)
 brace_walk false e m = gives_walk m
 
@@ -93,7 +93,7 @@ member_walk : {g : Rules} {all : List Token} (i o : Bool) (f : Items → Items) 
 member_walk i o f l = sign_walk sign.Comma (λ a m n. phrase_walk m (λ xs b d k. gives_walk (k ∙ n ∙ l))) (gives_walk l)
 
 -- the name that a jump may name here
-loop_name : (g : Rules) (ls : List (Option (List ℕ))) (h : Ground) (t : Token) (x : List ℕ) → loop_at g ls t ≡ Some x → h.naming ≡ of_value → loops_behind h t ≡ h.loops
+loop_name : (g : Rules) (ls : List (Option (List ℕ))) (h : Ground) (t : Token) (x : List ℕ) → loop_at g ls t ≡ Some x → h.naming ≡ of_value → loops_after h t ≡ h.loops
 loop_name g ls h (token.Name y) x e f = value_kept y h.loops f
 loop_name g ls h _ x e f = absurd cc
 
@@ -111,7 +111,7 @@ keyword_jumps : (k : Keyword) (ts : List Token) → is_jump (token.Keyword k) �
 keyword_jumps k [] j h = absurd cc
 keyword_jumps k (x ∷ ts) j h = subst (λ v. is_jump v ≡ true) (sym (keyword_is k x h)) j
 
-jump_walk : {g : Rules} {all : List Token} (ls : List (Option (List ℕ))) (k : Keyword) (f : Option (List ℕ) → Stmt) {q : Reading Sort.stmt} {p : Place all} → is_jump (token.Keyword k) ≡ true → naming_behind (token.Keyword k) ≡ of_value → loops_behind (ground p) (token.Keyword k) ≡ (ground p).loops → (ground p).loops ≡ ls → Walk g all Sort.stmt q (λ e n. IsFree (ground n) × ((ground n).loops ≡ (ground p).loops)) p → Walk g all Sort.stmt (jump g ls k f q) (λ e n. IsFree (ground n) × ((ground n).loops ≡ (ground p).loops)) p
+jump_walk : {g : Rules} {all : List Token} (ls : List (Option (List ℕ))) (k : Keyword) (f : Option (List ℕ) → Stmt) {q : Reading Sort.stmt} {p : Place all} → is_jump (token.Keyword k) ≡ true → naming_after (token.Keyword k) ≡ of_value → loops_after (ground p) (token.Keyword k) ≡ (ground p).loops → (ground p).loops ≡ ls → Walk g all Sort.stmt q (λ e n. IsFree (ground n) × ((ground n).loops ≡ (ground p).loops)) p → Walk g all Sort.stmt (jump g ls k f q) (λ e n. IsFree (ground n) × ((ground n).loops ≡ (ground p).loops)) p
 jump_walk {g} ls k f {p = p} j free kept s o = peek_walk (λ seen. allowed_walk (may_jump g ls None)
     (λ is. keyword_taken_walk k seen (λ a t e.
     let at : (ground a).loops ≡ (ground p).loops = loops_of e ∙ kept in
@@ -182,7 +182,7 @@ all_walk g all (Grammar.members i false) p f =
     (phrase_walk f (λ a n d l. member_walk i false _ l))
 all_walk g all (Grammar.statement ls) p f =
     keyword_walk keyword.If (λ b m k. phrase_walk tt (λ a n d l. phrase_walk (l.0, l.1 ∙ k ∙ f.1) (λ v c e j. phrase_walk (j.0, j.1 ∙ l.1 ∙ k ∙ f.1) (λ w u x y. needed_walk keyword.EndIf (λ z s t. gives_walk (s, t ∙ y.1 ∙ j.1 ∙ l.1 ∙ k))))))
-    (keyword_walk keyword.For (λ b m k. name_walk {a = λ x. expect_keyword keyword.In (behind_in ls x)} (λ x n t e. needed_walk keyword.In (λ c u v.
+    (keyword_walk keyword.For (λ b m k. name_walk {a = λ x. expect_keyword keyword.In (after_in ls x)} (λ x n t e. needed_walk keyword.In (λ c u v.
     let named : (ground c).loops ≡ Some x ∷ (ground p).loops = v ∙ loops_of e ∙ loop_named x (ground p).loops m k in
     sign_walk sign.LeftBracket (λ w y z. phrase_walk y (λ a d o l. expect_walk sign.DotDot (λ q r s. phrase_walk r (λ α β γ δ. expect_walk sign.RightBracket (λ ε ζ η.
     let round : (ground ε).loops ≡ Some x ∷ (ground p).loops = η ∙ δ ∙ s ∙ l ∙ z ∙ named in
@@ -222,7 +222,7 @@ between {g} {k} {ts} {m = m} {a = a} i j d = subst (λ v. Derives g k ts a v) (s
 
 reads_walk : (g : Rules) (all : List Token) {s : Sort} {f : Reading s} {ts r : List Token} {e : Of s} (q : Of s → Place all → Type 0) → Reads (grammar g) s f ts e r → (p : Place all) → p.rest ≡ ts → Walks g all s f q p → (n : Place all) × (n.rest ≡ r) × q e n
 reads_walk g all q gives p i w = (p, i, w)
-reads_walk g all q (takes {x = x} {ts = ts} d) p i w = reads_walk g all q d (behind p x ts i) refl (w x ts i)
+reads_walk g all q (takes {x = x} {ts = ts} d) p i w = reads_walk g all q d (after p x ts i) refl (w x ts i)
 reads_walk g all q (sees {f = f} h d) p i w = reads_walk g all q d p i (w.0 (passed f true i h))
 reads_walk g all q (misses {f = f} h d) p i w = reads_walk g all q d p i (w.1 (passed f false i h))
 reads_walk g all q (reads {k = k} {a = a} c d) p i w =
@@ -232,7 +232,7 @@ reads_walk g all q (reads {k = k} {a = a} c d) p i w =
 -- where a rule stops the reading, it isn't kept
 pub fails_walk : (g : Rules) (all : List Token) {s : Sort} {f : Reading s} {ts r : List Token} (q : Of s → Place all → Type 0) → Fails (grammar g) by_rule s f ts r → (p : Place all) → p.rest ≡ ts → Walks g all s f q p → (n : Place all) × (n.rest ≡ r) × Wrong g all n
 fails_walk g all q forbids p i w = (p, i, w)
-fails_walk g all q (takes_fails {x = x} {ts = ts} d) p i w = fails_walk g all q d (behind p x ts i) refl (w x ts i)
+fails_walk g all q (takes_fails {x = x} {ts = ts} d) p i w = fails_walk g all q d (after p x ts i) refl (w x ts i)
 fails_walk g all q (sees_fails {f = f} h d) p i w = fails_walk g all q d p i (w.0 (passed f true i h))
 fails_walk g all q (misses_fails {f = f} h d) p i w = fails_walk g all q d p i (w.1 (passed f false i h))
 fails_walk g all q (phrase_fails {k = k} d) p i w = fails_walk g all (λ e n. Leaves k (ground p) e (ground n)) d p i (all_walk g all k p w.0).walk

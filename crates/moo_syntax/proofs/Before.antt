@@ -7,7 +7,7 @@ use Rattle.moo_syntax_grammar.specs.Agree.{Agree, here, next}
 use Rattle.moo_syntax_grammar.specs.Rules.{Rules, loose}
 use Rattle.moo_syntax_grammar.specs.Grammar.{statements, block}
 use Rattle.moo_syntax_grammar.specs.Predictive.{grammar}
-use Rattle.moo_syntax_grammar.proofs.MachineLemmas.{IsEnd, whole, behind, end_length}
+use Rattle.moo_syntax_grammar.proofs.MachineLemmas.{IsEnd, whole, after, end_length}
 use Rattle.moo_syntax_grammar.proofs.Complete.{complete}
 use Rattle.moo_syntax.specs.Outgrown.{Deepens, later}
 use Rattle.moo_syntax.specs.Programs.{SameBefore, EachIsTooHigh, BeginsSome}
@@ -25,9 +25,9 @@ agree_before : (n : ℕ) {z : Token} {r ts : List Token} (us : List Token) → I
 agree_before zero us whole h e = absurd (omega (arith, h))
 agree_before (suc n) [] whole h e = absurd cc
 agree_before (suc n) {r = r} (y ∷ us) whole h e = here_at r us (cc)
-agree_before zero us (behind i) h e = absurd (omega (arith, h, end_length i))
-agree_before (suc n) [] (behind i) h e = absurd cc
-agree_before (suc n) (y ∷ us) (behind i) h e = next_at (cc) (agree_before n us i (omega (arith, h)) (cc))
+agree_before zero us (after i) h e = absurd (omega (arith, h, end_length i))
+agree_before (suc n) [] (after i) h e = absurd cc
+agree_before (suc n) (y ∷ us) (after i) h e = next_at (cc) (agree_before n us i (omega (arith, h)) (cc))
 
 same_before : (n : ℕ) {z : Token} {r ts us : List Token} → Agree (z ∷ r) ts us → length r + n ≡ length ts → SameBefore n ts us
 same_before zero a h = refl
@@ -36,15 +36,15 @@ same_before (suc n) (here {x = x} {ts = ts} {us = us}) h =
     subst (λ k. take (suc k) (x ∷ us) ≡ take (suc k) (x ∷ ts)) none refl
 same_before (suc n) (next {x = x} a) h = ap (λ v. x ∷ v) (same_before n a (omega (arith, h)))
 
-left_behind : (n : ℕ) (ts r : List Token) → n ≤ length ts → drop n ts ≡ r → length r + n ≡ length ts
-left_behind n ts r h e = omega (arith, h, ap length e, length-drop n ts)
+left_after : (n : ℕ) (ts r : List Token) → n ≤ length ts → drop n ts ≡ r → length r + n ≡ length ts
+left_after n ts r h e = omega (arith, h, ap length e, length-drop n ts)
 
 -- each program that begins with the tokens before the place is too high
 pub each_before : (g : Rules) (n : ℕ) {ts r : List Token} → n ≤ length ts → drop n ts ≡ r → Deepens g true block most_nodes (grammar g (statements [])) ts r → EachIsTooHigh g ts n
-each_before g n {ts} {r} h e (later z c) us b same d = each_is_higher c (agree_before n us (certain_end c) (left_behind n ts r h e) same) (complete d refl)
+each_before g n {ts} {r} h e (later z c) us b same d = each_is_higher c (agree_before n us (certain_end c) (left_after n ts r h e) same) (complete d refl)
 
 -- and some loose program begins with them
 pub begins_before : (g : Rules) (n : ℕ) {ts r : List Token} → n ≤ length ts → drop n ts ≡ r → Deepens g true block most_nodes (grammar g (statements [])) ts r → BeginsSome loose ts n
 begins_before g n {ts} {r} h e (later z c) =
     let t = program_continued c in
-    record { tokens = t.0; tree = t.1; same = same_before n t.2 (left_behind n ts r h e); program = t.3 }
+    record { tokens = t.0; tree = t.1; same = same_before n t.2 (left_after n ts r h e); program = t.3 }

@@ -12,8 +12,8 @@ use Rattle.moo_syntax_grammar.proofs.MachineLemmas.{agree_next, reads_before}
 use Rattle.moo_syntax_grammar.proofs.Leads.{Fact}
 use Rattle.moo_syntax_grammar.proofs.Derived.{derived}
 use Rattle.moo_syntax_grammar.proofs.Admitted.{admitted, loose_admits}
-use Rattle.moo_syntax_grammar.proofs.Endings.{behind as stands_behind, Ends, ends_with_more}
-use Rattle.moo_syntax.specs.Outgrown.{CanEnd, can_give, can_read, can_take, can_stop, can_miss, Certain, ends, takes as takes_certain, sees as sees_certain, misses as misses_certain, part, behind}
+use Rattle.moo_syntax_grammar.proofs.Endings.{after as stands_after, Ends, ends_with_more}
+use Rattle.moo_syntax.specs.Outgrown.{CanEnd, can_give, can_read, can_take, can_stop, can_miss, Certain, ends, takes as takes_certain, sees as sees_certain, misses as misses_certain, part, after}
 use Rattle.moo_syntax_grammar.proofs.Examples.{example}
 use Rattle.moo_syntax_grammar.proofs.Ends.{all_end}
 
@@ -73,10 +73,10 @@ continued g s close Q (misses_certain {f = f} h c) m n =
     let t = continued g s close (λ ts e r. next_passes f ts ≡ false → Q ts e r) c m.1 (λ ts e r d i. n ts e r (misses i d)) in
     record { tokens = t.tokens; given = t.given; agrees = t.agrees; holds = λ r. t.holds r (sym (agree_next f (t.agrees r)) ∙ h) }
 continued g s close Q (part {k = k} c all) m n =
-    let t = continued g (sort k) (stands_behind k) (Derives loose k) c (all_end g k).ends (λ ts e r d. loosely g d) in
+    let t = continued g (sort k) (stands_after k) (Derives loose k) c (all_end g k).ends (λ ts e r d. loosely g d) in
     let u = m.0 t.given in
     record { tokens = λ r. t.tokens (u.rest r); given = u.given; agrees = λ r. t.agrees (u.rest r); holds = λ r. u.holds r (t.tokens (u.rest r)) (t.holds (u.rest r)) }
-continued g s close Q (behind {k = k} {p = p} {a = a} b c) m n =
+continued g s close Q (after {k = k} {p = p} {a = a} b c) m n =
     let t = continued g s close (λ m e r. (ts : List Token) → Reads (grammar g) (sort k) (grammar g k) ts a m → Q ts e r) c
     (ends_with_more s close (p a) _ _ (λ ts e r w us d. w us (loosely g d)) (m.1 a))
     (λ ts e r d us y. n us e r (reads y d)) in

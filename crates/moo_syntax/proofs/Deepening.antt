@@ -9,7 +9,7 @@ use Rattle.moo_syntax_grammar.specs.Predictive.{grammar, allowed}
 use Rattle.moo_syntax_grammar.specs.Size.{size}
 use Rattle.moo_syntax_grammar.specs.Depth.{Deep}
 use Rattle.moo_syntax_grammar.proofs.Depths.{Meets, meets_deep}
-use Rattle.moo_syntax.specs.Outgrown.{over, CanEnd, can_read, can_take, can_stop, AllPass, Certain, ends, takes, sees, misses, part, behind, Deepens, at_once, later}
+use Rattle.moo_syntax.specs.Outgrown.{over, CanEnd, can_read, can_take, can_stop, AllPass, Certain, ends, takes, sees, misses, part, after, Deepens, at_once, later}
 use Rattle.moo_syntax.proofs.Outgrowing.{higher, is_higher}
 
 -- a token that a rule may stop
@@ -24,7 +24,7 @@ certain_more w (takes h c) = takes h (certain_more w c)
 certain_more w (sees h c) = sees h (certain_more w c)
 certain_more w (misses h c) = misses h (certain_more w c)
 certain_more w (part c all) = part c (λ a h ts e r d. w e (all a h ts e r d))
-certain_more w (behind d c) = behind d (certain_more w c)
+certain_more w (after d c) = after d (certain_more w c)
 
 module _ {g : Rules} {s : Sort} {n : ℕ} where
   -- the tree is certain to be too high, for a function that may stop before it takes a token
@@ -54,7 +54,7 @@ module _ {g : Rules} {s : Sort} {n : ℕ} where
 
   -- a phrase that is read, before a rest that is too high
   pub then_deepens : {k : Kind} {p : Of (sort k) → Reading s} {ts m r : List Token} {a : Of (sort k)} → Reads (grammar g) (sort k) (grammar g k) ts a m → Deepens g true s n (p a) m r → Deepens g true s n (phrase k p) ts r
-  then_deepens d (later z c) = later z (behind d c)
+  then_deepens d (later z c) = later z (after d c)
 
   inner : {j : ℕ} {k : Kind} {p : Of (sort k) → Reading s} {ts r : List Token} {e : Of s} → ((us : List Token) → Deep g (sort k) j (grammar g k) us) → ((a : Of (sort k)) → j < size (sort k) a → (us : List Token) → Deep g s n (p a) us) → Reads (grammar g) s (phrase k p) ts e r → n < size s e
   inner {ts = ts} {r = r} {e = e} w keeps (reads {m = m} {a = a} y z) = (keeps a ((w ts).too_high a m y) m).too_high e r z

@@ -11,7 +11,7 @@ use Rattle.moo_syntax_ast.specs.Listing.{listing}
 use Rattle.moo_syntax_grammar.specs.declared.names.Names.{Names}
 use Rattle.moo_syntax_grammar.specs.Rules.{strict}
 use Rattle.moo_syntax_grammar.specs.Tokens.{words}
-use Rattle.moo_syntax_grammar.specs.Brackets.{open_behind, most_open_behind, most_open}
+use Rattle.moo_syntax_grammar.specs.Brackets.{open_after, most_open_after, most_open}
 use Rattle.moo_syntax_grammar.specs.Grammar.{IsProgram}
 use Rattle.moo_syntax_grammar.proofs.Unique.{one_program}
 use Rattle.moo_syntax.specs.Programs.{IsTooDeep, HasLongLine, by_bracket, by_nodes, by_line, line_of, text_length}
@@ -19,7 +19,7 @@ use Rattle.moo_syntax.specs.Stops.{ExceedLimits}
 use Rattle.moo_syntax.proofs.TextLengths.{tokens_within}
 use Rattle.moo_syntax.proofs.Words.{words_length, words_parts}
 
-one_more_open : (n : ℕ) (x : Token) → open_behind n x ≤ n + 1
+one_more_open : (n : ℕ) (x : Token) → open_after n x ≤ n + 1
 one_more_open n (token.Sign sign.LeftParen) = omega arith
 one_more_open n (token.Sign sign.LeftBracket) = omega arith
 one_more_open n (token.Sign sign.LeftBrace) = omega arith
@@ -28,17 +28,17 @@ one_more_open n (token.Sign sign.RightBracket) = omega arith
 one_more_open n (token.Sign sign.RightBrace) = omega arith
 one_more_open n _ = omega arith
 
-open_within : (n : ℕ) (ts : List Token) → most_open_behind n ts ≤ n + length ts
+open_within : (n : ℕ) (ts : List Token) → most_open_after n ts ≤ n + length ts
 open_within n [] = omega arith
-open_within n (x ∷ ts) = omega (arith, open_within (open_behind n x) ts, one_more_open n x)
+open_within n (x ∷ ts) = omega (arith, open_within (open_after n x) ts, one_more_open n x)
 
-open_from : (n : ℕ) (ts : List Token) → n ≤ most_open_behind n ts
+open_from : (n : ℕ) (ts : List Token) → n ≤ most_open_after n ts
 open_from n [] = omega arith
 open_from n (x ∷ ts) = omega arith
 
-open_in_front : (n : ℕ) (ts us : List Token) → most_open_behind n ts ≤ most_open_behind n (ts ++ us)
+open_in_front : (n : ℕ) (ts us : List Token) → most_open_after n ts ≤ most_open_after n (ts ++ us)
 open_in_front n [] us = open_from n us
-open_in_front n (x ∷ ts) us = omega (arith, open_in_front (open_behind n x) ts us)
+open_in_front n (x ∷ ts) us = omega (arith, open_in_front (open_after n x) ts us)
 
 -- as many are open somewhere in the text as before a place
 open_before : (n : ℕ) (spots : List Spot) → most_open (words (take n spots)) ≤ most_open (words spots)

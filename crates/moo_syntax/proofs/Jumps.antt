@@ -13,7 +13,7 @@ use Rattle.moo_syntax_grammar.specs.Rules.{Rules, has_loop, may_jump}
 use Rattle.moo_syntax_grammar.specs.Tokens.{is_sign, is_keyword, name_at, next_passes}
 use Rattle.moo_syntax_grammar.specs.Grammar.{Sort, label}
 use Rattle.moo_syntax_grammar.specs.Machine.{Reading, give, Reads, gives, misses, by_form, by_rule, Fails, refuses, forbids, sees_fails, misses_fails}
-use Rattle.moo_syntax_grammar.specs.Predictive.{grammar, expect, loop_at, behind_jump}
+use Rattle.moo_syntax_grammar.specs.Predictive.{grammar, expect, loop_at, after_jump}
 use Rattle.moo_syntax_grammar.specs.Depth.{Deep}
 use Rattle.moo_syntax.specs.declared.cursor.Cursor.{Cursor}
 use Rattle.moo_syntax.specs.declared.fault.Fault.{Fault}
@@ -103,22 +103,22 @@ pub jump_too_deep : {names : Names} {k : Keyword} {ls : List (Option (List ℕ))
 jump_too_deep {names} {k} {ls} {room} {old} {new} is z t same l = subst (λ v. HasNotJumped names k ls room old new v) (sym is) (record {
   fails = λ h q g b. absurd b;
   stands = tt;
-  deep = λ e g ok h q. admitted_deepens (λ _. behind_jump g ls h) t same (loop_jumps g ls None l) (at_once (can_miss refl (can_miss refl (can_take (token.Sign Semicolon) refl can_give))) (λ us. no_statement_room z));
+  deep = λ e g ok h q. admitted_deepens (λ _. after_jump g ls h) t same (loop_jumps g ls None l) (at_once (can_miss refl (can_miss refl (can_take (token.Sign Semicolon) refl can_give))) (λ us. no_statement_room z));
   long = λ h. omega (arith, z, t.at);
 })
 
 module _ (g : Rules) (ls : List (Option (List ℕ))) (h : Option (List ℕ) → Stmt) (old mid new : Cursor) where
   -- the name after a jump, or none, and its end
-  pub jump_ends : (found : Option (List ℕ)) → MatchOption found (Stays (λ x. is_some (name_at x)) old mid) (λ s. Takes (Name s) old mid) → ((x : List ℕ) (r : List Token) → left old ≡ Name x ∷ r → has_loop ls (Some x) ≡ true) → Takes (token.Sign Semicolon) mid new → Reads (grammar g) Sort.stmt (behind_jump g ls h) (left old) (h found) (left new)
+  pub jump_ends : (found : Option (List ℕ)) → MatchOption found (Stays (λ x. is_some (name_at x)) old mid) (λ s. Takes (Name s) old mid) → ((x : List ℕ) (r : List Token) → left old ≡ Name x ∷ r → has_loop ls (Some x) ≡ true) → Takes (token.Sign Semicolon) mid new → Reads (grammar g) Sort.stmt (after_jump g ls h) (left old) (h found) (left new)
   jump_ends None t k s = misses (no_loop_named g ls (left old) t.other) (misses t.other (subst (λ v. Reads (grammar g) Sort.stmt (expect Semicolon (give (h None))) v (h None) (left new)) t.rest (took s refl gives)))
   jump_ends (Some x) t k s =
       let named = loop_named g ls x (k x (left mid) t.token) in
       took t (ap is_some named) (rw named (took s refl gives))
 
-  pub jump_unended : (found : Option (List ℕ)) → MatchOption found (Stays (λ x. is_some (name_at x)) old mid) (λ s. Takes (Name s) old mid) → ((x : List ℕ) (r : List Token) → left old ≡ Name x ∷ r → has_loop ls (Some x) ≡ true) → Stays (is_sign Semicolon) mid new → Fails (grammar g) by_form Sort.stmt (behind_jump g ls h) (left old) (left new)
+  pub jump_unended : (found : Option (List ℕ)) → MatchOption found (Stays (λ x. is_some (name_at x)) old mid) (λ s. Takes (Name s) old mid) → ((x : List ℕ) (r : List Token) → left old ≡ Name x ∷ r → has_loop ls (Some x) ≡ true) → Stays (is_sign Semicolon) mid new → Fails (grammar g) by_form Sort.stmt (after_jump g ls h) (left old) (left new)
   jump_unended None t k s = misses_fails (no_loop_named g ls (left old) t.other) (misses_fails t.other (subst (λ v. Fails (grammar g) by_form Sort.stmt (expect Semicolon (give (h None))) v (left new)) t.rest (stayed_fails s refuses)))
   jump_unended (Some x) t k s = took_fails t (ap is_some (loop_named g ls x (k x (left mid) t.token))) (stayed_fails s refuses)
 
   -- a name that none of the loops has
-  pub jump_refused : {x : List ℕ} {r : List Token} → g.loops ≡ true → has_loop ls (Some x) ≡ false → left old ≡ Name x ∷ r → Fails (grammar g) by_rule Sort.stmt (behind_jump g ls h) (left old) (left old)
-  jump_refused {x} {r} a e is = subst (λ v. Fails (grammar g) by_rule Sort.stmt (behind_jump g ls h) v v) (sym is) (misses_fails (ap is_some (loop_unnamed g ls x a e)) (sees_fails refl forbids))
+  pub jump_refused : {x : List ℕ} {r : List Token} → g.loops ≡ true → has_loop ls (Some x) ≡ false → left old ≡ Name x ∷ r → Fails (grammar g) by_rule Sort.stmt (after_jump g ls h) (left old) (left old)
+  jump_refused {x} {r} a e is = subst (λ v. Fails (grammar g) by_rule Sort.stmt (after_jump g ls h) v v) (sym is) (misses_fails (ap is_some (loop_unnamed g ls x a e)) (sees_fails refl forbids))

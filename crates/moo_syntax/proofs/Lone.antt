@@ -13,10 +13,10 @@ use Rattle.moo_syntax_grammar.specs.Tokens.{is_sign, name_at}
 use Rattle.moo_syntax_grammar.specs.Minuses.{minuses, negations}
 use Rattle.moo_syntax_grammar.specs.Grammar.{Sort, Of, unary, postfix, suffixes, primary, arguments, negated, has_optional, text, system_object}
 use Rattle.moo_syntax_grammar.specs.Machine.{Reading, give, take, peek, phrase, Reads, gives, takes as takes_reads, sees as sees_reads, misses as misses_reads, reads}
-use Rattle.moo_syntax_grammar.specs.Predictive.{grammar, allowed, if_sign, if_name, expect, behind_brace, behind_dot, behind_colon, behind_bracket, named, braced, dollar, behind_dollar, guarded, mark}
+use Rattle.moo_syntax_grammar.specs.Predictive.{grammar, allowed, if_sign, if_name, expect, after_brace, after_dot, after_colon, after_bracket, named, braced, dollar, after_dollar, guarded, mark}
 use Rattle.moo_syntax_grammar.proofs.Heights.{height_positive}
 use Rattle.moo_syntax_grammar.proofs.Depths.{meets_deep}
-use Rattle.moo_syntax.specs.Outgrown.{over, can_give, can_read, can_take, AllPass, Certain, ends, takes, misses, part, behind, Deepens, later}
+use Rattle.moo_syntax.specs.Outgrown.{over, can_give, can_read, can_take, AllPass, Certain, ends, takes, misses, part, after, Deepens, later}
 use Rattle.moo_syntax.proofs.Outgrowing.{higher, is_higher}
 use Rattle.moo_syntax.proofs.Deepening.{can_rule, certain_more}
 
@@ -61,31 +61,31 @@ integer_height (literal l) h = refl
 integer_height _ h = absurd cc
 
 -- the limit after minuses: one node if they leave none
-abbrev room_behind : ℕ → ℕ → ℕ
-room_behind m room = max (room - m) (min room 1)
+abbrev room_after : ℕ → ℕ → ℕ
+room_after m room = max (room - m) (min room 1)
 
-too_tall : (m room : ℕ) (e : Expr) → room_behind m room < height e → room < height (negations m e)
+too_tall : (m room : ℕ) (e : Expr) → room_after m room < height e → room < height (negations m e)
 too_tall m room e h = ⊎_elim (λ is. omega (arith, h, (negations_none m e is).1)) (λ is. omega (arith, h, is.1, height_positive (negations m e))) (integer_or_not e)
 
 given_passes : (g : Rules) (s : Sort) (test : Of s → Bool) (e : Of s) → test e ≡ true → AllPass g s test (give e)
 given_passes g s test e h ts f r gives = h
 
 -- a reading after minuses
-certain_behind : (g : Rules) (i : Bool) (m : ℕ) (test : Expr → Bool) {ts at : List Token} → Certain g Sort.expr (λ e. test (negations m e)) (grammar g (unary i)) ts at → Certain g Sort.expr test (grammar g (unary i)) (minuses m ts) at
+certain_after : (g : Rules) (i : Bool) (m : ℕ) (test : Expr → Bool) {ts at : List Token} → Certain g Sort.expr (λ e. test (negations m e)) (grammar g (unary i)) ts at → Certain g Sort.expr test (grammar g (unary i)) (minuses m ts) at
 unfolding grammar
-certain_behind g i zero test c = c
-certain_behind g i (suc m) test c = misses refl (takes refl (part (certain_behind g i m (λ e. test (negated e)) c) (λ a h. given_passes g Sort.expr test (negated a) h)))
+certain_after g i zero test c = c
+certain_after g i (suc m) test c = misses refl (takes refl (part (certain_after g i m (λ e. test (negated e)) c) (λ a h. given_passes g Sort.expr test (negated a) h)))
 
 -- minuses before an operand that is too high
-pub minuses_deepens : {g : Rules} (i : Bool) (m room : ℕ) {ts r : List Token} → Deepens g true Sort.expr (room_behind m room) (grammar g (unary i)) ts r → Deepens g true Sort.expr room (grammar g (unary i)) (minuses m ts) r
-minuses_deepens {g} i m room (later z c) = later z (certain_behind g i m (over room Sort.expr) (certain_more (λ e h. is_higher room (height (negations m e)) (too_tall m room e (higher (room_behind m room) (height e) h))) c))
+pub minuses_deepens : {g : Rules} (i : Bool) (m room : ℕ) {ts r : List Token} → Deepens g true Sort.expr (room_after m room) (grammar g (unary i)) ts r → Deepens g true Sort.expr room (grammar g (unary i)) (minuses m ts) r
+minuses_deepens {g} i m room (later z c) = later z (certain_after g i m (over room Sort.expr) (certain_more (λ e h. is_higher room (height (negations m e)) (too_tall m room e (higher (room_after m room) (height e) h))) c))
 
 -- the suffixes of a base keep it, or have it below a node
 suffix_kept : (g : Rules) (i : Bool) (a : Expr) {ts r : List Token} {e : Expr} → Reads (grammar g) Sort.expr (grammar g (suffixes i a)) ts e r → ((e ≡ a) × (ts ≡ r)) ⊎ (1 < height e)
 unfolding grammar
-suffix_kept g i a {r = r} {e = e} (sees_reads h (takes_reads d)) = inr ((meets_deep {g = g} {s = Sort.expr} {n = 1} {p = behind_dot i a} ((λ y e h. omega (arith, h, height_positive a)), ((λ y b _. ((λ z e h. omega (arith, h, height_positive a)), tt)), tt))).too_high e r d)
-suffix_kept g i a {r = r} {e = e} (misses_reads h (sees_reads k (takes_reads d))) = inr ((meets_deep {g = g} {s = Sort.expr} {n = 1} {p = behind_colon i a} ((λ y. ((λ z xs _. ((λ w e h. omega (arith, h, height_positive a)), tt)), tt)), ((λ y b _. ((λ z. ((λ w xs _. ((λ v e h. omega (arith, h, height_positive a)), tt)), tt)), tt)), tt))).too_high e r d)
-suffix_kept g i a {r = r} {e = e} (misses_reads h (misses_reads k (sees_reads l (takes_reads d)))) = inr ((meets_deep {g = g} {s = Sort.expr} {n = 1} {p = behind_bracket i a} (λ b _. ((λ y c _. ((λ z e h. omega (arith, h, height_positive a)), tt)), ((λ z e h. omega (arith, h, height_positive a)), tt)))).too_high e r d)
+suffix_kept g i a {r = r} {e = e} (sees_reads h (takes_reads d)) = inr ((meets_deep {g = g} {s = Sort.expr} {n = 1} {p = after_dot i a} ((λ y e h. omega (arith, h, height_positive a)), ((λ y b _. ((λ z e h. omega (arith, h, height_positive a)), tt)), tt))).too_high e r d)
+suffix_kept g i a {r = r} {e = e} (misses_reads h (sees_reads k (takes_reads d))) = inr ((meets_deep {g = g} {s = Sort.expr} {n = 1} {p = after_colon i a} ((λ y. ((λ z xs _. ((λ w e h. omega (arith, h, height_positive a)), tt)), tt)), ((λ y b _. ((λ z. ((λ w xs _. ((λ v e h. omega (arith, h, height_positive a)), tt)), tt)), tt)), tt))).too_high e r d)
+suffix_kept g i a {r = r} {e = e} (misses_reads h (misses_reads k (sees_reads l (takes_reads d)))) = inr ((meets_deep {g = g} {s = Sort.expr} {n = 1} {p = after_bracket i a} (λ b _. ((λ y c _. ((λ z e h. omega (arith, h, height_positive a)), tt)), ((λ z e h. omega (arith, h, height_positive a)), tt)))).too_high e r d)
 suffix_kept g i a (misses_reads h (misses_reads k (misses_reads l gives))) = inl (refl, refl)
 
 suffix_passes : (g : Rules) (i : Bool) (a : Expr) → no_integer a ≡ true → AllPass g Sort.expr no_integer (phrase (suffixes i a) λ e. give e)
@@ -95,18 +95,18 @@ suffix_passes g i a h ts e r (reads d gives) = ⊎_elim (λ is. subst (λ v. no_
 abbrev IsLone : Rules → Reading Sort.expr → List Token → List Token → Type 0
 IsLone g p ts r = (z : Token) × Certain g Sort.expr no_integer p ts (z ∷ r)
 
-abbrev behind_name : Bool → List ℕ → Bool → Reading Sort.expr
-behind_name i s b = peek (is_sign LeftParen) (allowed b (take λ _. phrase (arguments i false) λ xs. expect RightParen (give (call s xs)))) (give (variable s))
+abbrev after_name : Bool → List ℕ → Bool → Reading Sort.expr
+after_name i s b = peek (is_sign LeftParen) (allowed b (take λ _. phrase (arguments i false) λ xs. expect RightParen (give (call s xs)))) (give (variable s))
 
-name_passes : (g : Rules) (i : Bool) (s : List ℕ) (b : Bool) → AllPass g Sort.expr no_integer (behind_name i s b)
+name_passes : (g : Rules) (i : Bool) (s : List ℕ) (b : Bool) → AllPass g Sort.expr no_integer (after_name i s b)
 name_passes g i s true ts e r (sees_reads h (takes_reads (reads w (sees_reads k (takes_reads gives))))) = refl
 name_passes g i s true ts e r (sees_reads h (takes_reads (reads w (misses_reads k d)))) = elim d [ ]
 name_passes g i s false ts e r (sees_reads h d) = elim d [ ]
 name_passes g i s b ts e r (misses_reads h gives) = refl
 
 -- a name is lone by itself, a call by its last parenthesis
-lone_name : (g : Rules) (i : Bool) (s : List ℕ) (b : Bool) {ts r : List Token} {e : Expr} → Reads (grammar g) Sort.expr (behind_name i s b) ts e r → (ts ≡ r) ⊎ IsLone g (behind_name i s b) ts r
-lone_name g i s true (sees_reads h (takes_reads (reads w (sees_reads k (takes_reads {x = z} gives))))) = inr (z, takes h (behind w (ends k can_give (given_passes g Sort.expr no_integer _ refl))))
+lone_name : (g : Rules) (i : Bool) (s : List ℕ) (b : Bool) {ts r : List Token} {e : Expr} → Reads (grammar g) Sort.expr (after_name i s b) ts e r → (ts ≡ r) ⊎ IsLone g (after_name i s b) ts r
+lone_name g i s true (sees_reads h (takes_reads (reads w (sees_reads k (takes_reads {x = z} gives))))) = inr (z, takes h (after w (ends k can_give (given_passes g Sort.expr no_integer _ refl))))
 lone_name g i s true (sees_reads h (takes_reads (reads w (misses_reads k d)))) = elim d [ ]
 lone_name g i s false (sees_reads h d) = elim d [ ]
 lone_name g i s b (misses_reads h gives) = inl refl
@@ -118,7 +118,7 @@ optional_height (splice a xs) h = omega (arith, height_positive a)
 optional_height (optional s xs) h = omega arith
 optional_height (defaulted s a xs) h = omega (arith, height_positive a)
 
-lone_items : (g : Rules) (xs : Items) (b : Bool) {ts r : List Token} {e : Expr} → (b ≡ true → 1 ≤ items_height xs) → height e ≤ 1 → Reads (grammar g) Sort.expr (expect RightBrace (behind_brace b (list xs))) ts e r → IsLone g (expect RightBrace (behind_brace b (list xs))) ts r
+lone_items : (g : Rules) (xs : Items) (b : Bool) {ts r : List Token} {e : Expr} → (b ≡ true → 1 ≤ items_height xs) → height e ≤ 1 → Reads (grammar g) Sort.expr (expect RightBrace (after_brace b (list xs))) ts e r → IsLone g (expect RightBrace (after_brace b (list xs))) ts r
 lone_items g xs true o l (sees_reads h (takes_reads (sees_reads k gives))) = absurd (omega (arith, l, o refl))
 lone_items g xs true o l (sees_reads h (takes_reads (misses_reads k d))) = elim d [ ]
 lone_items g xs false o l (sees_reads h (takes_reads {x = z} gives)) = (z, ends h can_give (given_passes g Sort.expr no_integer _ refl))
@@ -139,7 +139,7 @@ system_part i s = if_sign LeftParen (phrase (arguments i false) λ xs. expect Ri
 system_height : (g : Rules) (i : Bool) (s : List ℕ) {ts r : List Token} {e : Expr} → Reads (grammar g) Sort.expr (system_part i s) ts e r → 1 < height e
 system_height g i s {r = r} {e = e} d = (meets_deep {g = g} {s = Sort.expr} {n = 1} {p = system_part i s} ((λ y xs _. ((λ z. omega arith), tt)), omega arith)).too_high e r d
 
-dollar_passes : (g : Rules) (i : Bool) → AllPass g Sort.expr no_integer (behind_dollar i)
+dollar_passes : (g : Rules) (i : Bool) → AllPass g Sort.expr no_integer (after_dollar i)
 dollar_passes g i ts e r (sees_reads h (takes_reads {x = x} d)) = tall_is_none e (system_height g i (unwrap_or (name_at x) []) d)
 dollar_passes g i ts e r (misses_reads h d) = mark_passes g i ts e r d
 
@@ -153,7 +153,7 @@ lone_dollar g i {r = r} {e = e} l (misses_reads h d) =
 lone_braced : (g : Rules) (i : Bool) {ts r : List Token} {e : Expr} → height e ≤ 1 → Reads (grammar g) Sort.expr (braced i) ts e r → IsLone g (braced i) ts r
 lone_braced g i l (sees_reads h (takes_reads (reads {a = xs} w d))) =
     let t = lone_items g xs (has_optional xs) (optional_height xs) l d in
-    (t.0, takes h (behind w t.1))
+    (t.0, takes h (after w t.1))
 lone_braced g i l (misses_reads h d) = let t = lone_dollar g i l d in (t.0, misses h t.1)
 
 lone_first : (g : Rules) (i : Bool) (x : Token) {q : Reading Sort.expr} {ts r : List Token} {e : Expr} → is_some (name_at x) ≡ true → Reads (grammar g) Sort.expr (named g i (unwrap_or (name_at x) [])) ts e r → IsLone g (if_name (named g i) q) (x ∷ ts) r
@@ -170,7 +170,7 @@ lone_primary g i n l (sees_reads h (takes_reads {x = z} gives)) = (z, ends h can
 lone_primary g i n l (misses_reads h (sees_reads k (takes_reads {x = z} {ts = ts} d))) =
     let t = lone_first g i z k d in
     (t.0, misses h t.1)
-lone_primary g i n l (misses_reads h (misses_reads k (sees_reads o (takes_reads (reads w (sees_reads q (takes_reads {x = z} gives))))))) = (z, misses h (misses k (takes o (behind w (ends q can_give (given_passes g Sort.expr no_integer _ n))))))
+lone_primary g i n l (misses_reads h (misses_reads k (sees_reads o (takes_reads (reads w (sees_reads q (takes_reads {x = z} gives))))))) = (z, misses h (misses k (takes o (after w (ends q can_give (given_passes g Sort.expr no_integer _ n))))))
 lone_primary g i n l (misses_reads h (misses_reads k (sees_reads o (takes_reads (reads w (misses_reads q d)))))) = elim d [ ]
 lone_primary g i n l (misses_reads h (misses_reads k (misses_reads o d))) = let t = lone_braced g i l d in (t.0, misses h (misses k (misses o t.1)))
 
@@ -196,7 +196,7 @@ lone_unary g i n l (misses_reads h (sees_reads k (takes_reads (reads {a = a} d g
 lone_unary g i n l (misses_reads h (misses_reads k (reads d gives))) = let t = lone_postfix g i n l d in (t.0, misses h (misses k (part t.1 (λ b m. given_passes g Sort.expr no_integer b m))))
 
 -- the operand is within the limit, and the minuses before it are not
-late_is_none : (m room : ℕ) (e : Expr) → height e ≤ room_behind m room → room < height (negations m e) → (no_integer e ≡ true) × (height e ≤ 1) × (room ≤ m)
+late_is_none : (m room : ℕ) (e : Expr) → height e ≤ room_after m room → room < height (negations m e) → (no_integer e ≡ true) × (height e ≤ 1) × (room ≤ m)
 late_is_none m room e l h =
     ⊎_elim
     (λ is. (is, omega (arith, l, h, (negations_none m e is).1, height_positive e), omega (arith, l, h, (negations_none m e is).1, height_positive e)))
@@ -204,8 +204,8 @@ late_is_none m room e l h =
     (integer_or_not e)
 
 -- minuses before an operand that was read
-pub minuses_late : {g : Rules} (i : Bool) (m room : ℕ) {ts r : List Token} (e : Expr) → Reads (grammar g) Sort.expr (grammar g (unary i)) ts e r → height e ≤ room_behind m room → room < height (negations m e) → Deepens g true Sort.expr room (grammar g (unary i)) (minuses m ts) r
+pub minuses_late : {g : Rules} (i : Bool) (m room : ℕ) {ts r : List Token} (e : Expr) → Reads (grammar g) Sort.expr (grammar g (unary i)) ts e r → height e ≤ room_after m room → room < height (negations m e) → Deepens g true Sort.expr room (grammar g (unary i)) (minuses m ts) r
 minuses_late {g} i m room e d l h =
     let t = late_is_none m room e l h in
     let c = lone_unary g i t.0 t.1 d in
-    later c.0 (certain_behind g i m (over room Sort.expr) (certain_more (λ f n. is_higher room (height (negations m f)) (omega (arith, t.2, (negations_none m f n).1, height_positive f))) c.1))
+    later c.0 (certain_after g i m (over room Sort.expr) (certain_more (λ f n. is_higher room (height (negations m f)) (omega (arith, t.2, (negations_none m f n).1, height_positive f))) c.1))

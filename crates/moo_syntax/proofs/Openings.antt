@@ -11,8 +11,8 @@ use Rattle.moo_syntax_grammar.specs.Rules.{loose}
 use Rattle.moo_syntax_grammar.specs.Grammar
 use Rattle.moo_syntax_grammar.specs.Grammar.{Sort, Of, Kind, sort, has_optional}
 use Rattle.moo_syntax_grammar.specs.Machine.{Reading, give, refuse, forbid, take, peek, phrase}
-use Rattle.moo_syntax_grammar.specs.Predictive.{grammar, mark, behind_brace, behind_in, behind_jump}
-use Rattle.moo_syntax_grammar.proofs.Endings.{behind}
+use Rattle.moo_syntax_grammar.specs.Predictive.{grammar, mark, after_brace, after_in, after_jump}
+use Rattle.moo_syntax_grammar.proofs.Endings.{after}
 use Rattle.moo_syntax.specs.Outgrown.{CanEnd, can_give, can_read, can_take, can_miss}
 
 -- Some tokens bring the reading to an end: its own, or an `=` that comes after it.
@@ -33,11 +33,11 @@ mark_opens : (i : Bool) (close : List Token → List Token) → Opens Sort.expr 
 mark_opens true close = tt
 mark_opens false close = tt
 
-brace_opens : (b : Bool) (e : Expr) (close : List Token → List Token) → ((r : List Token) → next_passes (is_sign sign.Assign) (close r) ≡ true) → CanGoOn close Sort.expr (behind_brace b e) × Opens Sort.expr close (behind_brace b e)
+brace_opens : (b : Bool) (e : Expr) (close : List Token → List Token) → ((r : List Token) → next_passes (is_sign sign.Assign) (close r) ≡ true) → CanGoOn close Sort.expr (after_brace b e) × Opens Sort.expr close (after_brace b e)
 brace_opens true e close w = (by_assign w, (tt, tt))
 brace_opens false e close w = (by_tokens can_give, tt)
 
-in_opens : (ls : List (Option (List ℕ))) (x : List ℕ) (close : List Token → List Token) → CanGoOn close Sort.stmt (behind_in ls x) × Opens Sort.stmt close (behind_in ls x)
+in_opens : (ls : List (Option (List ℕ))) (x : List ℕ) (close : List Token → List Token) → CanGoOn close Sort.stmt (after_in ls x) × Opens Sort.stmt close (after_in ls x)
 in_opens ls x close = (
   by_tokens (can_take (Sign sign.LeftBracket) refl can_read),
   (
@@ -46,13 +46,13 @@ in_opens ls x close = (
   ),
 )
 
-jump_opens : (ls : List (Option (List ℕ))) (f : Option (List ℕ) → Stmt) (close : List Token → List Token) → CanGoOn close Sort.stmt (behind_jump loose ls f) × Opens Sort.stmt close (behind_jump loose ls f)
+jump_opens : (ls : List (Option (List ℕ))) (f : Option (List ℕ) → Stmt) (close : List Token → List Token) → CanGoOn close Sort.stmt (after_jump loose ls f) × Opens Sort.stmt close (after_jump loose ls f)
 jump_opens ls f close = (
   by_tokens (can_miss {x = Sign sign.Semicolon} refl (can_miss refl (can_take (Sign sign.Semicolon) refl can_give))),
   ((λ y. (by_tokens (can_take (Sign sign.Semicolon) refl can_give), ((λ z. (by_tokens can_give, tt)), tt))), (tt, ((λ z. (by_tokens can_give, tt)), tt))),
 )
 
-pub all_open : (k : Kind) → Opens (sort k) (behind k) (grammar loose k)
+pub all_open : (k : Kind) → Opens (sort k) (after k) (grammar loose k)
 unfolding grammar
 all_open (Grammar.expression i) = λ a. ((λ x. (by_tokens can_read, λ b. tt)), tt)
 all_open (Grammar.conditional i) = λ a. ((λ x. (by_tokens can_read, λ b. ((λ y. (by_tokens can_read, λ c. tt)), tt))), tt)

@@ -7,8 +7,8 @@ use Rattle.moo_syntax_grammar.specs.Machine.{Reading, take, peek, Reads, takes, 
 use Rattle.moo_syntax_grammar.specs.Predictive.{grammar}
 use Rattle.moo_syntax_grammar.specs.Agree.{Agree, here, next}
 use Rattle.moo_syntax_grammar.specs.Size.{size}
-use Rattle.moo_syntax_grammar.proofs.MachineLemmas.{IsEnd, whole, behind as further, end_of_end, end_length, agree_next, reads_end, reads_once, reads_again}
-use Rattle.moo_syntax.specs.Outgrown.{AllPass, Certain, ends, takes as takes_certain, sees as sees_certain, misses as misses_certain, part, behind, Outgrows}
+use Rattle.moo_syntax_grammar.proofs.MachineLemmas.{IsEnd, whole, after as further, end_of_end, end_length, agree_next, reads_end, reads_once, reads_again}
+use Rattle.moo_syntax.specs.Outgrown.{AllPass, Certain, ends, takes as takes_certain, sees as sees_certain, misses as misses_certain, part, after, Outgrows}
 
 pub certain_end : {g : Rules} {s : Sort} {test : Of s → Bool} {p : Reading s} {ts at : List Token} → Certain g s test p ts at → IsEnd at ts
 certain_end (ends h n a) = whole
@@ -16,7 +16,7 @@ certain_end (takes_certain h c) = further (certain_end c)
 certain_end (sees_certain h c) = certain_end c
 certain_end (misses_certain h c) = certain_end c
 certain_end (part c a) = certain_end c
-certain_end {g} (behind d c) = end_of_end (certain_end c) (reads_end (grammar g) d)
+certain_end {g} (after d c) = end_of_end (certain_end c) (reads_end (grammar g) d)
 
 -- the first token is shared
 agree_first : {x : Token} {at ts us : List Token} → Agree at (x ∷ ts) us → (vs : List Token) × (us ≡ x ∷ vs)
@@ -37,7 +37,7 @@ grows (sees_certain {f = f} h c) a (misses i d) = let e = agree_next f a in absu
 grows (misses_certain {f = f} h c) a (sees i d) = let e = agree_next f a in absurd cc
 grows (misses_certain h c) a (misses i d) = grows c a d
 grows {r = r} {e = e} (part c all) a (reads {m = m} {a = b} y z) = all b (grows c a y) m e r z
-grows {g} {s} {r = r} {e = e} (behind {p = p} {a = x} b c) a (reads {m = n} y z) =
+grows {g} {s} {r = r} {e = e} (after {p = p} {a = x} b c) a (reads {m = n} y z) =
     let t = reads_again (grammar g) b (certain_end c) a in
     let o = reads_once (grammar g) t.1 y in
     grows c t.2 (subst (λ v. Reads (grammar g) s (p x) v e r) (sym o.1) (subst (λ v. Reads (grammar g) s (p v) n e r) (sym o.0) z))

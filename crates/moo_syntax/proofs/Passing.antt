@@ -9,7 +9,7 @@ use Rattle.moo_syntax_grammar.specs.Tokens.{is_bad, name_at, next_passes}
 use Rattle.moo_syntax_grammar.specs.Rules.{Rules, may_assign, may_jump}
 use Rattle.moo_syntax_grammar.specs.Grammar.{Sort, Of, Kind, expression, conditional, chain, more, operand, power, unary, postfix, suffixes, primary, arguments, members, codes, statement, statements, arms, handlers, label, in_parens, sort, has_optional}
 use Rattle.moo_syntax_grammar.specs.Machine.{Reading, give, refuse, forbid, take, peek, phrase, Reads, gives, takes, sees, misses, reads, Why, Fails, refuses, forbids, takes_fails, sees_fails, misses_fails, phrase_fails, then_fails}
-use Rattle.moo_syntax_grammar.specs.Predictive.{grammar, expect, allowed, if_optional, behind_brace, behind_jump, mark}
+use Rattle.moo_syntax_grammar.specs.Predictive.{grammar, expect, allowed, if_optional, after_brace, after_jump, mark}
 use Rattle.moo_syntax.specs.Programs.{AreSound}
 use Rattle.moo_syntax.specs.Stops.{Passes, none, one}
 
@@ -30,7 +30,7 @@ optional_takes : (o : Bool) (p q : Reading Sort.items) → TakesSound Sort.items
 optional_takes true p q m n = ((refl, λ x. m), n)
 optional_takes false p q m n = n
 
-brace_takes : (b : Bool) (e : Expr) → TakesSound Sort.expr false (behind_brace b e)
+brace_takes : (b : Bool) (e : Expr) → TakesSound Sort.expr false (after_brace b e)
 brace_takes true e = (tt, tt)
 brace_takes false e = tt
 
@@ -93,9 +93,9 @@ all_take g (statement ls) = (
     (
       (refl, λ x l a b. ((refl, λ x. tt), tt)),
       (
-        allowed_takes (may_jump g ls None) true (take λ _. behind_jump g ls breaks) (refl, λ x. ((refl, λ x. ((refl, λ x. tt), tt)), (tt, ((refl, λ x. tt), tt)))),
+        allowed_takes (may_jump g ls None) true (take λ _. after_jump g ls breaks) (refl, λ x. ((refl, λ x. ((refl, λ x. tt), tt)), (tt, ((refl, λ x. tt), tt)))),
         (
-          allowed_takes (may_jump g ls None) true (take λ _. behind_jump g ls continues) (refl, λ x. ((refl, λ x. ((refl, λ x. tt), tt)), (tt, ((refl, λ x. tt), tt)))),
+          allowed_takes (may_jump g ls None) true (take λ _. after_jump g ls continues) (refl, λ x. ((refl, λ x. ((refl, λ x. tt), tt)), (tt, ((refl, λ x. tt), tt)))),
           (
             (refl, λ x. ((refl, λ x. tt), λ a. ((refl, λ x. tt), tt))),
             ((refl, λ x b. ((refl, λ x c. ((refl, λ x. tt), tt)), λ h. ((refl, λ x. tt), tt))), λ a. ((refl, λ x. tt), tt)),

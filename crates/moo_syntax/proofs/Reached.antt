@@ -10,13 +10,13 @@ use Rattle.moo_syntax_grammar.specs.Machine.{Reading, Reads, Why, Fails, refuses
 use Rattle.moo_syntax_grammar.specs.Predictive.{grammar}
 use Rattle.moo_syntax_grammar.proofs.Leads.{Fact, Leads}
 use Rattle.moo_syntax_grammar.proofs.Derived.{all_lead, led, derived}
-use Rattle.moo_syntax_grammar.proofs.Endings.{behind, Ends, Ending, ending}
+use Rattle.moo_syntax_grammar.proofs.Endings.{after, Ends, Ending, ending}
 use Rattle.moo_syntax.specs.Programs.{SameBefore, BeginsSome}
 use Rattle.moo_syntax.proofs.Continued.{closed}
 use Rattle.moo_syntax_grammar.proofs.Ends.{all_end}
 use Rattle.moo_syntax.proofs.Openings.{CanGoOn, by_tokens, by_assign, Opens, all_open}
 use Rattle.moo_syntax.proofs.Swapped.{Swaps, at_rest, token, KeepsAssign, Needs, Replaced, replaced}
-use Rattle.moo_syntax.proofs.Rests.{before_behind}
+use Rattle.moo_syntax.proofs.Rests.{before_after}
 
 -- The second list begins with the tokens of the first before at, of which there is one.
 data Begins (at : List Token) : List Token → List Token → Type 0 where
@@ -64,9 +64,9 @@ needs Grammar.label m r h = tt
 needs Grammar.in_parens m r h = tt
 
 -- after a phrase that has got another rest
-begins_behind : {at m r ts us : List Token} → Swaps m r ts us → Begins at m r → Begins at ts us
-begins_behind at_rest b = b
-begins_behind (token s) b = more (begins_behind s b)
+begins_after : {at m r ts us : List Token} → Swaps m r ts us → Begins at m r → Begins at ts us
+begins_after at_rest b = b
+begins_after (token s) b = more (begins_after s b)
 
 begins_length : {at ts us : List Token} → Begins at ts us → length at < length ts
 begins_length last = omega arith
@@ -115,7 +115,7 @@ reached s close Q (misses_fails {f = f} h d) m o l =
       | inr u ↦ inr (record { tokens = u.tokens; given = u.given; begins = u.begins; holds = λ r. u.holds r (same_next f (u.begins r) ∙ h) })
     ]
 reached s close Q (phrase_fails {k = k} d) m o l =
-    elim (reached (sort k) (behind k) (Derives loose k) d (all_end loose k).ends (all_open k) (all_lead loose k).lead) [
+    elim (reached (sort k) (after k) (Derives loose k) d (all_end loose k).ends (all_open k) (all_lead loose k).lead) [
       | inl e ↦ inl e
       | inr u ↦
           let t = m.0 u.given in
@@ -125,19 +125,19 @@ reached s close Q {at = at} (then_fails {k = k} {ts = ts} {m = rest} {a = a} c d
     let t = m.0 a in
     elim (reached s close (λ m e r. (ts : List Token) → Derives loose k ts a m → Q ts e r) d (m.1 a) (o a) (l a)) [
       | inl e ↦
-          elim (begins_so (before_behind k c (t.rest [])).swaps) [
+          elim (begins_so (before_after k c (t.rest [])).swaps) [
             | inl f ↦ inl (e ∙ f)
             | inr b ↦
                 inr (record {
-                  tokens = λ r. (before_behind k c (t.rest r)).tokens;
+                  tokens = λ r. (before_after k c (t.rest r)).tokens;
                   given = t.given;
-                  begins = λ r. subst (λ v. Begins v ts (before_behind k c (t.rest r)).tokens) (sym e) (begins_still b (before_behind k c (t.rest r)).swaps);
-                  holds = λ r. t.holds r (before_behind k c (t.rest r)).tokens (before_behind k c (t.rest r)).holds;
+                  begins = λ r. subst (λ v. Begins v ts (before_after k c (t.rest r)).tokens) (sym e) (begins_still b (before_after k c (t.rest r)).swaps);
+                  holds = λ r. t.holds r (before_after k c (t.rest r)).tokens (before_after k c (t.rest r)).holds;
                 })
           ]
       | inr u ↦
           let v : (r : List Token) → Replaced loose k ts a rest (u.tokens r) = λ r. replaced (derived c) (u.tokens r) (needs k rest (u.tokens r) (keeps (u.begins r))) in
-          inr (record { tokens = λ r. (v r).tokens; given = u.given; begins = λ r. begins_behind (v r).swaps (u.begins r); holds = λ r. u.holds r (v r).tokens (v r).holds })
+          inr (record { tokens = λ r. (v r).tokens; given = u.given; begins = λ r. begins_after (v r).swaps (u.begins r); holds = λ r. u.holds r (v r).tokens (v r).holds })
     ]
 
 same_before : (n : ℕ) {at ts us : List Token} → Begins at ts us → length at + n ≡ length ts → SameBefore n ts us
@@ -152,21 +152,21 @@ swapped_before zero s h = refl
 swapped_before (suc n) at_rest h = absurd (omega (arith, h))
 swapped_before (suc n) (token {x = x} s) h = ap (λ v. x ∷ v) (swapped_before n s (omega (arith, h)))
 
-left_behind : (n : ℕ) (ts r : List Token) → n ≤ length ts → drop n ts ≡ r → length r + n ≡ length ts
-left_behind n ts r h e = omega (arith, h, ap length e, length-drop n ts)
+left_after : (n : ℕ) (ts r : List Token) → n ≤ length ts → drop n ts ≡ r → length r + n ≡ length ts
+left_after n ts r h e = omega (arith, h, ap length e, length-drop n ts)
 
 -- some program begins with the tokens before the place where the reading of statements gave up
 pub begins_until : {w : Why} (n : ℕ) {ts at : List Token} → n ≤ length ts → drop n ts ≡ at → Fails (grammar loose) w block (grammar loose (statements [])) ts at → BeginsSome loose ts n
 begins_until n {ts} {at} h is f =
     elim (reached block (λ r. r) (Derives loose (statements [])) f (all_end loose (statements [])).ends (all_open (statements [])) (all_lead loose (statements [])).lead) [
       | inl e ↦
-          let none : zero ≡ n = omega (arith, left_behind n ts at h is, ap length e) in
+          let none : zero ≡ n = omega (arith, left_after n ts at h is, ap length e) in
           record { tokens = []; tree = no_statement; same = subst (λ k. first k [] ≡ first k ts) none refl; program = no_statements }
-      | inr u ↦ record { tokens = u.tokens []; tree = u.given; same = same_before n (u.begins []) (left_behind n ts at h is); program = u.holds [] }
+      | inr u ↦ record { tokens = u.tokens []; tree = u.given; same = same_before n (u.begins []) (left_after n ts at h is); program = u.holds [] }
     ]
 
 -- and with those before the place where it ended
 pub begins_before_rest : (n : ℕ) {ts at : List Token} {b : Block} → n ≤ length ts → drop n ts ≡ at → Reads (grammar loose) block (grammar loose (statements [])) ts b at → BeginsSome loose ts n
 begins_before_rest n {ts} {at} {b} h is d =
     let t = replaced (derived d) [] tt in
-    record { tokens = t.tokens; tree = b; same = swapped_before n t.swaps (left_behind n ts at h is); program = t.holds }
+    record { tokens = t.tokens; tree = b; same = swapped_before n t.swaps (left_after n ts at h is); program = t.holds }

@@ -1,4 +1,4 @@
--- A phrase that was read is one, too, before the tokens that `behind` names for its kind.
+-- A phrase that was read is one, too, before the tokens that `after` names for its kind.
 use Rattle.std.proofs.Common.{List, [], ◌∷◌, ◌≡◌, refl, subst, Bool, true, false, ◌||◌}
 use Rattle.moo_syntax_token.specs.declared.sign.Sign.TheVariants as sign
 use Rattle.moo_syntax_token.specs.declared.keyword.Keyword.TheVariants as keyword
@@ -13,7 +13,7 @@ use Rattle.moo_syntax_grammar.specs.Machine.{Reading, give, refuse, forbid, take
 use Rattle.moo_syntax_grammar.specs.Predictive.{grammar}
 use Rattle.moo_syntax_grammar.proofs.Leads.{sign_is}
 use Rattle.moo_syntax_grammar.proofs.Derived.{derived}
-use Rattle.moo_syntax_grammar.proofs.Endings.{behind}
+use Rattle.moo_syntax_grammar.proofs.Endings.{after}
 use Rattle.moo_syntax.proofs.Swapped.{KeepsAssign, Replaced, at_rest, stays, joins, replaced}
 
 -- no `=` comes next
@@ -86,24 +86,24 @@ unfolding grammar
 arguments_replaced i o r (sees h gives) = stays [] Grammar.no_arguments
 arguments_replaced i o {m = m} r (misses h (reads c gives)) = joins [] at_rest (replaced (derived c) r (never m r (members_end i o c))) (λ us x. Grammar.some_arguments x)
 
--- before what `behind` names for the kind, and any rest
-pub before_behind : (k : Kind) {ts m : List Token} {e : Of (sort k)} → Reads (grammar loose) (sort k) (grammar loose k) ts e m → (r : List Token) → Replaced loose k ts e m (behind k r)
-before_behind (Grammar.expression i) {m = m} d r = replaced (derived d) r (never m r (expression_ends i d))
-before_behind (Grammar.conditional i) d r = replaced (derived d) _ (λ e. refl)
-before_behind (Grammar.chain i l) d r = replaced (derived d) _ (λ e. refl)
-before_behind (Grammar.more i l a) d r = replaced (derived d) _ (λ e. refl)
-before_behind (Grammar.operand i l) d r = replaced (derived d) _ (λ e. refl)
-before_behind (Grammar.power i) d r = replaced (derived d) _ (λ e. refl)
-before_behind (Grammar.unary i) d r = replaced (derived d) _ (λ e. refl)
-before_behind (Grammar.postfix i) d r = replaced (derived d) _ (λ e. refl)
-before_behind (Grammar.suffixes i a) d r = replaced (derived d) _ (λ e. refl)
-before_behind (Grammar.primary i) d r = replaced (derived d) _ (λ e. refl)
-before_behind (Grammar.arguments i o) d r = arguments_replaced i o r d
-before_behind (Grammar.members i o) {m = m} d r = replaced (derived d) r (never m r (members_end i o d))
-before_behind (Grammar.codes i) d r = codes_replaced i r d
-before_behind (Grammar.statement ls) d r = replaced (derived d) r tt
-before_behind (Grammar.statements ls) d r = replaced (derived d) r tt
-before_behind (Grammar.arms ls) d r = replaced (derived d) r tt
-before_behind (Grammar.handlers ls) d r = replaced (derived d) r tt
-before_behind Grammar.label d r = replaced (derived d) r tt
-before_behind Grammar.in_parens d r = replaced (derived d) r tt
+-- before what `after` names for the kind, and any rest
+pub before_after : (k : Kind) {ts m : List Token} {e : Of (sort k)} → Reads (grammar loose) (sort k) (grammar loose k) ts e m → (r : List Token) → Replaced loose k ts e m (after k r)
+before_after (Grammar.expression i) {m = m} d r = replaced (derived d) r (never m r (expression_ends i d))
+before_after (Grammar.conditional i) d r = replaced (derived d) _ (λ e. refl)
+before_after (Grammar.chain i l) d r = replaced (derived d) _ (λ e. refl)
+before_after (Grammar.more i l a) d r = replaced (derived d) _ (λ e. refl)
+before_after (Grammar.operand i l) d r = replaced (derived d) _ (λ e. refl)
+before_after (Grammar.power i) d r = replaced (derived d) _ (λ e. refl)
+before_after (Grammar.unary i) d r = replaced (derived d) _ (λ e. refl)
+before_after (Grammar.postfix i) d r = replaced (derived d) _ (λ e. refl)
+before_after (Grammar.suffixes i a) d r = replaced (derived d) _ (λ e. refl)
+before_after (Grammar.primary i) d r = replaced (derived d) _ (λ e. refl)
+before_after (Grammar.arguments i o) d r = arguments_replaced i o r d
+before_after (Grammar.members i o) {m = m} d r = replaced (derived d) r (never m r (members_end i o d))
+before_after (Grammar.codes i) d r = codes_replaced i r d
+before_after (Grammar.statement ls) d r = replaced (derived d) r tt
+before_after (Grammar.statements ls) d r = replaced (derived d) r tt
+before_after (Grammar.arms ls) d r = replaced (derived d) r tt
+before_after (Grammar.handlers ls) d r = replaced (derived d) r tt
+before_after Grammar.label d r = replaced (derived d) r tt
+before_after Grammar.in_parens d r = replaced (derived d) r tt

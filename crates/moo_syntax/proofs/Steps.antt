@@ -16,7 +16,7 @@ use Rattle.moo_syntax_grammar.specs.Depth.{Deep}
 use Rattle.moo_syntax_grammar.specs.Tokens.{is_sign, next_passes}
 use Rattle.moo_syntax_grammar.specs.Grammar.{Sort, Of, Kind, unary, members, sort}
 use Rattle.moo_syntax_grammar.specs.Machine.{Reading, refuse, peek, take, Reads, gives, takes, sees, misses, reads, Why, by_form, Fails, refuses, takes_fails, sees_fails, misses_fails, phrase_fails}
-use Rattle.moo_syntax_grammar.specs.Predictive.{grammar, allowed, after_member, if_optional, behind_brace}
+use Rattle.moo_syntax_grammar.specs.Predictive.{grammar, allowed, after_member, if_optional, after_brace}
 use Rattle.moo_syntax_grammar.specs.Size.{size}
 use Rattle.moo_syntax_grammar.proofs.Complete.{allowed_reads}
 use Rattle.moo_syntax_grammar.proofs.Kept.{allowed_fails}
@@ -233,15 +233,15 @@ expected {r = r} {e = e} keeps (sees h (takes {ts = us} d)) = (keeps us).too_hig
 expected keeps (misses h d) = elim d [ ]
 
 -- the token after the items of braces
-pub brace_ends : {y : (k : Kind) → Reading (sort k)} (b : Bool) {e : Expr} {ts : List Token} → (b ≡ true → next_passes (is_sign Assign) ts ≡ true) → Reads y Sort.expr (behind_brace b e) ts e ts
+pub brace_ends : {y : (k : Kind) → Reading (sort k)} (b : Bool) {e : Expr} {ts : List Token} → (b ≡ true → next_passes (is_sign Assign) ts ≡ true) → Reads y Sort.expr (after_brace b e) ts e ts
 brace_ends true h = sees (h refl) gives
 brace_ends false h = gives
 
-pub brace_fails : {y : (k : Kind) → Reading (sort k)} (b : Bool) (e : Expr) {ts : List Token} → b ≡ true → next_passes (is_sign Assign) ts ≡ false → Fails y by_form Sort.expr (behind_brace b e) ts ts
+pub brace_fails : {y : (k : Kind) → Reading (sort k)} (b : Bool) (e : Expr) {ts : List Token} → b ≡ true → next_passes (is_sign Assign) ts ≡ false → Fails y by_form Sort.expr (after_brace b e) ts ts
 brace_fails true e is h = misses_fails h refuses
 brace_fails false e is h = absurd cc
 
-pub brace_keeps : (b : Bool) (e : Expr) (Q : Expr → Type 0) → Q e → Meets Sort.expr (behind_brace b e) Q
+pub brace_keeps : (b : Bool) (e : Expr) (Q : Expr → Type 0) → Q e → Meets Sort.expr (after_brace b e) Q
 brace_keeps true e Q m = (m, tt)
 brace_keeps false e Q m = m
 

@@ -13,7 +13,7 @@ use Rattle.moo_syntax_grammar.specs.Machine.{by_rule, Fails}
 use Rattle.moo_syntax_grammar.specs.Predictive.{grammar}
 use Rattle.moo_syntax_grammar.proofs.Admitted.{admitted, loose_admits}
 use Rattle.moo_syntax.specs.Places.{IsCalled, is_jump}
-use Rattle.moo_syntax.specs.Ground.{of_value, outside, ground_behind, ground_at}
+use Rattle.moo_syntax.specs.Ground.{of_value, outside, ground_after, ground_at}
 use Rattle.moo_syntax.specs.Programs.{with_targets, with_functions, with_loops, AssignsNoTarget, IsBadJump, outside_loops, of_no_loop}
 use Rattle.moo_syntax.proofs.Walks.{Place, Wrong, at_target, at_call, at_jump, at_label}
 use Rattle.moo_syntax.proofs.AllWalks.{rule_stops}
@@ -39,7 +39,7 @@ module _ (spots : List Spot) (at : ℕ) (within : at ≤ length spots) where
   no_target_there : (p : Place (words spots)) → p.rest ≡ words (drop at spots) → next_passes (is_sign Assign) (words (drop at spots)) ≡ true → Wrong with_targets (words spots) p → AssignsNoTarget spots at
   no_target_there p is h (at_target b i a free d wrong) = record {
     before = length b.front;
-    free = subst (λ ts. (ground_behind outside ts).naming ≡ of_value) (sym (front_is b)) free;
+    free = subst (λ ts. (ground_after outside ts).naming ≡ of_value) (sym (front_is b)) free;
     inside = i;
     value = a;
     read = admitted (loose_admits with_targets) (subst (λ v. Derives with_targets (conditional i) (words (drop (length b.front) spots)) a v) is (subst (λ v. Derives with_targets (conditional i) v a p.rest) (sym (rest_of b)) d));
@@ -53,7 +53,7 @@ module _ (spots : List Spot) (at : ℕ) (within : at ≤ length spots) where
   free_there : (names : Names) (s : List ℕ) (c : IsCalled spots at s) (p : Place (words spots)) → p.rest ≡ words (drop at spots) → Wrong (with_functions names) (words spots) p → (ground_at spots c.before).naming ≡ of_value
   free_there names s c p is (at_call b x free e wrong) =
       let before : length b.front ≡ c.before = omega (arith, length_is b, length_is p, at_front p is, ap length e, c.place) in
-      subst (λ n. (ground_behind outside (take n (words spots))).naming ≡ of_value) before (subst (λ ts. (ground_behind outside ts).naming ≡ of_value) (sym (front_is b)) free)
+      subst (λ n. (ground_after outside (take n (words spots))).naming ≡ of_value) before (subst (λ ts. (ground_after outside ts).naming ≡ of_value) (sym (front_is b)) free)
   free_there names s c p is (at_target b i a free d wrong) = absurd cc
   free_there names s c p is (at_jump e wrong) = absurd cc
   free_there names s c p is (at_label b x t r j e i wrong) = absurd cc
@@ -61,11 +61,11 @@ module _ (spots : List Spot) (at : ℕ) (within : at ≤ length spots) where
   bad_jump_there : (p : Place (words spots)) → p.rest ≡ words (drop at spots) → Wrong with_loops (words spots) p → IsBadJump spots at
   bad_jump_there p is (at_jump h wrong) =
       let front : take at (words spots) ≡ p.front = subst (λ n. take n (words spots) ≡ p.front) (at_front p is) (front_is p) in
-      outside_loops (subst (λ v. next_passes is_jump v ≡ true) is h) (subst (λ ts. has_loop (ground_behind outside ts).loops None ≡ false) (sym front) wrong)
+      outside_loops (subst (λ v. next_passes is_jump v ≡ true) is h) (subst (λ ts. has_loop (ground_after outside ts).loops None ≡ false) (sym front) wrong)
   bad_jump_there p is (at_label b x s r j e i wrong) =
       let front : take at (words spots) ≡ p.front = subst (λ n. take n (words spots) ≡ p.front) (at_front p is) (front_is p) in
       let before : length b.front + 1 ≡ at = omega (arith, length_is b, length_is p, at_front p is, ap length e) in
-      subst (IsBadJump spots) before (of_no_loop (length b.front) {rest = r} j (rest_of b ∙ e ∙ ap (λ v. x ∷ v) i) (subst (λ n. has_loop (ground_at spots n).loops (Some s) ≡ false) (sym before) (subst (λ ts. has_loop (ground_behind outside ts).loops (Some s) ≡ false) (sym front) wrong)))
+      subst (IsBadJump spots) before (of_no_loop (length b.front) {rest = r} j (rest_of b ∙ e ∙ ap (λ v. x ∷ v) i) (subst (λ n. has_loop (ground_at spots n).loops (Some s) ≡ false) (sym before) (subst (λ ts. has_loop (ground_after outside ts).loops (Some s) ≡ false) (sym front) wrong)))
   bad_jump_there p is (at_target b i a free d wrong) = absurd cc
   bad_jump_there p is (at_call b s free e wrong) = absurd cc
 

@@ -128,17 +128,17 @@ drop_next (suc n) [] e = absurd cc
 drop_next (suc n) (y ∷ ts) e = drop_next n ts e
 
 -- the token after the first of two tokens
-next_behind : (n : ℕ) (ss : List Spot) {x y : Token} {r : List Token} → words (drop n ss) ≡ x ∷ y ∷ r → HasNext (words (drop (n + 1) ss))
-next_behind n ss {y = y} {r = r} e =
+next_after : (n : ℕ) (ss : List Spot) {x y : Token} {r : List Token} → words (drop n ss) ≡ x ∷ y ∷ r → HasNext (words (drop (n + 1) ss))
+next_after n ss {y = y} {r = r} e =
     let one : n + 1 ≡ suc n = omega arith in
     (y, r, subst (λ k. words (drop k ss) ≡ y ∷ r) (sym one) (words_drop (suc n) ss ∙ drop_next n (words ss) (sym (words_drop n ss) ∙ e)))
 
 called_next : (spots : List Spot) (at : ℕ) {s : List ℕ} → IsCalled spots at s → HasNext (words (drop at spots))
-called_next spots at c = subst (λ n. HasNext (words (drop n spots))) (sym c.place) (next_behind c.before spots c.called)
+called_next spots at c = subst (λ n. HasNext (words (drop n spots))) (sym c.place) (next_after c.before spots c.called)
 
 jump_next : (spots : List Spot) (at : ℕ) → IsJump spots at → HasNext (words (drop at spots))
 jump_next spots at (at_keyword h) = next_of is_jump (words (drop at spots)) h
-jump_next spots at (at_name before h e) = next_behind before spots e
+jump_next spots at (at_name before h e) = next_after before spots e
 
 pub targets_admit : (names : Names) → Admits with_targets (strict names)
 targets_admit names = record { targets = λ e. refl; functions = λ s e. refl; loops = λ e. absurd cc }
@@ -196,13 +196,13 @@ module _ (names : Names) (spots : List Spot) (old new : Cursor) (from : left old
   }
   stop_of TooDeep z w =
       let within : new.at ≤ length (words spots) = omega (arith, reached, words_length spots) in
-      let behind = sym (words_drop new.at spots) in
+      let after = sym (words_drop new.at spots) in
       let deep = high_at w in
-      let each = each_before loose new.at within behind deep in
+      let each = each_before loose new.at within after deep in
       record {
         within = reached;
         outside = λ b e l. let h = each (words spots) b refl (admitted (loose_admits (strict names)) e) in omega (arith, h, l.program.nodes);
-        exceeds = by_nodes (omega (arith, w.long refl, z)) each (begins_before loose new.at within behind deep);
+        exceeds = by_nodes (omega (arith, w.long refl, z)) each (begins_before loose new.at within after deep);
       }
   stop_of Memory z w = tt
 

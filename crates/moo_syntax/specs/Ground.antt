@@ -24,14 +24,14 @@ pub record Ground : Type 0 where
 abbrev pub outside : Ground
 outside = record { naming = of_value; loops = [] }
 
-abbrev pub naming_behind : Token → Naming
-naming_behind (Sign Dot) = of_member
-naming_behind (Sign Colon) = of_member
-naming_behind (Sign Dollar) = of_member
-naming_behind (Keyword Except) = of_member
-naming_behind (Keyword For) = of_loop
-naming_behind (Keyword While) = of_loop
-naming_behind _ = of_value
+abbrev pub naming_after : Token → Naming
+naming_after (Sign Dot) = of_member
+naming_after (Sign Colon) = of_member
+naming_after (Sign Dollar) = of_member
+naming_after (Keyword Except) = of_member
+naming_after (Keyword For) = of_loop
+naming_after (Keyword While) = of_loop
+naming_after _ = of_value
 
 -- the loops without the innermost
 abbrev pub outer : List (Option (List ℕ)) → List (Option (List ℕ))
@@ -44,19 +44,19 @@ named_loops of_loop x ls = Some x ∷ outer ls
 named_loops of_value x ls = ls
 named_loops of_member x ls = ls
 
-abbrev pub loops_behind : Ground → Token → List (Option (List ℕ))
-loops_behind g (Keyword For) = None ∷ g.loops
-loops_behind g (Keyword While) = None ∷ g.loops
-loops_behind g (Name x) = named_loops g.naming x g.loops
-loops_behind g (Keyword EndFor) = outer g.loops
-loops_behind g (Keyword EndWhile) = outer g.loops
-loops_behind g _ = g.loops
+abbrev pub loops_after : Ground → Token → List (Option (List ℕ))
+loops_after g (Keyword For) = None ∷ g.loops
+loops_after g (Keyword While) = None ∷ g.loops
+loops_after g (Name x) = named_loops g.naming x g.loops
+loops_after g (Keyword EndFor) = outer g.loops
+loops_after g (Keyword EndWhile) = outer g.loops
+loops_after g _ = g.loops
 
 -- the ground after the tokens, from the ground before them
-abbrev pub ground_behind : Ground → List Token → Ground
-ground_behind g [] = g
-ground_behind g (x ∷ ts) = ground_behind (record { naming = naming_behind x; loops = loops_behind g x }) ts
+abbrev pub ground_after : Ground → List Token → Ground
+ground_after g [] = g
+ground_after g (x ∷ ts) = ground_after (record { naming = naming_after x; loops = loops_after g x }) ts
 
 -- the ground at the place, from the tokens before it
 abbrev pub ground_at : List Spot → ℕ → Ground
-ground_at spots n = ground_behind outside (take n (words spots))
+ground_at spots n = ground_after outside (take n (words spots))

@@ -12,7 +12,7 @@ use Rattle.moo_syntax_grammar.specs.Rules.{Rules, Admits, strict, may_call}
 use Rattle.moo_syntax_grammar.specs.Grammar.{Sort, Of, Kind, sort, expression, power, members, text}
 use Rattle.moo_syntax_grammar.specs.Machine.{Reading, give, phrase, Reads, Why, by_form, by_rule, Fails}
 use Rattle.moo_syntax_grammar.specs.Tokens.{next_passes, is_sign}
-use Rattle.moo_syntax_grammar.specs.Predictive.{grammar, if_name, expect, after_member, behind_question}
+use Rattle.moo_syntax_grammar.specs.Predictive.{grammar, if_name, expect, after_member, after_question}
 use Rattle.moo_syntax_grammar.specs.Items.{item_height}
 use Rattle.moo_syntax_grammar.specs.Size.{size}
 use Rattle.moo_syntax_grammar.specs.Depth.{Deep}
@@ -83,8 +83,8 @@ abbrev pub HasFailed : Names → Kind → ℕ → Cursor → Cursor → Fault �
 HasFailed names k room old new f = HasFailedBy names true (sort k) (λ g. grammar g k) room 0 old new f
 
 -- the token was the last to be taken
-abbrev pub IsBehind : Token → Cursor → Type 0
-IsBehind x new = (old : Cursor) × Takes x old new
+abbrev pub IsAfter : Token → Cursor → Type 0
+IsAfter x new = (old : Cursor) × Takes x old new
 
 -- if a phrase of kind j begins at us, one of kind k begins at ts, with f applied to its tree
 pub record GoesOn (names : Names) (k j : Kind) (f : Of (sort j) → Of (sort k)) (ts us : List Token) : Type 0 where
@@ -127,6 +127,6 @@ pub record IsMember (names : Names) (i o : Bool) (room : ℕ) (old new : Cursor)
 
 -- a piece was read after its `?`, of which the comma or the end is still to come
 pub record IsPiece (names : Names) (i : Bool) (room : ℕ) (old new : Cursor) (item : Item) : Type 0 where
-  pub leads : LeadsTo names Sort.items (λ g. behind_question i) (λ g. after_member i true (with_item item)) (left old) (left new)
+  pub leads : LeadsTo names Sort.items (λ g. after_question i) (λ g. after_member i true (with_item item)) (left old) (left new)
   pub fits : item_height item ≤ room
   pub tokens : old.at + item_height item ≤ new.at

@@ -36,7 +36,7 @@ pub data Certain (g : Rules) : (s : Sort) → (Of s → Bool) → Reading s → 
   -- a phrase whose tree passes a test, so that the whole tree passes this one
   part : {s : Sort} {test : Of s → Bool} {k : Kind} {inner : Of (sort k) → Bool} {p : Of (sort k) → Reading s} {ts at : List Token} → Certain g (sort k) inner (grammar g k) ts at → ((a : Of (sort k)) → inner a ≡ true → AllPass g s test (p a)) → Certain g s test (phrase k p) ts at
   -- after a phrase that was read
-  behind : {s : Sort} {test : Of s → Bool} {k : Kind} {p : Of (sort k) → Reading s} {ts m at : List Token} {a : Of (sort k)} → Reads (grammar g) (sort k) (grammar g k) ts a m → Certain g s test (p a) m at → Certain g s test (phrase k p) ts at
+  after : {s : Sort} {test : Of s → Bool} {k : Kind} {p : Of (sort k) → Reading s} {ts m at : List Token} {a : Of (sort k)} → Reads (grammar g) (sort k) (grammar g k) ts a m → Certain g s test (p a) m at → Certain g s test (phrase k p) ts at
 
 -- `at` begins with the last token that was taken, and whatever follows it, the tree is higher than n
 abbrev pub Outgrows : Rules → (s : Sort) → ℕ → Reading s → List Token → List Token → Type 0

@@ -41,8 +41,8 @@ handlers_before [] hs = hs
 handlers_before (h ∷ front) hs = with_handler h (handlers_before front hs)
 
 -- the reading after the bracket of a `for`
-abbrev pub behind_range : List (Option (List ℕ)) → List ℕ → Reading Sort.stmt
-behind_range ls x = phrase (expression false) λ a. expect DotDot (phrase (expression false) λ b. expect RightBracket (phrase (statements (Some x ∷ ls)) λ c. expect_keyword EndFor (give (for_range x a b c))))
+abbrev pub after_range : List (Option (List ℕ)) → List ℕ → Reading Sort.stmt
+after_range ls x = phrase (expression false) λ a. expect DotDot (phrase (expression false) λ b. expect RightBracket (phrase (statements (Some x ∷ ls)) λ c. expect_keyword EndFor (give (for_range x a b c))))
 
 -- an expression as a statement
 abbrev pub performing : Reading Sort.stmt

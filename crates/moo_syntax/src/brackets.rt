@@ -2,15 +2,15 @@
 ghost use Rattle.std.specs.Prelude.{◌≡◌, ◌<◌, ◌≤◌, ◌+◌, length, take, MatchOption};
 ghost use Rattle.moo_syntax_ast.specs.Limits.{most_brackets};
 ghost use Rattle.moo_syntax_grammar.specs.Tokens.{words};
-ghost use Rattle.moo_syntax_grammar.specs.Brackets.{open_behind, most_open};
+ghost use Rattle.moo_syntax_grammar.specs.Brackets.{open_after, most_open};
 
 use moo_syntax_ast::MOST_BRACKETS;
 use moo_syntax_token::{Sign, Spot, Token};
 
 /// Returns how many brackets are open after the token.
-fn open_behind(opened: u32, token: &Token) -> u32
+fn open_after(opened: u32, token: &Token) -> u32
     requires { opened ≤ most_brackets }
-    ensures { result ≡ open_behind opened token.now }
+    ensures { result ≡ open_after opened token.now }
 {
     match token {
         Token::Sign(Sign::LeftParen | Sign::LeftBracket | Sign::LeftBrace) => opened + 1,
@@ -28,7 +28,7 @@ pub fn bracket_too_many(spots: &[Spot]) -> Option<usize>
 {
     let mut opened = 0;
     for (at, spot) in spots.iter().enumerate() {
-        opened = open_behind(opened, &spot.token);
+        opened = open_after(opened, &spot.token);
         if opened > MOST_BRACKETS {
             return Some(at);
         }

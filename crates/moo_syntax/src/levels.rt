@@ -12,7 +12,7 @@ ghost use Rattle.moo_syntax.specs.Outcome.{Moves, IsRead, IsReadBy, HasFailed, H
 
 use crate::cursor::Cursor;
 use crate::fault::Fault;
-use crate::make::{behind_minuses, below, beside, join, negate_times, node_over};
+use crate::make::{after_minuses, below, beside, join, negate_times, node_over};
 use crate::node::Node;
 use crate::place::Place;
 use crate::postfix::postfix;
@@ -230,7 +230,7 @@ fn unary(alloc: Global, tokens: &mut Cursor, place: Place, room: u32) -> Result<
         return unsigned(alloc, tokens, place, room);
     }
     let minuses = tokens.take_minuses();
-    let operand = unsigned(alloc, tokens, place, behind_minuses(minuses, room))?;
+    let operand = unsigned(alloc, tokens, place, after_minuses(minuses, room))?;
     negate_times(alloc, minuses, operand, room)
 }
 

@@ -39,7 +39,7 @@ pub fn beside(height: u32, room: u32) -> Result<u32, Fault>
 
 /// Returns how many nodes a path may have after these minuses, if it may have `room` from the first minus on. A number
 /// absorbs its minuses, so that it fits after any of them.
-pub fn behind_minuses(minuses: usize, room: u32) -> u32
+pub fn after_minuses(minuses: usize, room: u32) -> u32
     ensures { result ≡ max (room - minuses) (min room 1) }
 {
     let minuses = u32::try_from(minuses).unwrap_or(room);

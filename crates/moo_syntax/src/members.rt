@@ -3,7 +3,7 @@ ghost use Rattle.std.specs.Prelude.{true, IfOk, IfErr};
 ghost use Rattle.moo_syntax_ast.specs.Limits.{height};
 ghost use Rattle.moo_syntax_ast.specs.View.{items_of};
 ghost use Rattle.moo_syntax_grammar.specs.Grammar.{expression, arguments, members, items};
-ghost use Rattle.moo_syntax_grammar.specs.Predictive.{behind_question};
+ghost use Rattle.moo_syntax_grammar.specs.Predictive.{after_question};
 ghost use Rattle.moo_syntax.specs.Outcome.{Moves, IsRead, HasFailed, HasFailedBy, IsMember, IsPiece};
 
 use crate::cursor::Cursor;
@@ -78,7 +78,7 @@ fn member(
         });
     }
     if tokens.take_where(optional, Sign::Question) {
-        return behind_question(alloc, tokens, place, room);
+        return after_question(alloc, tokens, place, room);
     }
     let Node { tree, height } = expression(alloc, tokens, place, room)?;
     Ok(Member {
@@ -88,7 +88,7 @@ fn member(
 }
 
 #[cycle(parser)]
-fn behind_question(
+fn after_question(
     alloc: Global,
     tokens: &mut Cursor,
     place: Place,
@@ -96,7 +96,7 @@ fn behind_question(
 ) -> Result<Member, Fault>
     ensures moves { Moves tokens.old tokens.new }
     ensures read { IfOk result (λ m. IsPiece place.names place.inside room tokens.old tokens.new m.item) }
-    ensures failed { IfErr result (λ f. HasFailedBy place.names true items (λ g. behind_question place.inside) room 0 tokens.old tokens.new f) }
+    ensures failed { IfErr result (λ f. HasFailedBy place.names true items (λ g. after_question place.inside) room 0 tokens.old tokens.new f) }
 {
     let Some(name) = tokens.take_name()? else {
         return Err(Fault::Unexpected);

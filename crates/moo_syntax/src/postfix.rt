@@ -3,7 +3,7 @@ ghost use Rattle.std.specs.Prelude.{◌+◌, ◌≤◌, true, false, IfOk, IfErr
 ghost use Rattle.moo_syntax_ast.specs.Limits.{height};
 ghost use Rattle.moo_syntax_ast.specs.View.{root};
 ghost use Rattle.moo_syntax_grammar.specs.Grammar.{expression, postfix, suffixes, primary, arguments, members, expr, items};
-ghost use Rattle.moo_syntax_grammar.specs.Predictive.{grammar, behind_dot, behind_colon, behind_bracket};
+ghost use Rattle.moo_syntax_grammar.specs.Predictive.{grammar, after_dot, after_colon, after_bracket};
 ghost use Rattle.moo_syntax.specs.Outcome.{Moves, IsRead, IsReadBy, HasFailed, HasFailedBy, IsNamed, IsUnnamed};
 
 use crate::cursor::Cursor;
@@ -43,19 +43,19 @@ fn suffixes(
     ensures failed { IfErr result (λ f. HasFailedBy place.names true expr (λ g. grammar g (suffixes place.inside (root base.tree))) room (height (root base.tree)) tokens.old tokens.new f) }
 {
     if tokens.take(Sign::Dot) {
-        return behind_dot(alloc, tokens, base, place, room);
+        return after_dot(alloc, tokens, base, place, room);
     }
     if tokens.take(Sign::Colon) {
-        return behind_colon(alloc, tokens, base, place, room);
+        return after_colon(alloc, tokens, base, place, room);
     }
     if tokens.take(Sign::LeftBracket) {
-        return behind_bracket(alloc, tokens, base, place, room);
+        return after_bracket(alloc, tokens, base, place, room);
     }
     Ok(base)
 }
 
 #[cycle(parser)]
-fn behind_dot(
+fn after_dot(
     alloc: Global,
     tokens: &mut Cursor,
     base: Node,
@@ -64,8 +64,8 @@ fn behind_dot(
 ) -> Result<Node, Fault>
     requires { base.height ≤ room }
     ensures moves { Moves tokens.old tokens.new }
-    ensures read { IfOk result (λ n. IsReadBy place.names expr (λ g. behind_dot place.inside (root base.tree)) room (height (root base.tree) + 1) tokens.old tokens.new (root n.tree)) }
-    ensures failed { IfErr result (λ f. HasFailedBy place.names false expr (λ g. behind_dot place.inside (root base.tree)) room (height (root base.tree) + 1) tokens.old tokens.new f) }
+    ensures read { IfOk result (λ n. IsReadBy place.names expr (λ g. after_dot place.inside (root base.tree)) room (height (root base.tree) + 1) tokens.old tokens.new (root n.tree)) }
+    ensures failed { IfErr result (λ f. HasFailedBy place.names false expr (λ g. after_dot place.inside (root base.tree)) room (height (root base.tree) + 1) tokens.old tokens.new f) }
 {
     let room_beside = beside(base.height, room)?;
     let name = member_name(alloc, tokens, place, room_beside)?;
@@ -75,7 +75,7 @@ fn behind_dot(
 }
 
 #[cycle(parser)]
-fn behind_colon(
+fn after_colon(
     alloc: Global,
     tokens: &mut Cursor,
     base: Node,
@@ -84,8 +84,8 @@ fn behind_colon(
 ) -> Result<Node, Fault>
     requires { base.height ≤ room }
     ensures moves { Moves tokens.old tokens.new }
-    ensures read { IfOk result (λ n. IsReadBy place.names expr (λ g. behind_colon place.inside (root base.tree)) room (height (root base.tree) + 1) tokens.old tokens.new (root n.tree)) }
-    ensures failed { IfErr result (λ f. HasFailedBy place.names false expr (λ g. behind_colon place.inside (root base.tree)) room (height (root base.tree) + 1) tokens.old tokens.new f) }
+    ensures read { IfOk result (λ n. IsReadBy place.names expr (λ g. after_colon place.inside (root base.tree)) room (height (root base.tree) + 1) tokens.old tokens.new (root n.tree)) }
+    ensures failed { IfErr result (λ f. HasFailedBy place.names false expr (λ g. after_colon place.inside (root base.tree)) room (height (root base.tree) + 1) tokens.old tokens.new f) }
 {
     let room_beside = beside(base.height, room)?;
     let name = member_name(alloc, tokens, place, room_beside)?;
@@ -119,7 +119,7 @@ fn member_name(alloc: Global, tokens: &mut Cursor, place: Place, room: u32) -> R
 }
 
 #[cycle(parser)]
-fn behind_bracket(
+fn after_bracket(
     alloc: Global,
     tokens: &mut Cursor,
     base: Node,
@@ -128,8 +128,8 @@ fn behind_bracket(
 ) -> Result<Node, Fault>
     requires { base.height ≤ room }
     ensures moves { Moves tokens.old tokens.new }
-    ensures read { IfOk result (λ n. IsReadBy place.names expr (λ g. behind_bracket place.inside (root base.tree)) room (height (root base.tree) + 1) tokens.old tokens.new (root n.tree)) }
-    ensures failed { IfErr result (λ f. HasFailedBy place.names false expr (λ g. behind_bracket place.inside (root base.tree)) room (height (root base.tree) + 1) tokens.old tokens.new f) }
+    ensures read { IfOk result (λ n. IsReadBy place.names expr (λ g. after_bracket place.inside (root base.tree)) room (height (root base.tree) + 1) tokens.old tokens.new (root n.tree)) }
+    ensures failed { IfErr result (λ f. HasFailedBy place.names false expr (λ g. after_bracket place.inside (root base.tree)) room (height (root base.tree) + 1) tokens.old tokens.new f) }
 {
     let room_beside = beside(base.height, room)?;
     let index = Place {

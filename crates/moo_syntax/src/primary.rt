@@ -4,8 +4,8 @@ ghost use Rattle.moo_syntax_token.specs.declared.token.Token.TheVariants as toke
 ghost use Rattle.moo_syntax_ast.specs.Limits.{height};
 ghost use Rattle.moo_syntax_ast.specs.View.{root, codes_of};
 ghost use Rattle.moo_syntax_grammar.specs.Grammar.{expression, primary, arguments, members, codes, expr, items};
-ghost use Rattle.moo_syntax_grammar.specs.Predictive.{named, braced, dollar, behind_dollar, guarded};
-ghost use Rattle.moo_syntax.specs.Outcome.{Moves, IsRead, IsReadBy, HasFailed, HasFailedBy, IsBehind};
+ghost use Rattle.moo_syntax_grammar.specs.Predictive.{named, braced, dollar, after_dollar, guarded};
+ghost use Rattle.moo_syntax.specs.Outcome.{Moves, IsRead, IsReadBy, HasFailed, HasFailedBy, IsAfter};
 
 use crate::cursor::Cursor;
 use crate::fault::Fault;
@@ -49,7 +49,7 @@ fn named(
     place: Place,
     room: u32,
 ) -> Result<Node, Fault>
-    requires { IsBehind (token.Name name) tokens.old }
+    requires { IsAfter (token.Name name) tokens.old }
     ensures moves { Moves tokens.old tokens.new }
     ensures read { IfOk result (λ n. IsReadBy place.names expr (λ g. named g place.inside name) room 1 tokens.old tokens.new (root n.tree)) }
     ensures failed { IfErr result (λ f. HasFailedBy place.names false expr (λ g. named g place.inside name) room 1 tokens.old tokens.new f) }
@@ -87,16 +87,16 @@ fn dollar(alloc: Global, tokens: &mut Cursor, place: Place, room: u32) -> Result
     ensures failed { IfErr result (λ f. HasFailedBy place.names true expr (λ g. dollar place.inside) room 0 tokens.old tokens.new f) }
 {
     if tokens.take(Sign::Dollar) {
-        return behind_dollar(alloc, tokens, place, room);
+        return after_dollar(alloc, tokens, place, room);
     }
     guarded(alloc, tokens, place, room)
 }
 
 #[cycle(parser)]
-fn behind_dollar(alloc: Global, tokens: &mut Cursor, place: Place, room: u32) -> Result<Node, Fault>
+fn after_dollar(alloc: Global, tokens: &mut Cursor, place: Place, room: u32) -> Result<Node, Fault>
     ensures moves { Moves tokens.old tokens.new }
-    ensures read { IfOk result (λ n. IsReadBy place.names expr (λ g. behind_dollar place.inside) room 1 tokens.old tokens.new (root n.tree)) }
-    ensures failed { IfErr result (λ f. HasFailedBy place.names false expr (λ g. behind_dollar place.inside) room 1 tokens.old tokens.new f) }
+    ensures read { IfOk result (λ n. IsReadBy place.names expr (λ g. after_dollar place.inside) room 1 tokens.old tokens.new (root n.tree)) }
+    ensures failed { IfErr result (λ f. HasFailedBy place.names false expr (λ g. after_dollar place.inside) room 1 tokens.old tokens.new f) }
 {
     let Some(name) = tokens.take_name()? else {
         if !place.inside {

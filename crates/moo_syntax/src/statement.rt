@@ -6,7 +6,7 @@ ghost use Rattle.moo_syntax_grammar.specs.Grammar as grammar;
 ghost use Rattle.moo_syntax_grammar.specs.Grammar.{stmt};
 ghost use Rattle.moo_syntax_grammar.specs.Predictive as choices;
 ghost use Rattle.moo_syntax.specs.Outcome.{Moves, IsRead, IsReadBy, HasFailed, HasFailedBy};
-ghost use Rattle.moo_syntax.specs.Statements.{IsHandler, behind_range, performing};
+ghost use Rattle.moo_syntax.specs.Statements.{IsHandler, after_range, performing};
 
 use crate::jump::{jump, name_copy};
 use crate::{Cursor, Fault, Node, Place, below, codes, expression};
@@ -89,8 +89,8 @@ fn branches(
 ) -> Result<Stmt, Fault>
     ensures moves { Moves tokens.old tokens.new }
     ensures loops { OnOk result (loops.new.items ≡ loops.old.items) }
-    ensures read { IfOk result (λ s. IsReadBy names stmt (λ g. choices.behind_if (reverse loops.old.items)) room 1 tokens.old tokens.new (tree_of s)) }
-    ensures failed { IfErr result (λ f. HasFailedBy names false stmt (λ g. choices.behind_if (reverse loops.old.items)) room 1 tokens.old tokens.new f) }
+    ensures read { IfOk result (λ s. IsReadBy names stmt (λ g. choices.after_if (reverse loops.old.items)) room 1 tokens.old tokens.new (tree_of s)) }
+    ensures failed { IfErr result (λ f. HasFailedBy names false stmt (λ g. choices.after_if (reverse loops.old.items)) room 1 tokens.old tokens.new f) }
 {
     let room_below = below(room)?;
     let condition = in_parens(alloc, tokens, names, room_below)?;
@@ -139,8 +139,8 @@ fn for_loop(
 ) -> Result<Stmt, Fault>
     ensures moves { Moves tokens.old tokens.new }
     ensures loops { OnOk result (loops.new.items ≡ loops.old.items) }
-    ensures read { IfOk result (λ s. IsReadBy names stmt (λ g. choices.behind_for (reverse loops.old.items)) room 1 tokens.old tokens.new (tree_of s)) }
-    ensures failed { IfErr result (λ f. HasFailedBy names false stmt (λ g. choices.behind_for (reverse loops.old.items)) room 1 tokens.old tokens.new f) }
+    ensures read { IfOk result (λ s. IsReadBy names stmt (λ g. choices.after_for (reverse loops.old.items)) room 1 tokens.old tokens.new (tree_of s)) }
+    ensures failed { IfErr result (λ f. HasFailedBy names false stmt (λ g. choices.after_for (reverse loops.old.items)) room 1 tokens.old tokens.new f) }
 {
     let room_below = below(room)?;
     let Some(name) = tokens.take_name()? else {
@@ -170,8 +170,8 @@ fn for_range(
 ) -> Result<Stmt, Fault>
     ensures moves { Moves tokens.old tokens.new }
     ensures loops { OnOk result (loops.new.items ≡ loops.old.items) }
-    ensures read { IfOk result (λ s. IsReadBy names stmt (λ g. behind_range (reverse loops.old.items) name) (room + 1) 1 tokens.old tokens.new (tree_of s)) }
-    ensures failed { IfErr result (λ f. HasFailedBy names true stmt (λ g. behind_range (reverse loops.old.items) name) (room + 1) 1 tokens.old tokens.new f) }
+    ensures read { IfOk result (λ s. IsReadBy names stmt (λ g. after_range (reverse loops.old.items) name) (room + 1) 1 tokens.old tokens.new (tree_of s)) }
+    ensures failed { IfErr result (λ f. HasFailedBy names true stmt (λ g. after_range (reverse loops.old.items) name) (room + 1) 1 tokens.old tokens.new f) }
 {
     let place = Place {
         inside: false,
@@ -199,8 +199,8 @@ fn while_loop(
 ) -> Result<Stmt, Fault>
     ensures moves { Moves tokens.old tokens.new }
     ensures loops { OnOk result (loops.new.items ≡ loops.old.items) }
-    ensures read { IfOk result (λ s. IsReadBy names stmt (λ g. choices.behind_while (reverse loops.old.items)) room 1 tokens.old tokens.new (tree_of s)) }
-    ensures failed { IfErr result (λ f. HasFailedBy names false stmt (λ g. choices.behind_while (reverse loops.old.items)) room 1 tokens.old tokens.new f) }
+    ensures read { IfOk result (λ s. IsReadBy names stmt (λ g. choices.after_while (reverse loops.old.items)) room 1 tokens.old tokens.new (tree_of s)) }
+    ensures failed { IfErr result (λ f. HasFailedBy names false stmt (λ g. choices.after_while (reverse loops.old.items)) room 1 tokens.old tokens.new f) }
 {
     let room_below = below(room)?;
     let name = tokens.take_name()?;
@@ -243,8 +243,8 @@ fn attempt(
 ) -> Result<Stmt, Fault>
     ensures moves { Moves tokens.old tokens.new }
     ensures loops { OnOk result (loops.new.items ≡ loops.old.items) }
-    ensures read { IfOk result (λ s. IsReadBy names stmt (λ g. choices.behind_try (reverse loops.old.items)) room 1 tokens.old tokens.new (tree_of s)) }
-    ensures failed { IfErr result (λ f. HasFailedBy names false stmt (λ g. choices.behind_try (reverse loops.old.items)) room 1 tokens.old tokens.new f) }
+    ensures read { IfOk result (λ s. IsReadBy names stmt (λ g. choices.after_try (reverse loops.old.items)) room 1 tokens.old tokens.new (tree_of s)) }
+    ensures failed { IfErr result (λ f. HasFailedBy names false stmt (λ g. choices.after_try (reverse loops.old.items)) room 1 tokens.old tokens.new f) }
 {
     let room_below = below(room)?;
     let body = statements(alloc, tokens, loops, names, room_below)?;
@@ -333,8 +333,8 @@ fn in_parens(alloc: Global, tokens: &mut Cursor, names: Names, room: u32) -> Res
 /// Parses a `return` after its keyword.
 fn returned(alloc: Global, tokens: &mut Cursor, names: Names, room: u32) -> Result<Stmt, Fault>
     ensures moves { Moves tokens.old tokens.new }
-    ensures read { IfOk result (λ s. IsReadBy names stmt (λ g. choices.behind_return) room 1 tokens.old tokens.new (tree_of s)) }
-    ensures failed { IfErr result (λ f. HasFailedBy names false stmt (λ g. choices.behind_return) room 1 tokens.old tokens.new f) }
+    ensures read { IfOk result (λ s. IsReadBy names stmt (λ g. choices.after_return) room 1 tokens.old tokens.new (tree_of s)) }
+    ensures failed { IfErr result (λ f. HasFailedBy names false stmt (λ g. choices.after_return) room 1 tokens.old tokens.new f) }
 {
     let room_below = below(room)?;
     if tokens.take(Sign::Semicolon) {

@@ -115,6 +115,6 @@ items_length_sum x (y ∷ ys) =
     omega (arith, sum_by-cons further_item_length y ys, item_in_front x (items_of (y ∷ ys)), further_items y (items_of ys) (items_length (items_of (y ∷ ys))), items_length_sum y ys)
 
 -- the bytes of a line that a text at its end takes
-pub leaves_behind : (room middle n total : ℕ) (result : Option ℕ) → room + n ≡ middle + total → Leaves middle n result → Leaves room total result
-leaves_behind room middle n total None e l = omega (arith, e, l)
-leaves_behind room middle n total (Some rest) e l = omega (arith, e, l)
+pub leaves_after : (room middle n total : ℕ) (result : Option ℕ) → room + n ≡ middle + total → Leaves middle n result → Leaves room total result
+leaves_after room middle n total None e l = omega (arith, e, l)
+leaves_after room middle n total (Some rest) e l = omega (arith, e, l)

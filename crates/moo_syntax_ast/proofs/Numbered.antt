@@ -80,9 +80,9 @@ uncoded [] cs e = e
 uncoded (b ∷ bs) cs e = ap (option_and_then (with_digit (digit_of b))) (uncoded bs cs e)
 
 -- a byte before others, with which there is no code
-pub no_code : (name rest behind before : List ℕ) (byte code : ℕ) → name ≡ rest ++ behind → rest ≡ before ++ byte ∷ [] → code_of (folded behind) ≡ Some code
+pub no_code : (name rest after before : List ℕ) (byte code : ℕ) → name ≡ rest ++ after → rest ≡ before ++ byte ∷ [] → code_of (folded after) ≡ Some code
     → with_digit (digit_of (to_ascii_lowercase byte)) code ≡ None → code_of (folded name) ≡ None
-no_code name rest behind before byte code split last coded none =
-    let whole : name ≡ before ++ byte ∷ behind = split ∙ ap (λ xs. xs ++ behind) last ∙ append_assoc before (byte ∷ []) behind in
-    let step : code_of (folded (byte ∷ behind)) ≡ None = ap (option_and_then (with_digit (digit_of (to_ascii_lowercase byte)))) coded ∙ none in
-    ap (λ n. code_of (folded n)) whole ∙ ap code_of (map-append to_ascii_lowercase before (byte ∷ behind)) ∙ uncoded (folded before) (folded (byte ∷ behind)) step
+no_code name rest after before byte code split last coded none =
+    let whole : name ≡ before ++ byte ∷ after = split ∙ ap (λ xs. xs ++ after) last ∙ append_assoc before (byte ∷ []) after in
+    let step : code_of (folded (byte ∷ after)) ≡ None = ap (option_and_then (with_digit (digit_of (to_ascii_lowercase byte)))) coded ∙ none in
+    ap (λ n. code_of (folded n)) whole ∙ ap code_of (map-append to_ascii_lowercase before (byte ∷ after)) ∙ uncoded (folded before) (folded (byte ∷ after)) step

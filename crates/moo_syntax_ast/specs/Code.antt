@@ -228,8 +228,8 @@ unmarked (handler n ∷ ms) = from_handler (λ c b h. handlers (Tree.handler n c
 unmarked (no_statement ∷ ms) = block Tree.no_statement ∷ unmarked ms
 unmarked (then ∷ ms) = from_statement_and_block (λ s b. block (Tree.then s b)) (unmarked ms)
 
-behind : {p : Part} {ps qs : List Part} → ps ≡ qs → ◌≡◌ {A = List Part} (p ∷ ps) (p ∷ qs)
-behind {p} e = ap (λ v. p ∷ v) e
+after : {p : Part} {ps qs : List Part} → ps ≡ qs → ◌≡◌ {A = List Part} (p ∷ ps) (p ∷ qs)
+after {p} e = ap (λ v. p ∷ v) e
 
 mutual
   unmarked-marks : (a : Expr) (ms : List Mark) → unmarked (marks a ms) ≡ expr a ∷ unmarked ms
@@ -238,37 +238,37 @@ mutual
   unmarked-marks Tree.length_mark ms = refl
   unmarked-marks (Tree.unary o a) ms = ap (from_expr (λ a. expr (Tree.unary o a))) (unmarked-marks a ms)
   unmarked-marks (Tree.binary o a b) ms =
-      ap (from_two (λ a b. expr (Tree.binary o a b))) (unmarked-marks a (marks b ms) ∙ behind (unmarked-marks b ms))
+      ap (from_two (λ a b. expr (Tree.binary o a b))) (unmarked-marks a (marks b ms) ∙ after (unmarked-marks b ms))
   unmarked-marks (Tree.logic o a b) ms =
-      ap (from_two (λ a b. expr (Tree.logic o a b))) (unmarked-marks a (marks b ms) ∙ behind (unmarked-marks b ms))
+      ap (from_two (λ a b. expr (Tree.logic o a b))) (unmarked-marks a (marks b ms) ∙ after (unmarked-marks b ms))
   unmarked-marks (Tree.conditional a b c) ms =
-      ap (from_three (λ a b c. expr (Tree.conditional a b c))) (unmarked-marks a (marks b (marks c ms)) ∙ behind (unmarked-marks b (marks c ms) ∙ behind (unmarked-marks c ms)))
+      ap (from_three (λ a b c. expr (Tree.conditional a b c))) (unmarked-marks a (marks b (marks c ms)) ∙ after (unmarked-marks b (marks c ms) ∙ after (unmarked-marks c ms)))
   unmarked-marks (Tree.index a b) ms =
-      ap (from_two (λ a b. expr (Tree.index a b))) (unmarked-marks a (marks b ms) ∙ behind (unmarked-marks b ms))
+      ap (from_two (λ a b. expr (Tree.index a b))) (unmarked-marks a (marks b ms) ∙ after (unmarked-marks b ms))
   unmarked-marks (Tree.range a b c) ms =
-      ap (from_three (λ a b c. expr (Tree.range a b c))) (unmarked-marks a (marks b (marks c ms)) ∙ behind (unmarked-marks b (marks c ms) ∙ behind (unmarked-marks c ms)))
+      ap (from_three (λ a b c. expr (Tree.range a b c))) (unmarked-marks a (marks b (marks c ms)) ∙ after (unmarked-marks b (marks c ms) ∙ after (unmarked-marks c ms)))
   unmarked-marks (Tree.list xs) ms = ap (from_items (λ xs. expr (Tree.list xs))) (unmarked-items_marks xs ms)
   unmarked-marks (Tree.property a b) ms =
-      ap (from_two (λ a b. expr (Tree.property a b))) (unmarked-marks a (marks b ms) ∙ behind (unmarked-marks b ms))
+      ap (from_two (λ a b. expr (Tree.property a b))) (unmarked-marks a (marks b ms) ∙ after (unmarked-marks b ms))
   unmarked-marks (Tree.verb_call a b xs) ms =
-      ap (from_two_and_items (λ a b xs. expr (Tree.verb_call a b xs))) (unmarked-marks a (marks b (items_marks xs ms)) ∙ behind (unmarked-marks b (items_marks xs ms) ∙ behind (unmarked-items_marks xs ms)))
+      ap (from_two_and_items (λ a b xs. expr (Tree.verb_call a b xs))) (unmarked-marks a (marks b (items_marks xs ms)) ∙ after (unmarked-marks b (items_marks xs ms) ∙ after (unmarked-items_marks xs ms)))
   unmarked-marks (Tree.call s xs) ms = ap (from_items (λ xs. expr (Tree.call s xs))) (unmarked-items_marks xs ms)
   unmarked-marks (Tree.assign a b) ms =
-      ap (from_two (λ a b. expr (Tree.assign a b))) (unmarked-marks a (marks b ms) ∙ behind (unmarked-marks b ms))
+      ap (from_two (λ a b. expr (Tree.assign a b))) (unmarked-marks a (marks b ms) ∙ after (unmarked-marks b ms))
   unmarked-marks (Tree.catch a c) ms =
-      ap (from_expr_and_codes (λ a c. expr (Tree.catch a c))) (unmarked-marks a (codes_marks c ms) ∙ behind (unmarked-codes_marks c ms))
+      ap (from_expr_and_codes (λ a c. expr (Tree.catch a c))) (unmarked-marks a (codes_marks c ms) ∙ after (unmarked-codes_marks c ms))
   unmarked-marks (Tree.catch_or a c b) ms =
-      ap (from_two_and_codes (λ a b c. expr (Tree.catch_or a c b))) (unmarked-marks a (marks b (codes_marks c ms)) ∙ behind (unmarked-marks b (codes_marks c ms) ∙ behind (unmarked-codes_marks c ms)))
+      ap (from_two_and_codes (λ a b c. expr (Tree.catch_or a c b))) (unmarked-marks a (marks b (codes_marks c ms)) ∙ after (unmarked-marks b (codes_marks c ms) ∙ after (unmarked-codes_marks c ms)))
 
   unmarked-items_marks : (xs : Items) (ms : List Mark) → unmarked (items_marks xs ms) ≡ items xs ∷ unmarked ms
   unmarked-items_marks Tree.no_items ms = refl
   unmarked-items_marks (Tree.element a xs) ms =
-      ap (from_expr_and_items (λ a xs. items (Tree.element a xs))) (unmarked-marks a (items_marks xs ms) ∙ behind (unmarked-items_marks xs ms))
+      ap (from_expr_and_items (λ a xs. items (Tree.element a xs))) (unmarked-marks a (items_marks xs ms) ∙ after (unmarked-items_marks xs ms))
   unmarked-items_marks (Tree.splice a xs) ms =
-      ap (from_expr_and_items (λ a xs. items (Tree.splice a xs))) (unmarked-marks a (items_marks xs ms) ∙ behind (unmarked-items_marks xs ms))
+      ap (from_expr_and_items (λ a xs. items (Tree.splice a xs))) (unmarked-marks a (items_marks xs ms) ∙ after (unmarked-items_marks xs ms))
   unmarked-items_marks (Tree.optional s xs) ms = ap (from_items (λ xs. items (Tree.optional s xs))) (unmarked-items_marks xs ms)
   unmarked-items_marks (Tree.defaulted s a xs) ms =
-      ap (from_expr_and_items (λ a xs. items (Tree.defaulted s a xs))) (unmarked-marks a (items_marks xs ms) ∙ behind (unmarked-items_marks xs ms))
+      ap (from_expr_and_items (λ a xs. items (Tree.defaulted s a xs))) (unmarked-marks a (items_marks xs ms) ∙ after (unmarked-items_marks xs ms))
 
   unmarked-codes_marks : (c : Codes) (ms : List Mark) → unmarked (codes_marks c ms) ≡ codes c ∷ unmarked ms
   unmarked-codes_marks Tree.any_error ms = refl
@@ -280,35 +280,35 @@ mutual
   unmarked-statement_marks (Tree.returns a) ms = ap (from_expr (λ a. statement (Tree.returns a))) (unmarked-marks a ms)
   unmarked-statement_marks (Tree.performs a) ms = ap (from_expr (λ a. statement (Tree.performs a))) (unmarked-marks a ms)
   unmarked-statement_marks (Tree.branches a b c) ms =
-      ap (from_arm (λ a b c. statement (Tree.branches a b c))) (unmarked-marks a (block_marks b (arms_marks c ms)) ∙ behind (unmarked-block_marks b (arms_marks c ms) ∙ behind (unmarked-arms_marks c ms)))
+      ap (from_arm (λ a b c. statement (Tree.branches a b c))) (unmarked-marks a (block_marks b (arms_marks c ms)) ∙ after (unmarked-block_marks b (arms_marks c ms) ∙ after (unmarked-arms_marks c ms)))
   unmarked-statement_marks (Tree.for_list x a b) ms =
-      ap (from_expr_and_block (λ a b. statement (Tree.for_list x a b))) (unmarked-marks a (block_marks b ms) ∙ behind (unmarked-block_marks b ms))
+      ap (from_expr_and_block (λ a b. statement (Tree.for_list x a b))) (unmarked-marks a (block_marks b ms) ∙ after (unmarked-block_marks b ms))
   unmarked-statement_marks (Tree.for_range x a b c) ms =
-      ap (from_two_and_block (λ a b c. statement (Tree.for_range x a b c))) (unmarked-marks a (marks b (block_marks c ms)) ∙ behind (unmarked-marks b (block_marks c ms) ∙ behind (unmarked-block_marks c ms)))
+      ap (from_two_and_block (λ a b c. statement (Tree.for_range x a b c))) (unmarked-marks a (marks b (block_marks c ms)) ∙ after (unmarked-marks b (block_marks c ms) ∙ after (unmarked-block_marks c ms)))
   unmarked-statement_marks (Tree.while_loop n a b) ms =
-      ap (from_expr_and_block (λ a b. statement (Tree.while_loop n a b))) (unmarked-marks a (block_marks b ms) ∙ behind (unmarked-block_marks b ms))
+      ap (from_expr_and_block (λ a b. statement (Tree.while_loop n a b))) (unmarked-marks a (block_marks b ms) ∙ after (unmarked-block_marks b ms))
   unmarked-statement_marks (Tree.breaks n) ms = refl
   unmarked-statement_marks (Tree.continues n) ms = refl
   unmarked-statement_marks (Tree.try_except b h) ms =
-      ap (from_block_and_handlers (λ b h. statement (Tree.try_except b h))) (unmarked-block_marks b (handlers_marks h ms) ∙ behind (unmarked-handlers_marks h ms))
+      ap (from_block_and_handlers (λ b h. statement (Tree.try_except b h))) (unmarked-block_marks b (handlers_marks h ms) ∙ after (unmarked-handlers_marks h ms))
   unmarked-statement_marks (Tree.try_finally b c) ms =
-      ap (from_two_blocks (λ b c. statement (Tree.try_finally b c))) (unmarked-block_marks b (block_marks c ms) ∙ behind (unmarked-block_marks c ms))
+      ap (from_two_blocks (λ b c. statement (Tree.try_finally b c))) (unmarked-block_marks b (block_marks c ms) ∙ after (unmarked-block_marks c ms))
 
   unmarked-arms_marks : (c : Arms) (ms : List Mark) → unmarked (arms_marks c ms) ≡ arms c ∷ unmarked ms
   unmarked-arms_marks Tree.no_else ms = refl
   unmarked-arms_marks (Tree.otherwise b) ms = ap (from_block (λ b. arms (Tree.otherwise b))) (unmarked-block_marks b ms)
   unmarked-arms_marks (Tree.elseif a b c) ms =
-      ap (from_arm (λ a b c. arms (Tree.elseif a b c))) (unmarked-marks a (block_marks b (arms_marks c ms)) ∙ behind (unmarked-block_marks b (arms_marks c ms) ∙ behind (unmarked-arms_marks c ms)))
+      ap (from_arm (λ a b c. arms (Tree.elseif a b c))) (unmarked-marks a (block_marks b (arms_marks c ms)) ∙ after (unmarked-block_marks b (arms_marks c ms) ∙ after (unmarked-arms_marks c ms)))
 
   unmarked-handlers_marks : (h : Handlers) (ms : List Mark) → unmarked (handlers_marks h ms) ≡ handlers h ∷ unmarked ms
   unmarked-handlers_marks Tree.no_handler ms = refl
   unmarked-handlers_marks (Tree.handler n c b h) ms =
-      ap (from_handler (λ c b h. handlers (Tree.handler n c b h))) (unmarked-codes_marks c (block_marks b (handlers_marks h ms)) ∙ behind (unmarked-block_marks b (handlers_marks h ms) ∙ behind (unmarked-handlers_marks h ms)))
+      ap (from_handler (λ c b h. handlers (Tree.handler n c b h))) (unmarked-codes_marks c (block_marks b (handlers_marks h ms)) ∙ after (unmarked-block_marks b (handlers_marks h ms) ∙ after (unmarked-handlers_marks h ms)))
 
   unmarked-block_marks : (b : Block) (ms : List Mark) → unmarked (block_marks b ms) ≡ block b ∷ unmarked ms
   unmarked-block_marks Tree.no_statement ms = refl
   unmarked-block_marks (Tree.then s b) ms =
-      ap (from_statement_and_block (λ s b. block (Tree.then s b))) (unmarked-statement_marks s (block_marks b ms) ∙ behind (unmarked-block_marks b ms))
+      ap (from_statement_and_block (λ s b. block (Tree.then s b))) (unmarked-statement_marks s (block_marks b ms) ∙ after (unmarked-block_marks b ms))
 
 abbrev first_block : List Part → Block
 first_block (block b ∷ ps) = b

@@ -12,7 +12,7 @@ use Rattle.moo_syntax_grammar.proofs.Leads.{Fact}
 use Rattle.moo_syntax_grammar.proofs.MachineLemmas.{agree_next, reads_before}
 use Rattle.moo_syntax_grammar.proofs.Derived.{derived}
 use Rattle.moo_syntax_grammar.proofs.Admitted.{admitted, loose_admits}
-use Rattle.moo_syntax_grammar.proofs.Endings.{behind, Ends}
+use Rattle.moo_syntax_grammar.proofs.Endings.{after, Ends}
 use Rattle.moo_syntax_grammar.proofs.Ends.{all_end}
 
 -- tokens that agree up to where the reading is stopped, and for which the fact holds
@@ -36,7 +36,7 @@ begun g s close Q (misses_fails {f = f} h d) m =
     let t = begun g s close (λ ts e r. next_passes f ts ≡ false → Q ts e r) d m.1 in
     record { tokens = t.tokens; given = t.given; agrees = t.agrees; holds = λ r. t.holds r (sym (agree_next f (t.agrees r)) ∙ h) }
 begun g s close Q (phrase_fails {k = k} d) m =
-    let t = begun g (sort k) (behind k) (Derives loose k) d (all_end g k).ends in
+    let t = begun g (sort k) (after k) (Derives loose k) d (all_end g k).ends in
     let u = m.0 t.given in
     record { tokens = λ r. t.tokens (u.rest r); given = u.given; agrees = λ r. t.agrees (u.rest r); holds = λ r. u.holds r (t.tokens (u.rest r)) (t.holds (u.rest r)) }
 begun g s close Q (then_fails {k = k} {a = a} c d) m =

@@ -9,7 +9,7 @@ use Rattle.moo_syntax_grammar.specs.Grammar.{Sort, Of, Kind, Derives, sort, has_
 use Rattle.moo_syntax_grammar.specs.Tokens.{is_sign, next_passes}
 use Rattle.moo_syntax_ast.specs.Tree.{Expr, Items}
 use Rattle.moo_syntax_grammar.specs.Machine.{Reading, Reads, gives, takes, sees, misses, reads}
-use Rattle.moo_syntax_grammar.specs.Predictive.{grammar, allowed, if_optional, behind_brace}
+use Rattle.moo_syntax_grammar.specs.Predictive.{grammar, allowed, if_optional, after_brace}
 use Rattle.moo_syntax_grammar.proofs.Choices.{Follows, first, no_sign, no_operator, no_name, closer_is_loose, primary_is_unsigned, expression_is_no_splice, expression_is_no_optional, expression_is_no_end, member_is_no_closer, more_follows, suffix_follows, expression_is_no_keyword, at_paren, end_if, end_try, at_except, arms_end, may_jump_out}
 
 module _ {f : (k : Kind) → Reading (sort k)} {s : Sort} {ts r : List Token} {e : Of s} where
@@ -21,12 +21,12 @@ no_optional_reads : {f : (k : Kind) → Reading (sort k)} (o : Bool) (p q : Read
 no_optional_reads true p q h d = misses h d
 no_optional_reads false p q h d = d
 
-behind_items_reads : {f : (k : Kind) → Reading (sort k)} {b : Bool} {e : Expr} {r : List Token} → b ≡ false → Reads f Sort.expr (behind_brace b e) r e r
-behind_items_reads is = rw is gives
+after_items_reads : {f : (k : Kind) → Reading (sort k)} {b : Bool} {e : Expr} {r : List Token} → b ≡ false → Reads f Sort.expr (after_brace b e) r e r
+after_items_reads is = rw is gives
 
-behind_brace_reads : {f : (k : Kind) → Reading (sort k)} (b : Bool) {e : Expr} {r : List Token} → next_passes (is_sign Assign) r ≡ true → Reads f Sort.expr (behind_brace b e) r e r
-behind_brace_reads true h = sees h gives
-behind_brace_reads false h = gives
+after_brace_reads : {f : (k : Kind) → Reading (sort k)} (b : Bool) {e : Expr} {r : List Token} → next_passes (is_sign Assign) r ≡ true → Reads f Sort.expr (after_brace b e) r e r
+after_brace_reads true h = sees h gives
+after_brace_reads false h = gives
 
 pub complete : {g : Rules} {k : Kind} {ts r : List Token} {e : Of (sort k)} → Derives g k ts e r → Follows k r → Reads (grammar g) (sort k) (grammar g k) ts e r
 unfolding grammar
@@ -61,8 +61,8 @@ complete {r} Grammar.system_property h = misses refl (misses refl (misses refl (
 complete (Grammar.system_verb d) h = misses refl (misses refl (misses refl (misses refl (sees refl (takes (sees refl (takes (sees refl (takes (reads (complete d refl) (sees refl (takes gives))))))))))))
 complete {r} Grammar.dollar h = misses refl (misses refl (misses refl (misses refl (sees refl (takes (misses (no_name r (omega arith)) gives))))))
 complete (Grammar.grouped d) h = misses refl (misses refl (sees refl (takes (reads (complete d (omega arith)) (sees refl (takes gives))))))
-complete (Grammar.listed is d) h = misses refl (misses refl (misses refl (sees refl (takes (reads (complete d refl) (sees refl (takes (behind_items_reads is))))))))
-complete (Grammar.scattered {xs = xs} d) h = misses refl (misses refl (misses refl (sees refl (takes (reads (complete d refl) (sees refl (takes (behind_brace_reads (has_optional xs) refl))))))))
+complete (Grammar.listed is d) h = misses refl (misses refl (misses refl (sees refl (takes (reads (complete d refl) (sees refl (takes (after_items_reads is))))))))
+complete (Grammar.scattered {xs = xs} d) h = misses refl (misses refl (misses refl (sees refl (takes (reads (complete d refl) (sees refl (takes (after_brace_reads (has_optional xs) refl))))))))
 complete (Grammar.catches c d) h = misses refl (misses refl (misses refl (misses refl (misses refl (sees refl (takes (reads (complete c (omega arith)) (sees refl (takes (reads (complete d (omega arith)) (misses refl (sees refl (takes gives)))))))))))))
 complete (Grammar.catches_or b c d) h = misses refl (misses refl (misses refl (misses refl (misses refl (sees refl (takes (reads (complete b (omega arith)) (sees refl (takes (reads (complete c (omega arith)) (sees refl (takes (reads (complete d (omega arith)) (sees refl (takes gives)))))))))))))))
 complete Grammar.any_code h = sees refl (takes gives)

@@ -11,7 +11,7 @@ use Rattle.moo_syntax_grammar.specs.Rules.{Rules, may_assign, may_jump}
 use Rattle.moo_syntax_grammar.specs.Minuses.{minuses}
 use Rattle.moo_syntax_grammar.specs.Grammar.{Sort, Of, Kind, expression, conditional, chain, more, operand, power, unary, postfix, suffixes, primary, arguments, members, codes, statement, statements, arms, handlers, label, in_parens, sort, has_optional}
 use Rattle.moo_syntax_grammar.specs.Machine.{Reading, give, refuse, forbid, take, peek, phrase, Reads, gives, takes, sees, misses, reads}
-use Rattle.moo_syntax_grammar.specs.Predictive.{grammar, mark, allowed, if_optional, behind_brace}
+use Rattle.moo_syntax_grammar.specs.Predictive.{grammar, mark, allowed, if_optional, after_brace}
 use Rattle.moo_syntax_grammar.specs.Size.{size}
 use Rattle.moo_syntax_grammar.specs.Depth.{Deep}
 use Rattle.moo_syntax_grammar.proofs.MachineLemmas.{reads_once}
@@ -56,7 +56,7 @@ optional_meets : (o : Bool) (p q : Reading Sort.items) (Q : Items → Type 0) �
 optional_meets true p q Q m n = ((λ x. m), n)
 optional_meets false p q Q m n = n
 
-brace_meets : (b : Bool) (e : Expr) (Q : Expr → Type 0) → Q e → Meets Sort.expr (behind_brace b e) Q
+brace_meets : (b : Bool) (e : Expr) (Q : Expr → Type 0) → Q e → Meets Sort.expr (after_brace b e) Q
 brace_meets true e Q m = (m, tt)
 brace_meets false e Q m = m
 
@@ -167,8 +167,8 @@ takes_deep h w = record { too_high = λ e r d. w.too_high e r (taken (seen h d))
 pub deep_from : {g : Rules} {s : Sort} {n : ℕ} {p : Reading s} {ts us : List Token} → ts ≡ us → Deep g s n p us → Deep g s n p ts
 deep_from {g} {s} {n} {p} is d = subst (λ v. Deep g s n p v) (sym is) d
 
-behind : {f : (k : Kind) → Reading (sort k)} {s : Sort} {k : Kind} {p : Of (sort k) → Reading s} {ts m r : List Token} {a : Of (sort k)} {e : Of s} → Reads f (sort k) (f k) ts a m → Reads f s (phrase k p) ts e r → Reads f s (p a) m e r
-behind {f} {s} {p = p} {r = r} {a = a} {e = e} c (reads {m = l} y z) =
+after : {f : (k : Kind) → Reading (sort k)} {s : Sort} {k : Kind} {p : Of (sort k) → Reading s} {ts m r : List Token} {a : Of (sort k)} {e : Of s} → Reads f (sort k) (f k) ts a m → Reads f s (phrase k p) ts e r → Reads f s (p a) m e r
+after {f} {s} {p = p} {r = r} {a = a} {e = e} c (reads {m = l} y z) =
     let t = reads_once f c y in
     subst (λ v. Reads f s (p a) v e r) (sym t.1) (subst (λ v. Reads f s (p v) l e r) (sym t.0) z)
 
@@ -177,7 +177,7 @@ contains {g} {s} {n} w keeps (reads {m = l} {a = a} y z) = meets g s (λ e. n < 
 
 -- a phrase that is read, before a rest that is too high
 pub then_deep : {g : Rules} {s : Sort} {n : ℕ} {k : Kind} {p : Of (sort k) → Reading s} {ts m : List Token} {a : Of (sort k)} → Reads (grammar g) (sort k) (grammar g k) ts a m → Deep g s n (p a) m → Deep g s n (phrase k p) ts
-then_deep c w = record { too_high = λ e r d. w.too_high e r (behind c d) }
+then_deep c w = record { too_high = λ e r d. w.too_high e r (after c d) }
 
 -- a phrase that is too high, and that the whole tree contains
 pub phrase_deep : {g : Rules} {s : Sort} {n j : ℕ} {k : Kind} {p : Of (sort k) → Reading s} {ts : List Token} → Deep g (sort k) j (grammar g k) ts → ((a : Of (sort k)) → j < size (sort k) a → Meets s (p a) (λ e. n < size s e)) → Deep g s n (phrase k p) ts

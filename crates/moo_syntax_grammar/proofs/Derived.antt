@@ -13,7 +13,7 @@ use Rattle.moo_syntax_grammar.specs.Tokens.{is_sign, next_passes}
 use Rattle.moo_syntax_grammar.specs.Grammar
 use Rattle.moo_syntax_grammar.specs.Grammar.{Sort, Of, Kind, Derives, sort, has_optional}
 use Rattle.moo_syntax_grammar.specs.Machine.{Reading, give, Reads, gives, takes, sees, misses, reads}
-use Rattle.moo_syntax_grammar.specs.Predictive.{grammar, mark, behind_brace, expect, expect_keyword, loop_at, jump}
+use Rattle.moo_syntax_grammar.specs.Predictive.{grammar, mark, after_brace, expect, expect_keyword, loop_at, jump}
 use Rattle.moo_syntax_grammar.proofs.Leads.{Fact, Leads, Lead, sign_is, gives_lead, refuses_lead, forbids_lead, phrase_lead, peek_lead, taken_lead, sign_lead, expect_lead, keyword_taken_lead, keyword_lead, allowed_lead, name_lead, option_lead}
 
 marked : {g : Rules} (i : Bool) {Q : Fact Sort.expr} → (i ≡ true → (r : List Token) → Q r length_mark r) → Lead g Sort.expr (mark i) Q
@@ -28,9 +28,9 @@ at_assign : {e : Expr} (Q : Fact Sort.expr) → ((r : List Token) → Q (Sign si
 at_assign Q m [] h = absurd cc
 at_assign {e} Q m (x ∷ r) h = subst (λ v. Q (v ∷ r) e (v ∷ r)) (sym (sign_is sign.Assign x h)) (m r)
 
-behind : {g : Rules} (b : Bool) (e : Expr) {Q : Fact Sort.expr} → (b ≡ false → (r : List Token) → Q r e r) → ((r : List Token) → Q (Sign sign.Assign ∷ r) e (Sign sign.Assign ∷ r)) → Lead g Sort.expr (behind_brace b e) Q
-behind false e m n = gives_lead (m refl)
-behind true e {Q} m n = peek_lead (gives_lead (at_assign Q n)) refuses_lead
+after : {g : Rules} (b : Bool) (e : Expr) {Q : Fact Sort.expr} → (b ≡ false → (r : List Token) → Q r e r) → ((r : List Token) → Q (Sign sign.Assign ∷ r) e (Sign sign.Assign ∷ r)) → Lead g Sort.expr (after_brace b e) Q
+after false e m n = gives_lead (m refl)
+after true e {Q} m n = peek_lead (gives_lead (at_assign Q n)) refuses_lead
 
 loop_case : (b : Bool) (y x : List ℕ) → (if b then Some y else None) ≡ Some x → (b ≡ true) × (y ≡ x)
 loop_case true y x h = (refl, cc)
@@ -87,7 +87,7 @@ all_lead g (Grammar.primary i) =
     option_lead _ (λ x l is. gives_lead (λ r. Grammar.constant is))
     (name_lead (λ s. peek_lead (allowed_lead (g.functions s) (λ is. taken_lead sign.LeftParen (phrase_lead (λ xs. expect_lead sign.RightParen (gives_lead (λ r ts d. Grammar.called is d)))))) (gives_lead (λ r. Grammar.name)))
     (sign_lead sign.LeftParen (phrase_lead (λ a. expect_lead sign.RightParen (gives_lead (λ r ts d. Grammar.grouped d))))
-    (sign_lead sign.LeftBrace (phrase_lead (λ xs. expect_lead sign.RightBrace (behind (has_optional xs) _ (λ is r ts d. Grammar.listed is d) (λ r ts d. Grammar.scattered d))))
+    (sign_lead sign.LeftBrace (phrase_lead (λ xs. expect_lead sign.RightBrace (after (has_optional xs) _ (λ is r ts d. Grammar.listed is d) (λ r ts d. Grammar.scattered d))))
     (sign_lead sign.Dollar
     (name_lead (λ s. sign_lead sign.LeftParen (phrase_lead (λ xs. expect_lead sign.RightParen (gives_lead (λ r ts d. Grammar.system_verb d)))) (gives_lead (λ r. Grammar.system_property)))
     (marked i (dollar_inside i)))

@@ -15,26 +15,26 @@ use Rattle.moo_syntax_grammar.proofs.Leads.{Fact, sign_is, keyword_is}
 
 -- Tokens that may follow a phrase of the kind, before any rest. An `=` follows a phrase that may be before one, since
 -- only there braces may have `?` pieces.
-abbrev pub behind : Kind → List Token → List Token
-behind (expression i) r = r
-behind (conditional i) r = token.Sign sign.Assign ∷ r
-behind (chain i l) r = token.Sign sign.Assign ∷ r
-behind (more i l a) r = token.Sign sign.Assign ∷ r
-behind (operand i l) r = token.Sign sign.Assign ∷ r
-behind (power i) r = token.Sign sign.Assign ∷ r
-behind (unary i) r = token.Sign sign.Assign ∷ r
-behind (postfix i) r = token.Sign sign.Assign ∷ r
-behind (suffixes i a) r = token.Sign sign.Assign ∷ r
-behind (primary i) r = token.Sign sign.Assign ∷ r
-behind (arguments i o) r = r
-behind (members i o) r = r
-behind (codes i) r = r
-behind (statement ls) r = r
-behind (statements ls) r = r
-behind (arms ls) r = r
-behind (handlers ls) r = r
-behind label r = r
-behind in_parens r = r
+abbrev pub after : Kind → List Token → List Token
+after (expression i) r = r
+after (conditional i) r = token.Sign sign.Assign ∷ r
+after (chain i l) r = token.Sign sign.Assign ∷ r
+after (more i l a) r = token.Sign sign.Assign ∷ r
+after (operand i l) r = token.Sign sign.Assign ∷ r
+after (power i) r = token.Sign sign.Assign ∷ r
+after (unary i) r = token.Sign sign.Assign ∷ r
+after (postfix i) r = token.Sign sign.Assign ∷ r
+after (suffixes i a) r = token.Sign sign.Assign ∷ r
+after (primary i) r = token.Sign sign.Assign ∷ r
+after (arguments i o) r = r
+after (members i o) r = r
+after (codes i) r = r
+after (statement ls) r = r
+after (statements ls) r = r
+after (arms ls) r = r
+after (handlers ls) r = r
+after label r = r
+after in_parens r = r
 
 -- tokens before each rest that have the tree, and the fact
 pub record Ending (s : Sort) (close : List Token → List Token) (Q : Fact s) : Type 0 where
@@ -46,7 +46,7 @@ pub record Ending (s : Sort) (close : List Token → List Token) (Q : Fact s) : 
 pub record Tail (s : Sort) (k : Kind) (a : Of (sort k)) (close : List Token → List Token) (Q : Fact s) : Type 0 where
   pub rest : List Token → List Token
   pub given : Of s
-  pub holds : (r ts : List Token) → Derives loose k ts a (behind k (rest r)) → Q ts given (close r)
+  pub holds : (r ts : List Token) → Derives loose k ts a (after k (rest r)) → Q ts given (close r)
 
 -- wherever the reading is stopped by a rule, or within a phrase, it can be brought to an end
 abbrev pub Ends : (s : Sort) → (List Token → List Token) → Reading s → Fact s → Type 0
@@ -60,7 +60,7 @@ Ends s close (phrase k p) Q = ((a : Of (sort k)) → Tail s k a close Q) × ((a 
 pub ending : {s : Sort} {close : List Token → List Token} {Q : Fact s} (tokens : List Token → List Token) (e : Of s) → ((r : List Token) → Q (tokens r) e (close r)) → Ending s close Q
 ending tokens e h = record { tokens = tokens; given = e; holds = h }
 
-pub tail : {s : Sort} {k : Kind} {a : Of (sort k)} {close : List Token → List Token} {Q : Fact s} (rest : List Token → List Token) (e : Of s) → ((r ts : List Token) → Derives loose k ts a (behind k (rest r)) → Q ts e (close r)) → Tail s k a close Q
+pub tail : {s : Sort} {k : Kind} {a : Of (sort k)} {close : List Token → List Token} {Q : Fact s} (rest : List Token → List Token) (e : Of s) → ((r ts : List Token) → Derives loose k ts a (after k (rest r)) → Q ts e (close r)) → Tail s k a close Q
 tail rest e h = record { rest = rest; given = e; holds = h }
 
 pub ends_with_more : (s : Sort) (close : List Token → List Token) (p : Reading s) (Q R : Fact s) → ((ts : List Token) (e : Of s) (r : List Token) → Q ts e r → R ts e r) → Ends s close p Q → Ends s close p R
@@ -110,7 +110,7 @@ module _ {s : Sort} {close : List Token → List Token} where
   phrase_end m n = record { ends = (m, λ a. (n a).ends) }
 
   -- a phrase at the end
-  pub last_end : {k : Kind} {Q : Fact s} (f : Of (sort k) → Of s) → ((a : Of (sort k)) (r ts : List Token) → Derives loose k ts a (behind k r) → Q ts (f a) (close r)) → End s close (phrase k (λ a. give (f a))) Q
+  pub last_end : {k : Kind} {Q : Fact s} (f : Of (sort k) → Of s) → ((a : Of (sort k)) (r ts : List Token) → Derives loose k ts a (after k r) → Q ts (f a) (close r)) → End s close (phrase k (λ a. give (f a))) Q
   last_end f m = phrase_end (λ a. tail (λ r. r) (f a) (m a)) (λ a. gives_end)
 
   pub peek_end : {f : Token → Bool} {p q : Reading s} {Q : Fact s} → End s close p (λ ts e r. next_passes f ts ≡ true → Q ts e r) → End s close q Q → End s close (peek f p q) Q

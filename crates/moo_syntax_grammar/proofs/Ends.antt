@@ -17,16 +17,16 @@ use Rattle.moo_syntax_grammar.specs.Rules.{Rules, loose, may_assign, may_jump}
 use Rattle.moo_syntax_grammar.specs.Grammar
 use Rattle.moo_syntax_grammar.specs.Grammar.{Sort, Kind, Derives, sort, joined, negated, text, system_object, has_optional}
 use Rattle.moo_syntax_grammar.specs.Machine.{Reading, give}
-use Rattle.moo_syntax_grammar.specs.Predictive.{grammar, mark, behind_brace, expect, loop_at, jump}
+use Rattle.moo_syntax_grammar.specs.Predictive.{grammar, mark, after_brace, expect, loop_at, jump}
 use Rattle.moo_syntax_grammar.proofs.Leads.{Fact}
-use Rattle.moo_syntax_grammar.proofs.Endings.{behind, End, ending, tail, gives_end, refuses_end, phrase_end, last_end, peek_end, taken_end, sign_end, expect_end, keyword_taken_end, keyword_end, needed_end, ruled_end, ruled_keyword_end, forbidden_name_end, name_end, option_end}
+use Rattle.moo_syntax_grammar.proofs.Endings.{after, End, ending, tail, gives_end, refuses_end, phrase_end, last_end, peek_end, taken_end, sign_end, expect_end, keyword_taken_end, keyword_end, needed_end, ruled_end, ruled_keyword_end, forbidden_name_end, name_end, option_end}
 use Rattle.moo_syntax_grammar.proofs.Examples.{zero_token, zero, a_conditional, an_expression}
 
 mark_end : (i : Bool) {close : List Token → List Token} {Q : Fact Sort.expr} → End Sort.expr close (mark i) Q
 mark_end true = gives_end
 mark_end false = refuses_end
 
-brace_end : (b : Bool) (e : Expr) {close : List Token → List Token} {Q : Fact Sort.expr} → End Sort.expr close (behind_brace b e) Q
+brace_end : (b : Bool) (e : Expr) {close : List Token → List Token} {Q : Fact Sort.expr} → End Sort.expr close (after_brace b e) Q
 brace_end true e = peek_end gives_end refuses_end
 brace_end false e = gives_end
 
@@ -40,7 +40,7 @@ jump_end g ls k f m n o = peek_end
     (forbidden_name_end (λ x. ending (λ r. Sign sign.Semicolon ∷ r) (f (Some x)) (n x)) (expect_end sign.Semicolon gives_end)))))
     o
 
-pub all_end : (g : Rules) (k : Kind) → End (sort k) (behind k) (grammar g k) (Derives loose k)
+pub all_end : (g : Rules) (k : Kind) → End (sort k) (after k) (grammar g k) (Derives loose k)
 unfolding grammar
 all_end g (Grammar.expression i) = phrase_end
     (λ a. tail (λ r. zero_token ∷ r) (tree.assign a zero) (λ r ts d. Grammar.assigns refl d (an_expression i r)))

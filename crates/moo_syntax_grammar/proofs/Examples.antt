@@ -12,7 +12,7 @@ use Rattle.moo_syntax_grammar.specs.declared.level.Level.TheVariants.{Logic, Rel
 use Rattle.moo_syntax_grammar.specs.Rules.{loose}
 use Rattle.moo_syntax_grammar.specs.Grammar
 use Rattle.moo_syntax_grammar.specs.Grammar.{Of, Kind, Derives, sort}
-use Rattle.moo_syntax_grammar.proofs.Endings.{behind}
+use Rattle.moo_syntax_grammar.proofs.Endings.{after}
 
 -- an operand that is allowed everywhere
 abbrev pub zero_token : Token
@@ -43,7 +43,7 @@ an_expression i r = Grammar.plain (a_conditional i r)
 pub record Example (k : Kind) : Type 0 where
   pub tokens : List Token → List Token
   pub given : Of (sort k)
-  pub holds : (r : List Token) → Derives loose k (tokens r) given (behind k r)
+  pub holds : (r : List Token) → Derives loose k (tokens r) given (after k r)
 
 pub example : (k : Kind) → Example k
 example (Grammar.expression i) = record { tokens = λ r. zero_token ∷ r; given = zero; holds = λ r. an_expression i r }

@@ -10,15 +10,15 @@ use Rattle.moo_syntax_grammar.specs.Agree.{Agree, at_end, here, next}
 -- r is an end of ts
 pub data IsEnd : List Token → List Token → Type 0 where
   whole : {ts : List Token} → IsEnd ts ts
-  behind : {x : Token} {r ts : List Token} → IsEnd r ts → IsEnd r (x ∷ ts)
+  after : {x : Token} {r ts : List Token} → IsEnd r ts → IsEnd r (x ∷ ts)
 
 pub end_of_end : {a b c : List Token} → IsEnd a b → IsEnd b c → IsEnd a c
 end_of_end p whole = p
-end_of_end p (behind q) = behind (end_of_end p q)
+end_of_end p (after q) = after (end_of_end p q)
 
 pub end_length : {a b : List Token} → IsEnd a b → length a ≤ length b
 end_length whole = omega arith
-end_length (behind q) = omega (arith, end_length q)
+end_length (after q) = omega (arith, end_length q)
 
 -- after the token that they share, both lists agree up to a place after it
 pub agree_tail : {x y : Token} {at ts us : List Token} → IsEnd at ts → Agree at (x ∷ ts) (y ∷ us) → (x ≡ y) × Agree at ts us
@@ -33,12 +33,12 @@ agree_next f (next a) = refl
 pub agree_same : {ts : List Token} (at : List Token) → IsEnd at ts → Agree at ts ts
 agree_same [] whole = at_end
 agree_same (x ∷ at) whole = here
-agree_same at (behind s) = next (agree_same at s)
+agree_same at (after s) = next (agree_same at s)
 
 module _ (grammar : (k : Kind) → Reading (sort k)) where
   pub reads_end : {s : Sort} {p : Reading s} {ts r : List Token} {e : Of s} → Reads grammar s p ts e r → IsEnd r ts
   reads_end gives = whole
-  reads_end (takes d) = behind (reads_end d)
+  reads_end (takes d) = after (reads_end d)
   reads_end (sees h d) = reads_end d
   reads_end (misses h d) = reads_end d
   reads_end (reads c d) = end_of_end (reads_end d) (reads_end c)
@@ -46,7 +46,7 @@ module _ (grammar : (k : Kind) → Reading (sort k)) where
   pub fails_end : {w : Why} {s : Sort} {p : Reading s} {ts r : List Token} → Fails grammar w s p ts r → IsEnd r ts
   fails_end refuses = whole
   fails_end forbids = whole
-  fails_end (takes_fails d) = behind (fails_end d)
+  fails_end (takes_fails d) = after (fails_end d)
   fails_end (sees_fails h d) = fails_end d
   fails_end (misses_fails h d) = fails_end d
   fails_end (phrase_fails d) = fails_end d

@@ -91,58 +91,58 @@ abbrev pub after_member : Bool → Bool → (Items → Items) → Reading Sort.i
 after_member i o f = if_sign Comma (phrase (members i o) λ xs. give (f xs)) (give (f no_items))
 
 -- after the `?` of a member
-abbrev pub behind_question : Bool → Reading Sort.items
-behind_question i = if_name (λ s. if_sign Assign (phrase (expression i) λ a. after_member i true (defaulted s a)) (after_member i true (optional s))) refuse
+abbrev pub after_question : Bool → Reading Sort.items
+after_question i = if_name (λ s. if_sign Assign (phrase (expression i) λ a. after_member i true (defaulted s a)) (after_member i true (optional s))) refuse
 
 -- a member with `?`, if it is allowed
 abbrev pub if_optional : Bool → Reading Sort.items → Reading Sort.items → Reading Sort.items
 if_optional true p q = if_sign Question p q
 if_optional false p q = q
 
-abbrev pub behind_codes : Bool → Expr → Codes → Reading Sort.expr
-behind_codes i a c = if_sign Arrow (phrase (expression i) λ b. expect Quote (give (catch_or a c b))) (expect Quote (give (catch a c)))
+abbrev pub after_codes : Bool → Expr → Codes → Reading Sort.expr
+after_codes i a c = if_sign Arrow (phrase (expression i) λ b. expect Quote (give (catch_or a c b))) (expect Quote (give (catch a c)))
 
 abbrev pub guarded : Bool → Reading Sort.expr
-guarded i = if_sign Backquote (phrase (expression i) λ a. expect Bang (phrase (codes i) λ c. behind_codes i a c)) refuse
+guarded i = if_sign Backquote (phrase (expression i) λ a. expect Bang (phrase (codes i) λ c. after_codes i a c)) refuse
 
 -- `$` alone, inside an index
 abbrev pub mark : Bool → Reading Sort.expr
 mark false = refuse
 mark true = give length_mark
 
-abbrev pub behind_dollar : Bool → Reading Sort.expr
-behind_dollar i = if_name (λ s. if_sign LeftParen
+abbrev pub after_dollar : Bool → Reading Sort.expr
+after_dollar i = if_name (λ s. if_sign LeftParen
     (phrase (arguments i false) λ xs. expect RightParen (give (verb_call system_object (text s) xs)))
     (give (property system_object (text s)))) (mark i)
 
 abbrev pub dollar : Bool → Reading Sort.expr
-dollar i = if_sign Dollar (behind_dollar i) (guarded i)
+dollar i = if_sign Dollar (after_dollar i) (guarded i)
 
 -- after the items of braces: `=`, if a `?` piece is among them
-abbrev pub behind_brace : Bool → Expr → Reading Sort.expr
-behind_brace false e = give e
-behind_brace true e = peek (is_sign Assign) (give e) refuse
+abbrev pub after_brace : Bool → Expr → Reading Sort.expr
+after_brace false e = give e
+after_brace true e = peek (is_sign Assign) (give e) refuse
 
 abbrev pub braced : Bool → Reading Sort.expr
-braced i = if_sign LeftBrace (phrase (arguments i true) λ xs. expect RightBrace (behind_brace (has_optional xs) (list xs))) (dollar i)
+braced i = if_sign LeftBrace (phrase (arguments i true) λ xs. expect RightBrace (after_brace (has_optional xs) (list xs))) (dollar i)
 
 -- a variable, or a call
 abbrev pub named : Rules → Bool → List ℕ → Reading Sort.expr
 named g i s = peek (is_sign LeftParen) (allowed (g.functions s) (take λ _. phrase (arguments i false) λ xs. expect RightParen (give (call s xs)))) (give (variable s))
 
-abbrev pub behind_dot : Bool → Expr → Reading Sort.expr
-behind_dot i a = if_name (λ s. phrase (suffixes i (property a (text s))) λ e. give e)
+abbrev pub after_dot : Bool → Expr → Reading Sort.expr
+after_dot i a = if_name (λ s. phrase (suffixes i (property a (text s))) λ e. give e)
     (expect LeftParen (phrase (expression i) λ b. expect RightParen (phrase (suffixes i (property a b)) λ e. give e)))
 
 abbrev pub verb_arguments : Bool → Expr → Expr → Reading Sort.expr
 verb_arguments i a b = expect LeftParen (phrase (arguments i false) λ xs. expect RightParen (phrase (suffixes i (verb_call a b xs)) λ e. give e))
 
-abbrev pub behind_colon : Bool → Expr → Reading Sort.expr
-behind_colon i a = if_name (λ s. verb_arguments i a (text s))
+abbrev pub after_colon : Bool → Expr → Reading Sort.expr
+after_colon i a = if_name (λ s. verb_arguments i a (text s))
     (expect LeftParen (phrase (expression i) λ b. expect RightParen (verb_arguments i a b)))
 
-abbrev pub behind_bracket : Bool → Expr → Reading Sort.expr
-behind_bracket i a = phrase (expression true) λ b. if_sign DotDot
+abbrev pub after_bracket : Bool → Expr → Reading Sort.expr
+after_bracket i a = phrase (expression true) λ b. if_sign DotDot
     (phrase (expression true) λ c. expect RightBracket (phrase (suffixes i (range a b c)) λ e. give e))
     (expect RightBracket (phrase (suffixes i (index a b)) λ e. give e))
 
@@ -152,31 +152,31 @@ loop_at g ls (token.Name x) = if may_jump g ls (Some x) then Some x else None
 loop_at g ls _ = None
 
 -- the end of a jump, with an optional name before it, which is that of a loop
-abbrev pub behind_jump : Rules → List (Option (List ℕ)) → (Option (List ℕ) → Stmt) → Reading Sort.stmt
-behind_jump g ls f = test (λ x. is_some (loop_at g ls x)) (λ x. expect Semicolon (give (f (Some (unwrap_or (loop_at g ls x) []))))) (peek (λ x. is_some (name_at x)) forbid (expect Semicolon (give (f None))))
+abbrev pub after_jump : Rules → List (Option (List ℕ)) → (Option (List ℕ) → Stmt) → Reading Sort.stmt
+after_jump g ls f = test (λ x. is_some (loop_at g ls x)) (λ x. expect Semicolon (give (f (Some (unwrap_or (loop_at g ls x) []))))) (peek (λ x. is_some (name_at x)) forbid (expect Semicolon (give (f None))))
 
 abbrev pub jump : Rules → List (Option (List ℕ)) → Keyword → (Option (List ℕ) → Stmt) → Reading Sort.stmt → Reading Sort.stmt
-jump g ls k f q = peek (is_keyword k) (allowed (may_jump g ls None) (take λ _. behind_jump g ls f)) q
+jump g ls k f q = peek (is_keyword k) (allowed (may_jump g ls None) (take λ _. after_jump g ls f)) q
 
-abbrev pub behind_if : List (Option (List ℕ)) → Reading Sort.stmt
-behind_if ls = phrase in_parens λ a. phrase (statements ls) λ b. phrase (arms ls) λ c. expect_keyword EndIf (give (branches a b c))
+abbrev pub after_if : List (Option (List ℕ)) → Reading Sort.stmt
+after_if ls = phrase in_parens λ a. phrase (statements ls) λ b. phrase (arms ls) λ c. expect_keyword EndIf (give (branches a b c))
 
-abbrev pub behind_in : List (Option (List ℕ)) → List ℕ → Reading Sort.stmt
-behind_in ls x = if_sign LeftBracket
+abbrev pub after_in : List (Option (List ℕ)) → List ℕ → Reading Sort.stmt
+after_in ls x = if_sign LeftBracket
     (phrase (expression false) λ a. expect DotDot (phrase (expression false) λ b. expect RightBracket (phrase (statements (Some x ∷ ls)) λ c. expect_keyword EndFor (give (for_range x a b c)))))
     (phrase in_parens λ a. phrase (statements (Some x ∷ ls)) λ b. expect_keyword EndFor (give (for_list x a b)))
 
-abbrev pub behind_for : List (Option (List ℕ)) → Reading Sort.stmt
-behind_for ls = if_name (λ x. expect_keyword In (behind_in ls x)) refuse
+abbrev pub after_for : List (Option (List ℕ)) → Reading Sort.stmt
+after_for ls = if_name (λ x. expect_keyword In (after_in ls x)) refuse
 
-abbrev pub behind_while : List (Option (List ℕ)) → Reading Sort.stmt
-behind_while ls = phrase label λ l. phrase in_parens λ a. phrase (statements (l ∷ ls)) λ b. expect_keyword EndWhile (give (while_loop l a b))
+abbrev pub after_while : List (Option (List ℕ)) → Reading Sort.stmt
+after_while ls = phrase label λ l. phrase in_parens λ a. phrase (statements (l ∷ ls)) λ b. expect_keyword EndWhile (give (while_loop l a b))
 
-abbrev pub behind_return : Reading Sort.stmt
-behind_return = if_sign Semicolon (give return_nothing) (phrase (expression false) λ a. expect Semicolon (give (returns a)))
+abbrev pub after_return : Reading Sort.stmt
+after_return = if_sign Semicolon (give return_nothing) (phrase (expression false) λ a. expect Semicolon (give (returns a)))
 
-abbrev pub behind_try : List (Option (List ℕ)) → Reading Sort.stmt
-behind_try ls = phrase (statements ls) λ b. if_keyword Finally
+abbrev pub after_try : List (Option (List ℕ)) → Reading Sort.stmt
+after_try ls = phrase (statements ls) λ b. if_keyword Finally
     (phrase (statements ls) λ c. expect_keyword EndTry (give (try_finally b c)))
     (phrase (handlers ls) λ h. expect_keyword EndTry (give (try_except b h)))
 
@@ -192,22 +192,22 @@ grammar g (operand i Product) = phrase (power i) λ e. give e
 grammar g (power i) = phrase (unary i) λ a. if_sign Caret (phrase (power i) λ b. give (binary Power a b)) (give a)
 grammar g (unary i) = if_sign Bang (phrase (unary i) λ a. give (tree.unary Not a)) (if_sign Minus (phrase (unary i) λ a. give (negated a)) (phrase (postfix i) λ a. give a))
 grammar g (postfix i) = phrase (primary i) λ a. phrase (suffixes i a) λ e. give e
-grammar g (suffixes i a) = if_sign Dot (behind_dot i a) (if_sign Colon (behind_colon i a) (if_sign LeftBracket (behind_bracket i a) (give a)))
+grammar g (suffixes i a) = if_sign Dot (after_dot i a) (if_sign Colon (after_colon i a) (if_sign LeftBracket (after_bracket i a) (give a)))
 grammar g (primary i) = if_literal (λ l. give (literal l))
     (if_name (named g i)
     (if_sign LeftParen (phrase (expression i) λ a. expect RightParen (give a)) (braced i)))
 grammar g (codes i) = if_keyword Any (give any_error) (phrase (members i false) λ xs. give (listed_errors xs))
 grammar g (arguments i o) = peek is_closer (give no_items) (phrase (members i o) λ xs. give xs)
 grammar g (members i o) = if_sign At (phrase (expression i) λ a. after_member i o (splice a))
-    (if_optional o (behind_question i) (phrase (expression i) λ a. after_member i o (element a)))
+    (if_optional o (after_question i) (phrase (expression i) λ a. after_member i o (element a)))
 grammar g (statement ls) =
-    if_keyword If (behind_if ls)
-    (if_keyword For (behind_for ls)
-    (if_keyword While (behind_while ls)
+    if_keyword If (after_if ls)
+    (if_keyword For (after_for ls)
+    (if_keyword While (after_while ls)
     (jump g ls Break breaks
     (jump g ls Continue continues
-    (if_keyword Return behind_return
-    (if_keyword Try (behind_try ls)
+    (if_keyword Return after_return
+    (if_keyword Try (after_try ls)
     (phrase (expression false) λ a. expect Semicolon (give (performs a)))))))))
 grammar g (statements ls) = peek begins_statement
     (if_sign Semicolon (phrase (statements ls) λ ss. give ss) (phrase (statement ls) λ s. phrase (statements ls) λ ss. give (tree.then s ss)))

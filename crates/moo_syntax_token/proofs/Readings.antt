@@ -82,19 +82,19 @@ at_split : (P : Spot → Type 0) (before : List Spot) (s : Spot) (after : List S
 at_split P [] s after a = All-head P s after a
 at_split P (x ∷ before) s after a = at_split P before s after (All-tail P x (before ++ s ∷ after) a)
 
-nothing_behind : (sound before : List Spot) (s b : Spot) (after : List Spot) → All IsSound sound → s.token ≡ Bad → before ++ s ∷ after ≡ sound ++ b ∷ [] → after ≡ []
-nothing_behind [] [] s b after a h e = cc
-nothing_behind [] (x ∷ before) s b after a h e = let f : [] ≡ before ++ s ∷ after = cc in absurd (no_split before s after f)
-nothing_behind (y ∷ ys) [] s b after a h e =
+nothing_after : (sound before : List Spot) (s b : Spot) (after : List Spot) → All IsSound sound → s.token ≡ Bad → before ++ s ∷ after ≡ sound ++ b ∷ [] → after ≡ []
+nothing_after [] [] s b after a h e = cc
+nothing_after [] (x ∷ before) s b after a h e = let f : [] ≡ before ++ s ∷ after = cc in absurd (no_split before s after f)
+nothing_after (y ∷ ys) [] s b after a h e =
     let same : y ≡ s = cc in
     absurd (All-head IsSound y ys a (ap (λ (s : Spot). s.token) same ∙ h))
-nothing_behind (y ∷ ys) (x ∷ before) s b after a h e =
+nothing_after (y ∷ ys) (x ∷ before) s b after a h e =
     let f : before ++ s ∷ after ≡ ys ++ b ∷ [] = cc in
-    nothing_behind ys before s b after (All-tail IsSound y ys a) h f
+    nothing_after ys before s b after (All-tail IsSound y ys a) h f
 
 bad_last : (lines : List (List ℕ)) (before after : List Spot) (s : Spot) → s.token ≡ Bad → (IsTokens lines (before ++ s ∷ after) × All IsSound (before ++ s ∷ after)) ⊎ (HasNoTokens lines × EndsInBad (before ++ s ∷ after)) → (after ≡ []) × HasNoTokens lines
 bad_last lines before after s h (inl a) = absurd (at_split IsSound before s after a.1 h)
-bad_last lines before after s h (inr a) = (nothing_behind a.1.before before s _ after a.1.sound h a.1.is, a.0)
+bad_last lines before after s h (inr a) = (nothing_after a.1.before before s _ after a.1.sound h a.1.is, a.0)
 
 pub bad_is_last : (lines : List (List ℕ)) (before after : List Spot) (s : Spot) → IsReading lines (before ++ s ∷ after) → s.token ≡ Bad → (after ≡ []) × HasNoTokens lines
 bad_is_last lines before after s r h = bad_last lines before after s h (tokens_or_bad lines (before ++ s ∷ after) r)

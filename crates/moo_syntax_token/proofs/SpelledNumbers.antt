@@ -77,8 +77,8 @@ unfolding integer_at
 integer_here ds rest d n f =
     let front : prefix_len is_digit (ds ++ rest) ≡ length ds = front_length is_digit ds rest d n in
     let part : take (length ds) (ds ++ rest) ≡ ds = take_at ds rest (length ds) refl in
-    let behind : drop (length ds) (ds ++ rest) ≡ rest = drop_at ds rest (length ds) refl in
-    rw (front, behind, f, part) refl
+    let after : drop (length ds) (ds ++ rest) ≡ rest = drop_at ds rest (length ds) refl in
+    rw (front, after, f, part) refl
 
 number_here : (ds rest : List ℕ) → list_all is_digit ds ≡ true → 0 < length ds → begins_with is_digit rest ≡ false → number_at (ds ++ rest) ≡ Some (wrapped ds, length ds)
 unfolding number_at

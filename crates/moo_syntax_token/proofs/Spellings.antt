@@ -42,8 +42,8 @@ spelling_begins_no_comment token.Bad rest h j = absurd h
 -- the steps of a printed line: a token that is written, and a blank
 pub lexes_spelling : (e : Ending) (n : ℕ) (x : Token) (rest : List ℕ) (below : List (List ℕ)) (ts : List Spot) → HasSpelling x → joins x rest ≡ false → Lexes e outside n rest below ts → Lexes e outside n (spell x ++ rest) below (record { token = x; line = n } ∷ ts)
 lexes_spelling e n x rest below ts h j d =
-    let behind : drop (length (spell x)) (spell x ++ rest) ≡ rest = drop_at (spell x) rest (length (spell x)) refl in
-    token (spelling_begins_no_comment x rest h j) (spelling_is_read x rest h j) (subst (λ bs. Lexes e outside n bs below ts) (sym behind) d)
+    let after : drop (length (spell x)) (spell x ++ rest) ≡ rest = drop_at (spell x) rest (length (spell x)) refl in
+    token (spelling_begins_no_comment x rest h j) (spelling_is_read x rest h j) (subst (λ bs. Lexes e outside n bs below ts) (sym after) d)
 
 pub lexes_blank : (e : Ending) (n : ℕ) (rest : List ℕ) (below : List (List ℕ)) (ts : List Spot) → Lexes e outside n rest below ts → Lexes e outside n (32 ∷ rest) below ts
 unfolding begins_blank

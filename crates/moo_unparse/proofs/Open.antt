@@ -16,7 +16,7 @@ use Rattle.moo_syntax_ast.specs.Tree
 use Rattle.moo_syntax_ast.specs.Tree.{Expr, Items, Codes, Stmt, Arms, Handlers, Block}
 use Rattle.moo_syntax_ast.specs.Listing.{is_compound, is_compound_base, constant_name, is_system_object}
 use Rattle.moo_syntax_ast.specs.Limits.{height, items_height, codes_height, statement_height, arms_height, handlers_height, block_height}
-use Rattle.moo_syntax_grammar.specs.Brackets.{open_behind, most_open_behind, most_open}
+use Rattle.moo_syntax_grammar.specs.Brackets.{open_after, most_open_after, most_open}
 use Rattle.moo_unparse.specs.declared.form.Parentheses.{Parentheses}
 use Rattle.moo_unparse.specs.declared.form.Part.TheVariants as part
 use Rattle.moo_unparse.specs.Parts.{operator_part, left_of, right_of, needs}
@@ -24,7 +24,7 @@ use Rattle.moo_unparse.proofs.Listed.{unary_mark, binary_token, logic_mark, lite
 
 -- at most m brackets are open at one place of the tokens, where n are open before them
 pub record Within (m n : ℕ) (ts : List Token) : Type 0 where
-  pub most : most_open_behind n ts ≤ m
+  pub most : most_open_after n ts ≤ m
 
 -- the text of f closes the brackets that it opens, and opens few enough, if n are open before it
 abbrev Closed : ℕ → ℕ → (List Token → List Token) → Type 0
@@ -32,13 +32,13 @@ Closed m n f = (r : List Token) → Within m n r → Within m n (f r)
 
 module _ {m : ℕ} where
   -- a token that is no bracket
-  plain : (x : Token) (n : ℕ) (ts : List Token) → open_behind n x ≡ n → n ≤ m → Within m n ts → Within m n (x ∷ ts)
+  plain : (x : Token) (n : ℕ) (ts : List Token) → open_after n x ≡ n → n ≤ m → Within m n ts → Within m n (x ∷ ts)
   plain x n ts same h w = record { most = rw same (omega (arith, h, w.most)) }
 
-  opening : (x : Token) (n : ℕ) (ts : List Token) → open_behind n x ≡ n + 1 → n ≤ m → Within m (n + 1) ts → Within m n (x ∷ ts)
+  opening : (x : Token) (n : ℕ) (ts : List Token) → open_after n x ≡ n + 1 → n ≤ m → Within m (n + 1) ts → Within m n (x ∷ ts)
   opening x n ts more h w = record { most = rw more (omega (arith, h, w.most)) }
 
-  closing : (x : Token) (n : ℕ) (ts : List Token) → open_behind (n + 1) x ≡ n → n + 1 ≤ m → Within m n ts → Within m (n + 1) (x ∷ ts)
+  closing : (x : Token) (n : ℕ) (ts : List Token) → open_after (n + 1) x ≡ n → n + 1 ≤ m → Within m n ts → Within m (n + 1) (x ∷ ts)
   closing x n ts less h w = record { most = rw less (omega (arith, h, w.most)) }
 
   -- each pair of brackets, round what f writes
@@ -56,7 +56,7 @@ module _ {m : ℕ} where
   in_parens true f n r c h w = in_round f n r (c (n + 1) (omega arith)) h w
   in_parens false f n r c h w = c n (omega arith) r w
 
-  in_selected : (x : Sign) → ((k : ℕ) → open_behind k (token.Sign x) ≡ k) → (s : Option (List ℕ)) (system : Bool) (f g : List Token → List Token) (n : ℕ) (r : List Token) → Closed m n f → Closed m (n + 1) g → n + 1 ≤ m → Within m n r → Within m n (selected x s system f g r)
+  in_selected : (x : Sign) → ((k : ℕ) → open_after k (token.Sign x) ≡ k) → (s : Option (List ℕ)) (system : Bool) (f g : List Token → List Token) (n : ℕ) (r : List Token) → Closed m n f → Closed m (n + 1) g → n + 1 ≤ m → Within m n r → Within m n (selected x s system f g r)
   in_selected x same (Some s) true f g n r c d h w = plain (token.Sign sign.Dollar) n _ refl (omega (arith, h)) (plain (token.Name s) n r refl (omega (arith, h)) w)
   in_selected x same (Some s) false f g n r c d h w = c _ (plain (token.Sign x) n _ (same n) (omega (arith, h)) (plain (token.Name s) n r refl (omega (arith, h)) w))
   in_selected x same None system f g n r c d h w = c _ (plain (token.Sign x) n _ (same n) (omega (arith, h)) (in_round g n r d h w))

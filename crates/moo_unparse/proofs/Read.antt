@@ -237,9 +237,9 @@ unfolding integer_at
 digits_token ds rest d e =
     let front : prefix_len is_digit (ds ++ rest) ≡ length ds = front_length is_digit ds rest d e.digit in
     let part : take (length ds) (ds ++ rest) ≡ ds = take_at ds rest (length ds) refl in
-    let behind : drop (length ds) (ds ++ rest) ≡ rest = drop_at ds rest (length ds) refl in
+    let after : drop (length ds) (ds ++ rest) ≡ rest = drop_at ds rest (length ds) refl in
     let f = e.fraction refl in
-    rw (front, behind, f, part) refl
+    rw (front, after, f, part) refl
 
 digits_no_comment : (ds rest : List ℕ) → list_all is_digit ds ≡ true → 0 < length ds → begins_comment (ds ++ rest) ≡ false
 unfolding begins_comment
@@ -293,10 +293,10 @@ module _ {n : ℕ} {below : List (List ℕ)} where
       let d = decimal_is (suc k) (omega arith) in
       let at : token_at (decimal (suc k) ++ rest) ≡ Some (token.Integer (int_wrapping_neg w32 (negsuc k)), length (decimal (suc k))) =
       at_digits (decimal (suc k)) rest d.digits d.some ∙ digits_token (decimal (suc k)) rest d.digits e ∙ ap (λ (z : ℤ). Some (token.Integer z, length (decimal (suc k)))) (magnitude k (decimal (suc k)) d.value h) in
-      let behind : drop (length (decimal (suc k))) (decimal (suc k) ++ rest) ≡ rest = drop_at (decimal (suc k)) rest (length (decimal (suc k))) refl in
+      let after : drop (length (decimal (suc k))) (decimal (suc k) ++ rest) ≡ rest = drop_at (decimal (suc k)) rest (length (decimal (suc k))) refl in
       record {
         spots = record { token = token.Integer (int_wrapping_neg w32 (negsuc k)); line = n } ∷ r.spots;
-        lexes = Lexing.token (digits_no_comment (decimal (suc k)) rest d.digits d.some) at (subst (λ bs. Lexes complete outside n bs below r.spots) (sym behind) r.lexes);
+        lexes = Lexing.token (digits_no_comment (decimal (suc k)) rest d.digits d.some) at (subst (λ bs. Lexes complete outside n bs below r.spots) (sym after) r.lexes);
         same = ap (λ (us : List Token). token.Integer (int_wrapping_neg w32 (negsuc k)) ∷ us) r.same;
       }
 

@@ -83,13 +83,13 @@ step_blank false = tt
 deeper_blank : (f : Form) (m : List ℕ) → AreBlanks m → AreBlanks (deeper f m)
 deeper_blank f m h = both_blank m (blanks f.indent) h (step_blank f.indent)
 
-behind : {n : ℕ} {lines : List (List ℕ)} (m text : List ℕ) (ts : List Token) → AreBlanks m → Reads n lines text ts → Reads n lines (m ++ text) ts
-behind [] text ts h r = r
-behind {n} {lines} (b ∷ m) text ts h r = subst (λ v. Reads n lines (v ∷ (m ++ text)) ts) (sym h.0) (blank _ _ (behind m text ts h.1 r))
+after : {n : ℕ} {lines : List (List ℕ)} (m text : List ℕ) (ts : List Token) → AreBlanks m → Reads n lines text ts → Reads n lines (m ++ text) ts
+after [] text ts h r = r
+after {n} {lines} (b ∷ m) text ts h r = subst (λ v. Reads n lines (v ∷ (m ++ text)) ts) (sym h.0) (blank _ _ (after m text ts h.1 r))
 
 -- a line after its margin
 at : (m : List ℕ) → AreBlanks m → (text : List ℕ) (lines : List (List ℕ)) (ts us : List Token) → ((n : ℕ) → Reads n lines [] us → Reads n lines text ts) → Goes lines us → Goes ((m ++ text) ∷ lines) ts
-at m h text lines ts us k g = line (m ++ text) lines ts us (λ n r. behind m text ts h (k n r)) g
+at m h text lines ts us k g = line (m ++ text) lines ts us (λ n r. after m text ts h (k n r)) g
 
 mutual
   go_block : (f : Form) (m : List ℕ) → AreBlanks m → (b : Block) → IsSoundBlock b → (rest : List (List ℕ)) (ts : List Token) → Goes rest ts → Goes (listed_lines f m b ++ rest) (spell_block f.parentheses b ts)

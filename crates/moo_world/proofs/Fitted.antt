@@ -46,12 +46,12 @@ own_other y k (c ∷ cs) ne =
     (λ other. rw other (own_other y k cs ne))
     (cases_Bool (eqb c.definer y))
 
-pub found_behind : (k : Key) (xs ys : List Cell) → cell_at xs k ≡ None → cell_at (xs ++ ys) k ≡ cell_at ys k
-found_behind k [] ys none = refl
-found_behind k (c ∷ xs) ys none =
+pub found_after : (k : Key) (xs ys : List Cell) → cell_at xs k ≡ None → cell_at (xs ++ ys) k ≡ cell_at ys k
+found_after k [] ys none = refl
+found_after k (c ∷ xs) ys none =
     ⊎_elim
     (λ on. absurd (let some : Some c ≡ None = (rw on at none) in cc))
-    (λ off. rw off (found_behind k xs ys (rw off at none)))
+    (λ off. rw off (found_after k xs ys (rw off at none)))
     (cases_Bool (is_key k c))
 
 found_before : (k : Key) (xs ys : List Cell) → cell_at ys k ≡ None → cell_at (xs ++ ys) k ≡ cell_at xs k
@@ -97,7 +97,7 @@ row_fitted y o above apart = record {
 }
   where
     following : (k : Key) → k.0 ≢ y → cell_at (fitted_row y o above) k ≡ option_map (fitted_cell o) (cell_at above k)
-    following k ne = found_behind k (own_cells y o.cells) (map (fitted_cell o) above) (own_other y k o.cells ne) ∙ among_fitted o k above
+    following k ne = found_after k (own_cells y o.cells) (map (fitted_cell o) above) (own_other y k o.cells ne) ∙ among_fitted o k above
 
 module _ (objects : List (Option Object)) (tree : List Links) (forest : IsForest tree) (free : IsFreeTree objects tree) where
   -- the cells of the parent are those fitted along the ancestors

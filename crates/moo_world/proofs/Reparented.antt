@@ -22,7 +22,7 @@ use Rattle.moo_world_table.proofs.Definitions.{defined_well_formed, own_then, st
 use Rattle.moo_world_table.proofs.Joining.{within_valid}
 use Rattle.moo_world.specs.Calls.{parent_raises}
 use Rattle.moo_world.specs.Lookups.{AreFitted, IsReparented, IsDefinedOn}
-use Rattle.moo_world.proofs.Fitted.{all_fitted, along_same, same_outside, found_behind}
+use Rattle.moo_world.proofs.Fitted.{all_fitted, along_same, same_outside, found_after}
 use Rattle.moo_world.proofs.Seen.{seen_below, named_below}
 
 module _ (w : World) (x : ℕ) (p : Option ℕ) (f : IsWellFormed w) (valid : IsSome (object_of w.objects x)) (p_valid : IsValidPlace w.objects p) (none : parent_raises w x p ≡ None) where
@@ -117,7 +117,7 @@ module _ (w : World) (x : ℕ) (name : List ℕ) (cell : Cell) (f : IsWellFormed
           get_or-set_same w.objects x (with_definition name cell (object_of w.objects x)) None (valid_within w.objects x valid) ∙ ap (with_definition name cell) e in
           let nothing_yet : cell_at o.cells (x, folded name) ≡ None = subst (λ q. cell_at (unwrap_or q nothing).cells (x, folded name) ≡ None) e unnamed in
           (fitted_then x (record o { defined = o.defined ++ name ∷ []; cells = o.cells ++ cell ∷ [] }) at).own (x, folded name) refl ∙
-          found_behind (x, folded name) o.cells (cell ∷ []) nothing_yet ∙ mine
+          found_after (x, folded name) o.cells (cell ∷ []) nothing_yet ∙ mine
 
   unheld_below : (y : ℕ) → is_within w.inheritance y x ≡ true → y ≢ x → cell_at (thing_of with_it y).cells (x, folded name) ≡ None
   unheld_below y on ne =

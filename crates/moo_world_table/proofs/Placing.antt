@@ -180,8 +180,8 @@ module _ (w : World) (x : ℕ) (name : List ℕ) (cell : Cell) (f : IsWellFormed
   cell_for z = cond (eqb z x) cell (cleared (thing_of w.objects z).owner cell)
 
   -- how many cells it comes before
-  abbrev cells_behind : ℕ
-  cells_behind = length (fitted_along w.objects (ancestors w.inheritance x))
+  abbrev cells_after : ℕ
+  cells_after = length (fitted_along w.objects (ancestors w.inheritance x))
 
   own_for : cell_for x ≡ cell
   own_for = let e = eq-eqb x x refl in rw e refl
@@ -213,18 +213,18 @@ module _ (w : World) (x : ℕ) (name : List ℕ) (cell : Cell) (f : IsWellFormed
       (subst (λ (cs : List Cell). Placed (length above) cell (fitted_along w.objects (x ∷ zs)) (fitted_over x (with_definition name cell (object_of w.objects x)) cs)) (sym (fitted_apart w x name cell f valid d zs off))
       (own_placed x (object_of w.objects x) name cell above valid (ap (λ (k : Key). k.0) d.own) apart))
 
-  first_placed : (ys : List ℕ) → IsWayUp w.inheritance x ys → Placed cells_behind (cell_for x) (fitted_along w.objects (x ∷ ys)) (fitted_along (with_definition_on w.objects x name cell) (x ∷ ys))
+  first_placed : (ys : List ℕ) → IsWayUp w.inheritance x ys → Placed cells_after (cell_for x) (fitted_along w.objects (x ∷ ys)) (fitted_along (with_definition_on w.objects x name cell) (x ∷ ys))
   first_placed ys way =
-      subst (λ (c : Cell). Placed cells_behind c (fitted_along w.objects (x ∷ ys)) (fitted_along (with_definition_on w.objects x name cell) (x ∷ ys))) (sym own_for)
+      subst (λ (c : Cell). Placed cells_after c (fitted_along w.objects (x ∷ ys)) (fitted_along (with_definition_on w.objects x name cell) (x ∷ ys))) (sym own_for)
       (subst (λ (zs : List ℕ). Placed (length (fitted_along w.objects zs)) cell (fitted_along w.objects (x ∷ ys)) (fitted_along (with_definition_on w.objects x name cell) (x ∷ ys)))
       (sym (way_up_is_ancestors w.inheritance f.parents.forest.exact x ys way)) (at_definer ys way))
 
   next_placed : (z u : ℕ) (us : List ℕ) → IsWayUp w.inheritance z (u ∷ us) → z ≢ x → is_within w.inheritance z x ≡ true →
-      Placed cells_behind (cell_for u) (fitted_along w.objects (u ∷ us)) (fitted_along (with_definition_on w.objects x name cell) (u ∷ us)) →
-      Placed cells_behind (cell_for z) (fitted_along w.objects (z ∷ u ∷ us)) (fitted_along (with_definition_on w.objects x name cell) (z ∷ u ∷ us))
+      Placed cells_after (cell_for u) (fitted_along w.objects (u ∷ us)) (fitted_along (with_definition_on w.objects x name cell) (u ∷ us)) →
+      Placed cells_after (cell_for z) (fitted_along w.objects (z ∷ u ∷ us)) (fitted_along (with_definition_on w.objects x name cell) (z ∷ u ∷ us))
   next_placed z u us way ne on p = over (object_of w.objects z) refl
     where
-      over : (r : Option Object) → object_of w.objects z ≡ r → Placed cells_behind (cell_for z) (fitted_along w.objects (z ∷ u ∷ us)) (fitted_along (with_definition_on w.objects x name cell) (z ∷ u ∷ us))
+      over : (r : Option Object) → object_of w.objects z ≡ r → Placed cells_after (cell_for z) (fitted_along w.objects (z ∷ u ∷ us)) (fitted_along (with_definition_on w.objects x name cell) (z ∷ u ∷ us))
       over None e = absurd (let none : above_of w.inheritance z ≡ None = ap (λ n. n.above) (f.parents.free z e) in let some = way.0 in cc)
       over (Some o) e =
           let above = fitted_along w.objects (u ∷ us) in
@@ -232,37 +232,37 @@ module _ (w : World) (x : ℕ) (name : List ℕ) (cell : Cell) (f : IsWellFormed
           let new : object_of (with_definition_on w.objects x name cell) z ≡ Some o = there w x name cell f valid d z ne ∙ e in
           let mine : cleared o.owner (cell_for u) ≡ cell_for z = ap (λ (r : Option Object). cleared (unwrap_or r nothing).owner (cell_for u)) (sym e) ∙ cleared_for z u ne in
           let none : cell_at o.cells (key_of (cell_for u)) ≡ None = ap (cell_at o.cells) (key_for u) ∙ ap (λ (r : Option Object). cell_at (unwrap_or r nothing).cells (x, folded name)) (sym e) ∙ unheld z on in
-          subst (λ (r : Option Object). Placed cells_behind (cell_for z) (fitted_over z r above) (fitted_along (with_definition_on w.objects x name cell) (z ∷ u ∷ us))) (sym e)
-          (subst (λ (r : Option Object). Placed cells_behind (cell_for z) (fitted_row z o above) (fitted_over z r after)) (sym new)
-          (subst (λ (c : Cell). Placed cells_behind c (fitted_row z o above) (fitted_row z o after)) mine
-          (below_placed z o cells_behind (cell_for u) above after none p)))
+          subst (λ (r : Option Object). Placed cells_after (cell_for z) (fitted_over z r above) (fitted_along (with_definition_on w.objects x name cell) (z ∷ u ∷ us))) (sym e)
+          (subst (λ (r : Option Object). Placed cells_after (cell_for z) (fitted_row z o above) (fitted_over z r after)) (sym new)
+          (subst (λ (c : Cell). Placed cells_after c (fitted_row z o above) (fitted_row z o after)) mine
+          (below_placed z o cells_after (cell_for u) above after none p)))
 
   -- each row within x has one cell more, at its place
   rows_placed : (z : ℕ) (ys : List ℕ) → IsWayUp w.inheritance z ys → list_any (eqb x) (z ∷ ys) ≡ true →
-      Placed cells_behind (cell_for z) (fitted_along w.objects (z ∷ ys)) (fitted_along (with_definition_on w.objects x name cell) (z ∷ ys))
+      Placed cells_after (cell_for z) (fitted_along w.objects (z ∷ ys)) (fitted_along (with_definition_on w.objects x name cell) (z ∷ ys))
   rows_placed z [] way on = ⊎_elim
       (λ e. at_first z [] (eqb-true x z e) way)
       (λ later. absurd (false≢true later))
       (or_cases (eqb x z) false on)
     where
-      at_first : (q : ℕ) (ys : List ℕ) → x ≡ q → IsWayUp w.inheritance q ys → Placed cells_behind (cell_for q) (fitted_along w.objects (q ∷ ys)) (fitted_along (with_definition_on w.objects x name cell) (q ∷ ys))
-      at_first q ys e = subst (λ (n : ℕ). IsWayUp w.inheritance n ys → Placed cells_behind (cell_for n) (fitted_along w.objects (n ∷ ys)) (fitted_along (with_definition_on w.objects x name cell) (n ∷ ys))) e (first_placed ys)
+      at_first : (q : ℕ) (ys : List ℕ) → x ≡ q → IsWayUp w.inheritance q ys → Placed cells_after (cell_for q) (fitted_along w.objects (q ∷ ys)) (fitted_along (with_definition_on w.objects x name cell) (q ∷ ys))
+      at_first q ys e = subst (λ (n : ℕ). IsWayUp w.inheritance n ys → Placed cells_after (cell_for n) (fitted_along w.objects (n ∷ ys)) (fitted_along (with_definition_on w.objects x name cell) (n ∷ ys))) e (first_placed ys)
   rows_placed z (u ∷ us) way on = ⊎_elim
-      (λ e. subst (λ (n : ℕ). IsWayUp w.inheritance n (u ∷ us) → Placed cells_behind (cell_for n) (fitted_along w.objects (n ∷ u ∷ us)) (fitted_along (with_definition_on w.objects x name cell) (n ∷ u ∷ us))) e (first_placed (u ∷ us)) way)
+      (λ e. subst (λ (n : ℕ). IsWayUp w.inheritance n (u ∷ us) → Placed cells_after (cell_for n) (fitted_along w.objects (n ∷ u ∷ us)) (fitted_along (with_definition_on w.objects x name cell) (n ∷ u ∷ us))) e (first_placed (u ∷ us)) way)
       (λ ne. next_placed z u us way (λ e. ne (sym e)) (ap (λ ys. list_any (eqb x) (z ∷ ys)) (way_up_is_ancestors w.inheritance f.parents.forest.exact z (u ∷ us) way) ∙ on)
       (rows_placed u us way.1 (⊎_elim (λ e. absurd (ne (eqb-true x z e))) (λ h. h) (or_cases (eqb x z) (list_any (eqb x) (u ∷ us)) on))))
       (cases_eq x z)
 
-  row_is : (z : ℕ) → is_within w.inheritance z x ≡ true → fitted_along (with_definition_on w.objects x name cell) (z ∷ ancestors w.inheritance z) ≡ put_before cells_behind (cell_for z) (thing_of w.objects z).cells
+  row_is : (z : ℕ) → is_within w.inheritance z x ≡ true → fitted_along (with_definition_on w.objects x name cell) (z ∷ ancestors w.inheritance z) ≡ put_before cells_after (cell_for z) (thing_of w.objects z).cells
   row_is z on =
-      placed cells_behind (cell_for z) (fitted_along w.objects (z ∷ ancestors w.inheritance z)) (fitted_along (with_definition_on w.objects x name cell) (z ∷ ancestors w.inheritance z))
+      placed cells_after (cell_for z) (fitted_along w.objects (z ∷ ancestors w.inheritance z)) (fitted_along (with_definition_on w.objects x name cell) (z ∷ ancestors w.inheritance z))
       (rows_placed z (ancestors w.inheritance z) (f.parents.forest.rooted z) on) ∙
-      ap (put_before cells_behind (cell_for z)) (already_fitted w f z (ancestors w.inheritance z) (f.parents.forest.rooted z))
+      ap (put_before cells_after (cell_for z)) (already_fitted w f z (ancestors w.inheritance z) (f.parents.forest.rooted z))
 
-  behind_is : length (cells_of w.objects (above_of w.inheritance x)) ≡ cells_behind
-  behind_is = up_to (above_of w.inheritance x) refl
+  after_is : length (cells_of w.objects (above_of w.inheritance x)) ≡ cells_after
+  after_is = up_to (above_of w.inheritance x) refl
     where
-      up_to : (q : Option ℕ) → above_of w.inheritance x ≡ q → length (cells_of w.objects q) ≡ cells_behind
+      up_to : (q : Option ℕ) → above_of w.inheritance x ≡ q → length (cells_of w.objects q) ≡ cells_after
       up_to None is = ap (λ zs. length (fitted_along w.objects zs)) (sym (way_up_is_ancestors w.inheritance f.parents.forest.exact x [] is))
       up_to (Some up) is =
           ap length (sym (already_fitted w f up (ancestors w.inheritance up) (f.parents.forest.rooted up))) ∙
@@ -270,23 +270,23 @@ module _ (w : World) (x : ℕ) (name : List ℕ) (cell : Cell) (f : IsWellFormed
 
   module _ (ys : List ℕ) (lists : (y : ℕ) → list_any (eqb y) (x ∷ ys) ≡ is_within w.inheritance y x) (apart : list_any (eqb x) ys ≡ false) (once : IsOnce ys) (low : All (λ y. y < length w.objects) ys) where
     abbrev below : List (Option Object)
-    below = changed_along (with_clear_cell cells_behind cell) w.objects ys
+    below = changed_along (with_clear_cell cells_after cell) w.objects ys
 
     abbrev whole : List (Option Object)
-    whole = defined_along cells_behind name cell w.objects (x ∷ ys)
+    whole = defined_along cells_after name cell w.objects (x ∷ ys)
 
     many_below : length below ≡ length w.objects
-    many_below = length_changed (with_clear_cell cells_behind cell) w.objects ys
+    many_below = length_changed (with_clear_cell cells_after cell) w.objects ys
 
     here_is : object_of whole x ≡ refitted_object (with_definition_on w.objects x name cell) w.inheritance x
     here_is =
         let inside = valid_within w.objects x valid in
         let on : is_within w.inheritance x x ≡ true = or_left (eqb x x) (list_any (eqb x) (ancestors w.inheritance x)) (eq-eqb x x refl) in
-        let row = row_is x on ∙ ap (λ (c : Cell). put_before cells_behind c (thing_of w.objects x).cells) own_for in
-        let was : object_of below x ≡ object_of w.objects x = changed_at_each (with_clear_cell cells_behind cell) w.objects ys once low x ∙ (rw apart refl) in
-        get_or-set_same below x (with_own_cell cells_behind name cell (object_of below x)) None (omega (arith, many_below, inside)) ∙
-        ap (with_own_cell cells_behind name cell) was ∙ own_then_cells name cells_behind cell (object_of w.objects x) ∙
-        ap (λ o. with_cells o (put_before cells_behind cell (thing_of w.objects x).cells)) (sym (here w x name cell f valid d)) ∙
+        let row = row_is x on ∙ ap (λ (c : Cell). put_before cells_after c (thing_of w.objects x).cells) own_for in
+        let was : object_of below x ≡ object_of w.objects x = changed_at_each (with_clear_cell cells_after cell) w.objects ys once low x ∙ (rw apart refl) in
+        get_or-set_same below x (with_own_cell cells_after name cell (object_of below x)) None (omega (arith, many_below, inside)) ∙
+        ap (with_own_cell cells_after name cell) was ∙ own_then_cells name cells_after cell (object_of w.objects x) ∙
+        ap (λ o. with_cells o (put_before cells_after cell (thing_of w.objects x).cells)) (sym (here w x name cell f valid d)) ∙
         ap (with_cells (object_of (with_definition_on w.objects x name cell) x)) (sym row)
 
     there_is : (y : ℕ) → y ≢ x → object_of whole y ≡ refitted_object (with_definition_on w.objects x name cell) w.inheritance y
@@ -294,14 +294,14 @@ module _ (w : World) (x : ℕ) (name : List ℕ) (cell : Cell) (f : IsWellFormed
         let objects = with_definition_on w.objects x name cell in
         let same = there w x name cell f valid d y ne in
         let other = ne_eqb y x ne in
-        get_or-set_other below x y (with_own_cell cells_behind name cell (object_of below x)) None ne ∙
-        changed_at_each (with_clear_cell cells_behind cell) w.objects ys once low y ∙
+        get_or-set_other below x y (with_own_cell cells_after name cell (object_of below x)) None ne ∙
+        changed_at_each (with_clear_cell cells_after cell) w.objects ys once low y ∙
         ⊎_elim
         (λ on.
         let met_there : list_any (eqb y) ys ≡ true = ap (λ b. b || list_any (eqb y) ys) (sym other) ∙ lists y ∙ on in
-        let row = row_is y on ∙ ap (λ (c : Cell). put_before cells_behind c (thing_of w.objects y).cells) (other_for y ne) in
-        rw met_there (clear_then_cells cells_behind cell (object_of w.objects y) ∙
-        ap (λ o. with_cells o (put_before cells_behind (cleared (thing_of w.objects y).owner cell) (thing_of w.objects y).cells)) (sym same) ∙
+        let row = row_is y on ∙ ap (λ (c : Cell). put_before cells_after c (thing_of w.objects y).cells) (other_for y ne) in
+        rw met_there (clear_then_cells cells_after cell (object_of w.objects y) ∙
+        ap (λ o. with_cells o (put_before cells_after (cleared (thing_of w.objects y).owner cell) (thing_of w.objects y).cells)) (sym same) ∙
         ap (with_cells (object_of objects y)) (sym row)))
         (λ off.
         let unmet : list_any (eqb y) ys ≡ false = ap (λ b. b || list_any (eqb y) ys) (sym other) ∙ lists y ∙ off in
@@ -310,7 +310,7 @@ module _ (w : World) (x : ℕ) (name : List ℕ) (cell : Cell) (f : IsWellFormed
 
     whole_is : whole ≡ refitted (with_definition_on w.objects x name cell) w.inheritance
     whole_is = fill_by_all (refitted_object (with_definition_on w.objects x name cell) w.inheritance) whole (length (with_definition_on w.objects x name cell)) None
-        (length-set below x (with_own_cell cells_behind name cell (object_of below x)) ∙ many_below ∙ sym (many_then w x name cell f valid d))
+        (length-set below x (with_own_cell cells_after name cell (object_of below x)) ∙ many_below ∙ sym (many_then w x name cell f valid d))
         (λ y h. ⊎_elim (λ e. subst (λ (q : ℕ). object_of whole q ≡ refitted_object (with_definition_on w.objects x name cell) w.inheritance q) (sym e) here_is) (there_is y) (cases_eq y x))
 
   -- cells put in along a walk down from x are those of objects that are fitted anew
@@ -320,8 +320,8 @@ module _ (w : World) (x : ℕ) (name : List ℕ) (cell : Cell) (f : IsWellFormed
   defined_is (s ∷ rest) wd =
       let single = walk_once w.inheritance x (s ∷ rest) wd in
       let members = walk_members w.objects w.inheritance f.parents x valid (s ∷ rest) wd w.objects refl in
-      ap (λ k. defined_along k name cell w.objects (met (s ∷ rest))) behind_is ∙
-      ap (λ y. defined_along cells_behind name cell w.objects (y ∷ met rest)) wd.first ∙
+      ap (λ k. defined_along k name cell w.objects (met (s ∷ rest))) after_is ∙
+      ap (λ y. defined_along cells_after name cell w.objects (y ∷ met rest)) wd.first ∙
       whole_is (met rest)
       (λ y. ap (λ q. list_any (eqb y) (q ∷ met rest)) (sym wd.first) ∙ walk_lists w.inheritance x (s ∷ rest) wd y)
       (ap (λ q. list_any (eqb q) (met rest)) (sym wd.first) ∙ single.0)

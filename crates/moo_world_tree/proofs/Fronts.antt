@@ -5,11 +5,11 @@ use Rattle.moo_world_tree.specs.Gapped.{present, BeginsEmpty}
 use Rattle.moo_world_tree.proofs.Gaps.{present-append}
 
 -- all other elements follow them
-behind : (n : ℕ) (slots : List (Option ℕ)) → present (take n slots) ≡ [] → present (drop n slots) ≡ present slots
-behind n slots none = sym (ap present (sym (take-append-drop n slots)) ∙ present-append (take n slots) (drop n slots) ∙ ap (λ ys. ys ++ present (drop n slots)) none)
+after : (n : ℕ) (slots : List (Option ℕ)) → present (take n slots) ≡ [] → present (drop n slots) ≡ present slots
+after n slots none = sym (ap present (sym (take-append-drop n slots)) ∙ present-append (take n slots) (drop n slots) ∙ ap (λ ys. ys ++ present (drop n slots)) none)
 
-pub all_behind : (n : ℕ) (slots : List (Option ℕ)) → present (take n slots) ≡ [] → present (take (length slots - n) (drop n slots)) ≡ present slots
-all_behind n slots none = ap present (take_all (length slots - n) (drop n slots) (omega (arith, length-drop n slots))) ∙ behind n slots none
+pub all_after : (n : ℕ) (slots : List (Option ℕ)) → present (take n slots) ≡ [] → present (take (length slots - n) (drop n slots)) ≡ present slots
+all_after n slots none = ap present (take_all (length slots - n) (drop n slots) (omega (arith, length-drop n slots))) ∙ after n slots none
 
 emptied : (n i : ℕ) (slots : List (Option ℕ)) → present (take n slots) ≡ [] → present (take n (set slots i None)) ≡ []
 emptied zero i slots none = refl

@@ -17,7 +17,7 @@ use Rattle.moo_syntax_grammar.specs.Rules.{may_assign}
 use Rattle.moo_syntax_grammar.specs.Grammar.{Sort, joined, expression, conditional, operand, chain, more, power, unary, postfix, suffixes, primary, arguments, members, has_optional}
 use Rattle.moo_syntax_grammar.specs.Machine.{give, take, phrase, gives, sees, misses, reads, refuses, sees_fails, misses_fails, phrase_fails, then_fails}
 use Rattle.moo_syntax_grammar.specs.Tokens.{next_passes, is_sign, name_at, literal_at}
-use Rattle.moo_syntax_grammar.specs.Predictive.{grammar, expect, after_member, behind_dot, behind_colon, verb_arguments, behind_bracket, named, braced, dollar, behind_dollar, guarded, behind_question}
+use Rattle.moo_syntax_grammar.specs.Predictive.{grammar, expect, after_member, after_dot, after_colon, verb_arguments, after_bracket, named, braced, dollar, after_dollar, guarded, after_question}
 use Rattle.moo_syntax_grammar.specs.Minuses.{negations}
 use Rattle.moo_syntax_grammar.proofs.Kept.{target_may_be_assigned, no_target, name_may_be_called, refused_fails}
 use Rattle.moo_syntax_grammar.proofs.Heights.{height_positive, joined_height, negations_lower}
@@ -538,8 +538,8 @@ levels::unary-returns-in_err-operand-clause-failed t c =
     passed _ p.1 p.2 (record {
       fails = λ g b. fails_from m.tokens (minuses_fail g c.args.place.inside c.take_minuses-minuses.result (w.fails g b));
       stands = w.stands;
-      deep = λ h g ok. deepens_from m.tokens (minuses_deepens c.args.place.inside c.take_minuses-minuses.result c.args.room (rw c.behind_minuses.ensures at (w.deep h g ok)));
-      long = λ h. let l = w.long h in omega (arith, l, m.at, c.behind_minuses.ensures);
+      deep = λ h g ok. deepens_from m.tokens (minuses_deepens c.args.place.inside c.take_minuses-minuses.result c.args.room (rw c.after_minuses.ensures at (w.deep h g ok)));
+      long = λ h. let l = w.long h in omega (arith, l, m.at, c.after_minuses.ensures);
     })
 
 pub levels::unary-returns-clause-read : goal.levels::unary-returns-clause-read
@@ -551,7 +551,7 @@ pub levels::unary-returns-clause-failed : goal.levels::unary-returns-clause-fail
 unfolding grammar
 levels::unary-returns-clause-failed t c =
     no_leaf c.args.place.names true (λ g. grammar g (unary c.args.place.inside)) c.args.room 0 c.args.tokens.now c.unsigned-2.new.tokens (negations c.take_minuses-minuses.result (root c.in_ok-operand.operand.tree)) c.negate_times.result c.negate_times.ensures
-    (λ high g ok. deepens_from c.take_minuses-minuses.ensures.tokens (minuses_late c.args.place.inside c.take_minuses-minuses.result c.args.room (root c.in_ok-operand.operand.tree) (c.in_ok-operand.ensures.read.reads g ok) (omega (arith, c.in_ok-operand.ensures.read.fits, c.behind_minuses.ensures)) high))
+    (λ high g ok. deepens_from c.take_minuses-minuses.ensures.tokens (minuses_late c.args.place.inside c.take_minuses-minuses.result c.args.room (root c.in_ok-operand.operand.tree) (c.in_ok-operand.ensures.read.reads g ok) (omega (arith, c.in_ok-operand.ensures.read.fits, c.after_minuses.ensures)) high))
     (λ high. omega (arith, high, c.in_ok-operand.ensures.read.tokens, c.take_minuses-minuses.ensures.at, negations_lower c.take_minuses-minuses.result (root c.in_ok-operand.operand.tree)))
 
 pub levels::unsigned-returns-in_err-below-clause-failed : goal.levels::unsigned-returns-in_err-below-clause-failed
@@ -637,7 +637,7 @@ postfix::postfix-returns-clause-failed t c =
 pub postfix::suffixes-returns-then-take-clause-read : goal.postfix::suffixes-returns-then-take-clause-read
 unfolding grammar
 postfix::suffixes-returns-then-take-clause-read t c =
-    if_ok (λ n. IsReadBy c.args.place.names Sort.expr (λ g. behind_dot c.args.place.inside (root c.args.base.tree)) c.args.room (height (root c.args.base.tree) + 1) c.take.new.self c.behind_dot.new.tokens (root n.tree)) (λ n. IsReadBy c.args.place.names Sort.expr (λ g. grammar g (suffixes c.args.place.inside (root c.args.base.tree))) c.args.room (height (root c.args.base.tree)) c.args.tokens.now c.behind_dot.new.tokens (root n.tree)) c.behind_dot.result c.behind_dot.ensures.read
+    if_ok (λ n. IsReadBy c.args.place.names Sort.expr (λ g. after_dot c.args.place.inside (root c.args.base.tree)) c.args.room (height (root c.args.base.tree) + 1) c.take.new.self c.after_dot.new.tokens (root n.tree)) (λ n. IsReadBy c.args.place.names Sort.expr (λ g. grammar g (suffixes c.args.place.inside (root c.args.base.tree))) c.args.room (height (root c.args.base.tree)) c.args.tokens.now c.after_dot.new.tokens (root n.tree)) c.after_dot.result c.after_dot.ensures.read
     (λ n v. record {
       reads = λ g a. took c.if-take.ensures refl (v.reads g a);
       fits = omega (arith, v.fits);
@@ -647,7 +647,7 @@ postfix::suffixes-returns-then-take-clause-read t c =
 pub postfix::suffixes-returns-then-take-clause-failed : goal.postfix::suffixes-returns-then-take-clause-failed
 unfolding grammar
 postfix::suffixes-returns-then-take-clause-failed t c =
-    if_err (λ f. HasFailedBy c.args.place.names false Sort.expr (λ g. behind_dot c.args.place.inside (root c.args.base.tree)) c.args.room (height (root c.args.base.tree) + 1) c.take.new.self c.behind_dot.new.tokens f) (λ f. HasFailedBy c.args.place.names true Sort.expr (λ g. grammar g (suffixes c.args.place.inside (root c.args.base.tree))) c.args.room (height (root c.args.base.tree)) c.args.tokens.now c.behind_dot.new.tokens f) c.behind_dot.result c.behind_dot.ensures.failed
+    if_err (λ f. HasFailedBy c.args.place.names false Sort.expr (λ g. after_dot c.args.place.inside (root c.args.base.tree)) c.args.room (height (root c.args.base.tree) + 1) c.take.new.self c.after_dot.new.tokens f) (λ f. HasFailedBy c.args.place.names true Sort.expr (λ g. grammar g (suffixes c.args.place.inside (root c.args.base.tree))) c.args.room (height (root c.args.base.tree)) c.args.tokens.now c.after_dot.new.tokens f) c.after_dot.result c.after_dot.ensures.failed
     (λ f w. record {
       fails = λ g b. took_fails c.if-take.ensures refl (w.fails g b);
       stands = w.stands;
@@ -658,7 +658,7 @@ postfix::suffixes-returns-then-take-clause-failed t c =
 pub postfix::suffixes-returns-then-take-2-clause-read : goal.postfix::suffixes-returns-then-take-2-clause-read
 unfolding grammar
 postfix::suffixes-returns-then-take-2-clause-read t c =
-    if_ok (λ n. IsReadBy c.args.place.names Sort.expr (λ g. behind_colon c.args.place.inside (root c.args.base.tree)) c.args.room (height (root c.args.base.tree) + 1) c.take-2.new.self c.behind_colon.new.tokens (root n.tree)) (λ n. IsReadBy c.args.place.names Sort.expr (λ g. grammar g (suffixes c.args.place.inside (root c.args.base.tree))) c.args.room (height (root c.args.base.tree)) c.args.tokens.now c.behind_colon.new.tokens (root n.tree)) c.behind_colon.result c.behind_colon.ensures.read
+    if_ok (λ n. IsReadBy c.args.place.names Sort.expr (λ g. after_colon c.args.place.inside (root c.args.base.tree)) c.args.room (height (root c.args.base.tree) + 1) c.take-2.new.self c.after_colon.new.tokens (root n.tree)) (λ n. IsReadBy c.args.place.names Sort.expr (λ g. grammar g (suffixes c.args.place.inside (root c.args.base.tree))) c.args.room (height (root c.args.base.tree)) c.args.tokens.now c.after_colon.new.tokens (root n.tree)) c.after_colon.result c.after_colon.ensures.read
     (λ n v. record {
       reads = λ g a. stayed c.if-take.ensures (took c.if-take-2.ensures refl (v.reads g a));
       fits = omega (arith, v.fits);
@@ -668,7 +668,7 @@ postfix::suffixes-returns-then-take-2-clause-read t c =
 pub postfix::suffixes-returns-then-take-2-clause-failed : goal.postfix::suffixes-returns-then-take-2-clause-failed
 unfolding grammar
 postfix::suffixes-returns-then-take-2-clause-failed t c =
-    if_err (λ f. HasFailedBy c.args.place.names false Sort.expr (λ g. behind_colon c.args.place.inside (root c.args.base.tree)) c.args.room (height (root c.args.base.tree) + 1) c.take-2.new.self c.behind_colon.new.tokens f) (λ f. HasFailedBy c.args.place.names true Sort.expr (λ g. grammar g (suffixes c.args.place.inside (root c.args.base.tree))) c.args.room (height (root c.args.base.tree)) c.args.tokens.now c.behind_colon.new.tokens f) c.behind_colon.result c.behind_colon.ensures.failed
+    if_err (λ f. HasFailedBy c.args.place.names false Sort.expr (λ g. after_colon c.args.place.inside (root c.args.base.tree)) c.args.room (height (root c.args.base.tree) + 1) c.take-2.new.self c.after_colon.new.tokens f) (λ f. HasFailedBy c.args.place.names true Sort.expr (λ g. grammar g (suffixes c.args.place.inside (root c.args.base.tree))) c.args.room (height (root c.args.base.tree)) c.args.tokens.now c.after_colon.new.tokens f) c.after_colon.result c.after_colon.ensures.failed
     (λ f w. record {
       fails = λ g b. stayed_fails c.if-take.ensures (took_fails c.if-take-2.ensures refl (w.fails g b));
       stands = w.stands;
@@ -679,7 +679,7 @@ postfix::suffixes-returns-then-take-2-clause-failed t c =
 pub postfix::suffixes-returns-then-take-3-clause-read : goal.postfix::suffixes-returns-then-take-3-clause-read
 unfolding grammar
 postfix::suffixes-returns-then-take-3-clause-read t c =
-    if_ok (λ n. IsReadBy c.args.place.names Sort.expr (λ g. behind_bracket c.args.place.inside (root c.args.base.tree)) c.args.room (height (root c.args.base.tree) + 1) c.take-3.new.self c.behind_bracket.new.tokens (root n.tree)) (λ n. IsReadBy c.args.place.names Sort.expr (λ g. grammar g (suffixes c.args.place.inside (root c.args.base.tree))) c.args.room (height (root c.args.base.tree)) c.args.tokens.now c.behind_bracket.new.tokens (root n.tree)) c.behind_bracket.result c.behind_bracket.ensures.read
+    if_ok (λ n. IsReadBy c.args.place.names Sort.expr (λ g. after_bracket c.args.place.inside (root c.args.base.tree)) c.args.room (height (root c.args.base.tree) + 1) c.take-3.new.self c.after_bracket.new.tokens (root n.tree)) (λ n. IsReadBy c.args.place.names Sort.expr (λ g. grammar g (suffixes c.args.place.inside (root c.args.base.tree))) c.args.room (height (root c.args.base.tree)) c.args.tokens.now c.after_bracket.new.tokens (root n.tree)) c.after_bracket.result c.after_bracket.ensures.read
     (λ n v. record {
       reads = λ g a. stayed c.if-take.ensures (stayed c.if-take-2.ensures (took c.if-take-3.ensures refl (v.reads g a)));
       fits = omega (arith, v.fits);
@@ -689,7 +689,7 @@ postfix::suffixes-returns-then-take-3-clause-read t c =
 pub postfix::suffixes-returns-then-take-3-clause-failed : goal.postfix::suffixes-returns-then-take-3-clause-failed
 unfolding grammar
 postfix::suffixes-returns-then-take-3-clause-failed t c =
-    if_err (λ f. HasFailedBy c.args.place.names false Sort.expr (λ g. behind_bracket c.args.place.inside (root c.args.base.tree)) c.args.room (height (root c.args.base.tree) + 1) c.take-3.new.self c.behind_bracket.new.tokens f) (λ f. HasFailedBy c.args.place.names true Sort.expr (λ g. grammar g (suffixes c.args.place.inside (root c.args.base.tree))) c.args.room (height (root c.args.base.tree)) c.args.tokens.now c.behind_bracket.new.tokens f) c.behind_bracket.result c.behind_bracket.ensures.failed
+    if_err (λ f. HasFailedBy c.args.place.names false Sort.expr (λ g. after_bracket c.args.place.inside (root c.args.base.tree)) c.args.room (height (root c.args.base.tree) + 1) c.take-3.new.self c.after_bracket.new.tokens f) (λ f. HasFailedBy c.args.place.names true Sort.expr (λ g. grammar g (suffixes c.args.place.inside (root c.args.base.tree))) c.args.room (height (root c.args.base.tree)) c.args.tokens.now c.after_bracket.new.tokens f) c.after_bracket.result c.after_bracket.ensures.failed
     (λ f w. record {
       fails = λ g b. stayed_fails c.if-take.ensures (stayed_fails c.if-take-2.ensures (took_fails c.if-take-3.ensures refl (w.fails g b)));
       stands = w.stands;
@@ -706,15 +706,15 @@ postfix::suffixes-returns-clause-read t c =
       tokens = omega (arith, c.if-take.ensures.at, c.if-take-2.ensures.at, c.if-take-3.ensures.at, c.args.base.in_step, c.requires);
     })
 
-pub postfix::behind_dot-returns-in_err-room_beside-clause-failed : goal.postfix::behind_dot-returns-in_err-room_beside-clause-failed
+pub postfix::after_dot-returns-in_err-room_beside-clause-failed : goal.postfix::after_dot-returns-in_err-room_beside-clause-failed
 unfolding grammar
-postfix::behind_dot-returns-in_err-room_beside-clause-failed t c =
+postfix::after_dot-returns-in_err-room_beside-clause-failed t c =
     let p = err_from_is_err_and c.from_residual.result c.from_residual.ensures.1 in
     passed _ p.1 p.2 (too_high c.in_err-room_beside.ensures.0 (λ g ok. meets_at_once (can_take (Name []) refl can_read) ((λ y e h. omega (arith, h, c.in_err-room_beside.ensures.1, c.args.base.in_step)), ((λ y b _. ((λ z e h. omega (arith, h, c.in_err-room_beside.ensures.1, c.args.base.in_step)), tt)), tt))) (omega (arith, c.in_err-room_beside.ensures.1, c.args.base.in_step, height_positive (root c.args.base.tree), c.requires)))
 
-pub postfix::behind_dot-returns-in_err-name-clause-failed : goal.postfix::behind_dot-returns-in_err-name-clause-failed
+pub postfix::after_dot-returns-in_err-name-clause-failed : goal.postfix::after_dot-returns-in_err-name-clause-failed
 unfolding grammar
-postfix::behind_dot-returns-in_err-name-clause-failed t c =
+postfix::after_dot-returns-in_err-name-clause-failed t c =
     let p = err_from_is_err_and c.from_residual-in_err-name.result c.from_residual-in_err-name.ensures.1 in
     passed _ p.1 p.2 (record {
       fails = c.in_err-name.ensures.failed.fails (λ b. phrase (suffixes c.args.place.inside (property (root c.args.base.tree) b)) λ e. give e);
@@ -723,25 +723,25 @@ postfix::behind_dot-returns-in_err-name-clause-failed t c =
       long = λ h. let l = c.in_err-name.ensures.failed.long h in omega (arith, l, c.in_ok-room_beside.ensures.0, c.args.base.in_step, height_positive (root c.args.base.tree));
     })
 
-pub postfix::behind_dot-returns-in_err-base-clause-failed : goal.postfix::behind_dot-returns-in_err-base-clause-failed
-postfix::behind_dot-returns-in_err-base-clause-failed t c =
+pub postfix::after_dot-returns-in_err-base-clause-failed : goal.postfix::after_dot-returns-in_err-base-clause-failed
+postfix::after_dot-returns-in_err-base-clause-failed t c =
     let p = err_from_is_err_and c.from_residual-in_err-base.result c.from_residual-in_err-base.ensures.1 in
     passed _ p.1 p.2 (not_made (property (root c.args.base.tree) (root c.in_ok-name.name.tree)) c.in_err-base.ensures (omega (arith, c.in_ok-room_beside.ensures.0, c.in_ok-room_beside.ensures.1, c.args.base.in_step, height_positive (root c.args.base.tree), c.in_ok-name.ensures.read.fits)))
 
-pub postfix::behind_dot-returns-clause-read : goal.postfix::behind_dot-returns-clause-read
+pub postfix::after_dot-returns-clause-read : goal.postfix::after_dot-returns-clause-read
 unfolding grammar
-postfix::behind_dot-returns-clause-read t c =
-    if_ok (λ n. IsReadBy c.args.place.names Sort.expr (λ g. grammar g (suffixes c.args.place.inside (root c.in_ok-base.base.tree))) c.args.room (height (root c.in_ok-base.base.tree)) c.member_name.new.tokens c.suffixes.new.tokens (root n.tree)) (λ n. IsReadBy c.args.place.names Sort.expr (λ g. behind_dot c.args.place.inside (root c.args.base.tree)) c.args.room (height (root c.args.base.tree) + 1) c.args.tokens.now c.suffixes.new.tokens (root n.tree)) c.suffixes.result c.suffixes.ensures.read
+postfix::after_dot-returns-clause-read t c =
+    if_ok (λ n. IsReadBy c.args.place.names Sort.expr (λ g. grammar g (suffixes c.args.place.inside (root c.in_ok-base.base.tree))) c.args.room (height (root c.in_ok-base.base.tree)) c.member_name.new.tokens c.suffixes.new.tokens (root n.tree)) (λ n. IsReadBy c.args.place.names Sort.expr (λ g. after_dot c.args.place.inside (root c.args.base.tree)) c.args.room (height (root c.args.base.tree) + 1) c.args.tokens.now c.suffixes.new.tokens (root n.tree)) c.suffixes.result c.suffixes.ensures.read
     (λ n v. record {
       reads = λ g a. (c.in_ok-name.ensures.read.leads (λ b. phrase (suffixes c.args.place.inside (property (root c.args.base.tree) b)) λ e. give e)).reads g a _ _ (reads (rw c.in_ok-base.ensures.0 at (v.reads g a)) gives);
       fits = v.fits;
       tokens = omega (arith, v.tokens, c.in_ok-name.ensures.read.tokens, height_positive (root c.in_ok-name.name.tree), c.in_ok-base.ensures.2, c.in_ok-base.base.in_step, c.args.base.in_step, height_positive (root c.args.base.tree));
     })
 
-pub postfix::behind_dot-returns-clause-failed : goal.postfix::behind_dot-returns-clause-failed
+pub postfix::after_dot-returns-clause-failed : goal.postfix::after_dot-returns-clause-failed
 unfolding grammar
-postfix::behind_dot-returns-clause-failed t c =
-    if_err (λ f. HasFailedBy c.args.place.names true Sort.expr (λ g. grammar g (suffixes c.args.place.inside (root c.in_ok-base.base.tree))) c.args.room (height (root c.in_ok-base.base.tree)) c.member_name.new.tokens c.suffixes.new.tokens f) (λ f. HasFailedBy c.args.place.names false Sort.expr (λ g. behind_dot c.args.place.inside (root c.args.base.tree)) c.args.room (height (root c.args.base.tree) + 1) c.args.tokens.now c.suffixes.new.tokens f) c.suffixes.result c.suffixes.ensures.failed
+postfix::after_dot-returns-clause-failed t c =
+    if_err (λ f. HasFailedBy c.args.place.names true Sort.expr (λ g. grammar g (suffixes c.args.place.inside (root c.in_ok-base.base.tree))) c.args.room (height (root c.in_ok-base.base.tree)) c.member_name.new.tokens c.suffixes.new.tokens f) (λ f. HasFailedBy c.args.place.names false Sort.expr (λ g. after_dot c.args.place.inside (root c.args.base.tree)) c.args.room (height (root c.args.base.tree) + 1) c.args.tokens.now c.suffixes.new.tokens f) c.suffixes.result c.suffixes.ensures.failed
     (λ f w. record {
       fails = λ g b. (c.in_ok-name.ensures.read.leads (λ b. phrase (suffixes c.args.place.inside (property (root c.args.base.tree) b)) λ e. give e)).fails g (told_admits _ c.args.place.names g b) _ (phrase_fails (rw c.in_ok-base.ensures.0 at (w.fails g b)));
       stands = w.stands;
@@ -749,15 +749,15 @@ postfix::behind_dot-returns-clause-failed t c =
       long = λ h. let l = w.long h in omega (arith, l, c.in_ok-name.ensures.read.tokens, height_positive (root c.in_ok-name.name.tree), c.in_ok-base.ensures.2, c.in_ok-base.base.in_step, c.args.base.in_step, height_positive (root c.args.base.tree));
     })
 
-pub postfix::behind_colon-returns-in_err-room_beside-clause-failed : goal.postfix::behind_colon-returns-in_err-room_beside-clause-failed
+pub postfix::after_colon-returns-in_err-room_beside-clause-failed : goal.postfix::after_colon-returns-in_err-room_beside-clause-failed
 unfolding grammar
-postfix::behind_colon-returns-in_err-room_beside-clause-failed t c =
+postfix::after_colon-returns-in_err-room_beside-clause-failed t c =
     let p = err_from_is_err_and c.from_residual.result c.from_residual.ensures.1 in
     passed _ p.1 p.2 (too_high c.in_err-room_beside.ensures.0 (λ g ok. meets_at_once (can_take (Name []) refl (can_take (Sign LeftParen) refl can_read)) ((λ y. ((λ z xs _. ((λ w e h. omega (arith, h, c.in_err-room_beside.ensures.1, c.args.base.in_step)), tt)), tt)), ((λ y b _. ((λ z. ((λ w xs _. ((λ v e h. omega (arith, h, c.in_err-room_beside.ensures.1, c.args.base.in_step)), tt)), tt)), tt)), tt))) (omega (arith, c.in_err-room_beside.ensures.1, c.args.base.in_step, height_positive (root c.args.base.tree), c.requires)))
 
-pub postfix::behind_colon-returns-in_err-name-clause-failed : goal.postfix::behind_colon-returns-in_err-name-clause-failed
+pub postfix::after_colon-returns-in_err-name-clause-failed : goal.postfix::after_colon-returns-in_err-name-clause-failed
 unfolding grammar
-postfix::behind_colon-returns-in_err-name-clause-failed t c =
+postfix::after_colon-returns-in_err-name-clause-failed t c =
     let p = err_from_is_err_and c.from_residual-in_err-name.result c.from_residual-in_err-name.ensures.1 in
     passed _ p.1 p.2 (record {
       fails = c.in_err-name.ensures.failed.fails (λ b. verb_arguments c.args.place.inside (root c.args.base.tree) b);
@@ -766,15 +766,15 @@ postfix::behind_colon-returns-in_err-name-clause-failed t c =
       long = λ h. let l = c.in_err-name.ensures.failed.long h in omega (arith, l, c.in_ok-room_beside.ensures.0, c.args.base.in_step, height_positive (root c.args.base.tree));
     })
 
-pub postfix::behind_colon-returns-in_err-expect-clause-failed : goal.postfix::behind_colon-returns-in_err-expect-clause-failed
+pub postfix::after_colon-returns-in_err-expect-clause-failed : goal.postfix::after_colon-returns-in_err-expect-clause-failed
 unfolding grammar
-postfix::behind_colon-returns-in_err-expect-clause-failed t c =
+postfix::after_colon-returns-in_err-expect-clause-failed t c =
     let p = err_from_is_err_and c.from_residual-in_err-expect.result c.from_residual-in_err-expect.ensures.1 in
     passed _ p.1 p.2 (refused c.in_err-expect.ensures.0 (λ g a. (c.in_ok-name.ensures.read.leads (λ b. verb_arguments c.args.place.inside (root c.args.base.tree) b)).fails g a _ (stayed_fails c.in_err-expect.ensures.1 refuses)))
 
-pub postfix::behind_colon-returns-in_err-members-clause-failed : goal.postfix::behind_colon-returns-in_err-members-clause-failed
+pub postfix::after_colon-returns-in_err-members-clause-failed : goal.postfix::after_colon-returns-in_err-members-clause-failed
 unfolding grammar
-postfix::behind_colon-returns-in_err-members-clause-failed t c =
+postfix::after_colon-returns-in_err-members-clause-failed t c =
     let p = err_from_is_err_and c.from_residual-in_err-members.result c.from_residual-in_err-members.ensures.1 in
     passed _ p.1 p.2 (record {
       fails = λ g b. (c.in_ok-name.ensures.read.leads (λ b. verb_arguments c.args.place.inside (root c.args.base.tree) b)).fails g (told_admits _ c.args.place.names g b) _ (took_fails c.in_ok-expect.ensures refl (phrase_fails (c.in_err-members.ensures.failed.fails g b)));
@@ -783,31 +783,31 @@ postfix::behind_colon-returns-in_err-members-clause-failed t c =
       long = λ h. let l = c.in_err-members.ensures.failed.long h in omega (arith, l, c.in_ok-name.ensures.read.tokens, height_positive (root c.in_ok-name.name.tree), c.in_ok-expect.ensures.at, c.in_ok-room_beside.ensures.0, c.args.base.in_step, height_positive (root c.args.base.tree));
     })
 
-pub postfix::behind_colon-returns-in_err-expect-2-clause-failed : goal.postfix::behind_colon-returns-in_err-expect-2-clause-failed
+pub postfix::after_colon-returns-in_err-expect-2-clause-failed : goal.postfix::after_colon-returns-in_err-expect-2-clause-failed
 unfolding grammar
-postfix::behind_colon-returns-in_err-expect-2-clause-failed t c =
+postfix::after_colon-returns-in_err-expect-2-clause-failed t c =
     let p = err_from_is_err_and c.from_residual-in_err-expect-2.result c.from_residual-in_err-expect-2.ensures.1 in
     passed _ p.1 p.2 (refused c.in_err-expect-2.ensures.0 (λ g a. (c.in_ok-name.ensures.read.leads (λ b. verb_arguments c.args.place.inside (root c.args.base.tree) b)).fails g a _ (took_fails c.in_ok-expect.ensures refl (then_fails (c.in_ok-members.ensures.read.reads g a) (stayed_fails c.in_err-expect-2.ensures.1 refuses)))))
 
-pub postfix::behind_colon-returns-in_err-base-clause-failed : goal.postfix::behind_colon-returns-in_err-base-clause-failed
-postfix::behind_colon-returns-in_err-base-clause-failed t c =
+pub postfix::after_colon-returns-in_err-base-clause-failed : goal.postfix::after_colon-returns-in_err-base-clause-failed
+postfix::after_colon-returns-in_err-base-clause-failed t c =
     let p = err_from_is_err_and c.from_residual-in_err-base.result c.from_residual-in_err-base.ensures.1 in
     passed _ p.1 p.2 (not_made (tree.verb_call (root c.args.base.tree) (root c.in_ok-name.name.tree) (row_of c.in_ok-items.items.value)) c.in_err-base.ensures (omega (arith, c.in_ok-room_beside.ensures.0, c.in_ok-room_beside.ensures.1, c.args.base.in_step, height_positive (root c.args.base.tree), c.in_ok-name.ensures.read.fits, c.in_ok-members.ensures.read.fits, ap items_height (row_items c.in_ok-items.items.value ∙ ap (λ v. items_of v.items) c.in_ok-items.ensures.ok))))
 
-pub postfix::behind_colon-returns-clause-read : goal.postfix::behind_colon-returns-clause-read
+pub postfix::after_colon-returns-clause-read : goal.postfix::after_colon-returns-clause-read
 unfolding grammar
-postfix::behind_colon-returns-clause-read t c =
-    if_ok (λ n. IsReadBy c.args.place.names Sort.expr (λ g. grammar g (suffixes c.args.place.inside (root c.in_ok-base.base.tree))) c.args.room (height (root c.in_ok-base.base.tree)) c.expect-2.new.self c.suffixes.new.tokens (root n.tree)) (λ n. IsReadBy c.args.place.names Sort.expr (λ g. behind_colon c.args.place.inside (root c.args.base.tree)) c.args.room (height (root c.args.base.tree) + 1) c.args.tokens.now c.suffixes.new.tokens (root n.tree)) c.suffixes.result c.suffixes.ensures.read
+postfix::after_colon-returns-clause-read t c =
+    if_ok (λ n. IsReadBy c.args.place.names Sort.expr (λ g. grammar g (suffixes c.args.place.inside (root c.in_ok-base.base.tree))) c.args.room (height (root c.in_ok-base.base.tree)) c.expect-2.new.self c.suffixes.new.tokens (root n.tree)) (λ n. IsReadBy c.args.place.names Sort.expr (λ g. after_colon c.args.place.inside (root c.args.base.tree)) c.args.room (height (root c.args.base.tree) + 1) c.args.tokens.now c.suffixes.new.tokens (root n.tree)) c.suffixes.result c.suffixes.ensures.read
     (λ n v. record {
       reads = λ g a. (c.in_ok-name.ensures.read.leads (λ b. verb_arguments c.args.place.inside (root c.args.base.tree) b)).reads g a _ _ (took c.in_ok-expect.ensures refl (reads (c.in_ok-members.ensures.read.reads g a) (took c.in_ok-expect-2.ensures refl (reads (rw (c.in_ok-base.ensures.0, row_items c.in_ok-items.items.value, c.in_ok-items.ensures.ok) at (v.reads g a)) gives))));
       fits = v.fits;
       tokens = omega (arith, v.tokens, c.in_ok-name.ensures.read.tokens, height_positive (root c.in_ok-name.name.tree), c.in_ok-expect.ensures.at, c.in_ok-members.ensures.read.tokens, c.in_ok-expect-2.ensures.at, c.in_ok-base.ensures.2, c.in_ok-base.base.in_step, c.args.base.in_step, height_positive (root c.args.base.tree), ap items_height (row_items c.in_ok-items.items.value ∙ ap (λ v. items_of v.items) c.in_ok-items.ensures.ok));
     })
 
-pub postfix::behind_colon-returns-clause-failed : goal.postfix::behind_colon-returns-clause-failed
+pub postfix::after_colon-returns-clause-failed : goal.postfix::after_colon-returns-clause-failed
 unfolding grammar
-postfix::behind_colon-returns-clause-failed t c =
-    if_err (λ f. HasFailedBy c.args.place.names true Sort.expr (λ g. grammar g (suffixes c.args.place.inside (root c.in_ok-base.base.tree))) c.args.room (height (root c.in_ok-base.base.tree)) c.expect-2.new.self c.suffixes.new.tokens f) (λ f. HasFailedBy c.args.place.names false Sort.expr (λ g. behind_colon c.args.place.inside (root c.args.base.tree)) c.args.room (height (root c.args.base.tree) + 1) c.args.tokens.now c.suffixes.new.tokens f) c.suffixes.result c.suffixes.ensures.failed
+postfix::after_colon-returns-clause-failed t c =
+    if_err (λ f. HasFailedBy c.args.place.names true Sort.expr (λ g. grammar g (suffixes c.args.place.inside (root c.in_ok-base.base.tree))) c.args.room (height (root c.in_ok-base.base.tree)) c.expect-2.new.self c.suffixes.new.tokens f) (λ f. HasFailedBy c.args.place.names false Sort.expr (λ g. after_colon c.args.place.inside (root c.args.base.tree)) c.args.room (height (root c.args.base.tree) + 1) c.args.tokens.now c.suffixes.new.tokens f) c.suffixes.result c.suffixes.ensures.failed
     (λ f w. record {
       fails = λ g b. (c.in_ok-name.ensures.read.leads (λ b. verb_arguments c.args.place.inside (root c.args.base.tree) b)).fails g (told_admits _ c.args.place.names g b) _ (took_fails c.in_ok-expect.ensures refl (then_fails (c.in_ok-members.ensures.read.reads g (told_admits _ c.args.place.names g b)) (took_fails c.in_ok-expect-2.ensures refl (phrase_fails (rw (c.in_ok-base.ensures.0, row_items c.in_ok-items.items.value, c.in_ok-items.ensures.ok) at (w.fails g b))))));
       stands = w.stands;
@@ -815,8 +815,8 @@ postfix::behind_colon-returns-clause-failed t c =
       long = λ h. let l = w.long h in omega (arith, l, c.in_ok-name.ensures.read.tokens, height_positive (root c.in_ok-name.name.tree), c.in_ok-expect.ensures.at, c.in_ok-members.ensures.read.tokens, c.in_ok-expect-2.ensures.at, c.in_ok-base.ensures.2, c.in_ok-base.base.in_step, c.args.base.in_step, height_positive (root c.args.base.tree), ap items_height (row_items c.in_ok-items.items.value ∙ ap (λ v. items_of v.items) c.in_ok-items.ensures.ok));
     })
 
-pub postfix::behind_colon-node_over-requires : goal.postfix::behind_colon-node_over-requires
-postfix::behind_colon-node_over-requires t c =
+pub postfix::after_colon-node_over-requires : goal.postfix::after_colon-node_over-requires
+postfix::after_colon-node_over-requires t c =
     omega (arith, ap items_height (row_items c.in_ok-items.items.value ∙ ap (λ v. items_of v.items) c.in_ok-items.ensures.ok), c.in_ok-members.members.in_step, c.args.base.in_step, c.in_ok-name.name.in_step)
 
 pub postfix::member_name-returns-in_err-name-clause-failed : goal.postfix::member_name-returns-in_err-name-clause-failed
@@ -882,15 +882,15 @@ postfix::member_name-returns-clause-read t c =
       tokens = omega (arith, v.tokens, nn.at, c.in_ok-expect.ensures.at, c.in_ok-expect-2.ensures.at);
     }
 
-pub postfix::behind_bracket-returns-in_err-room_beside-clause-failed : goal.postfix::behind_bracket-returns-in_err-room_beside-clause-failed
+pub postfix::after_bracket-returns-in_err-room_beside-clause-failed : goal.postfix::after_bracket-returns-in_err-room_beside-clause-failed
 unfolding grammar
-postfix::behind_bracket-returns-in_err-room_beside-clause-failed t c =
+postfix::after_bracket-returns-in_err-room_beside-clause-failed t c =
     let p = err_from_is_err_and c.from_residual.result c.from_residual.ensures.1 in
     passed _ p.1 p.2 (too_high c.in_err-room_beside.ensures.0 (λ g ok. meets_at_once can_read (λ b _. ((λ y d _. ((λ z e h. omega (arith, h, c.in_err-room_beside.ensures.1, c.args.base.in_step)), tt)), ((λ z e h. omega (arith, h, c.in_err-room_beside.ensures.1, c.args.base.in_step)), tt)))) (omega (arith, c.in_err-room_beside.ensures.1, c.args.base.in_step, height_positive (root c.args.base.tree), c.requires)))
 
-pub postfix::behind_bracket-returns-in_err-low-clause-failed : goal.postfix::behind_bracket-returns-in_err-low-clause-failed
+pub postfix::after_bracket-returns-in_err-low-clause-failed : goal.postfix::after_bracket-returns-in_err-low-clause-failed
 unfolding grammar
-postfix::behind_bracket-returns-in_err-low-clause-failed t c =
+postfix::after_bracket-returns-in_err-low-clause-failed t c =
     let p = err_from_is_err_and c.from_residual-in_err-low.result c.from_residual-in_err-low.ensures.1 in
     passed _ p.1 p.2 (record {
       fails = λ g b. phrase_fails (c.in_err-low.ensures.failed.fails g b);
@@ -899,9 +899,9 @@ postfix::behind_bracket-returns-in_err-low-clause-failed t c =
       long = λ h. let l = c.in_err-low.ensures.failed.long h in omega (arith, l, c.in_ok-room_beside.ensures.0, c.args.base.in_step, height_positive (root c.args.base.tree));
     })
 
-pub postfix::behind_bracket-returns-in_err-high-clause-failed : goal.postfix::behind_bracket-returns-in_err-high-clause-failed
+pub postfix::after_bracket-returns-in_err-high-clause-failed : goal.postfix::after_bracket-returns-in_err-high-clause-failed
 unfolding grammar
-postfix::behind_bracket-returns-in_err-high-clause-failed t c =
+postfix::after_bracket-returns-in_err-high-clause-failed t c =
     let p = err_from_is_err_and c.from_residual-in_err-high.result c.from_residual-in_err-high.ensures.1 in
     passed _ p.1 p.2 (record {
       fails = λ g b. then_fails (c.in_ok-low.ensures.read.reads g (told_admits _ c.args.place.names g b)) (took_fails c.if-take.ensures refl (phrase_fails (c.in_err-high.ensures.failed.fails g b)));
@@ -910,31 +910,31 @@ postfix::behind_bracket-returns-in_err-high-clause-failed t c =
       long = λ h. let l = c.in_err-high.ensures.failed.long h in omega (arith, l, c.in_ok-low.ensures.read.tokens, c.if-take.ensures.at, c.in_ok-room_beside.ensures.0, c.args.base.in_step, height_positive (root c.args.base.tree));
     })
 
-pub postfix::behind_bracket-returns-in_err-expect-clause-failed : goal.postfix::behind_bracket-returns-in_err-expect-clause-failed
+pub postfix::after_bracket-returns-in_err-expect-clause-failed : goal.postfix::after_bracket-returns-in_err-expect-clause-failed
 unfolding grammar
-postfix::behind_bracket-returns-in_err-expect-clause-failed t c =
+postfix::after_bracket-returns-in_err-expect-clause-failed t c =
     let p = err_from_is_err_and c.from_residual-in_err-expect.result c.from_residual-in_err-expect.ensures.1 in
     passed _ p.1 p.2 (refused c.in_err-expect.ensures.0 (λ g a. then_fails (c.in_ok-low.ensures.read.reads g a) (took_fails c.if-take.ensures refl (then_fails (c.in_ok-high.ensures.read.reads g a) (stayed_fails c.in_err-expect.ensures.1 refuses)))))
 
-pub postfix::behind_bracket-returns-in_err-base-clause-failed : goal.postfix::behind_bracket-returns-in_err-base-clause-failed
-postfix::behind_bracket-returns-in_err-base-clause-failed t c =
+pub postfix::after_bracket-returns-in_err-base-clause-failed : goal.postfix::after_bracket-returns-in_err-base-clause-failed
+postfix::after_bracket-returns-in_err-base-clause-failed t c =
     let p = err_from_is_err_and c.from_residual-in_err-base.result c.from_residual-in_err-base.ensures.1 in
     passed _ p.1 p.2 (not_made (tree.range (root c.args.base.tree) (root c.in_ok-low.low.tree) (root c.in_ok-high.high.tree)) c.in_err-base.ensures (omega (arith, c.in_ok-room_beside.ensures.0, c.in_ok-room_beside.ensures.1, c.args.base.in_step, c.in_ok-low.ensures.read.fits, c.in_ok-high.ensures.read.fits)))
 
-pub postfix::behind_bracket-returns-then-take-clause-read : goal.postfix::behind_bracket-returns-then-take-clause-read
+pub postfix::after_bracket-returns-then-take-clause-read : goal.postfix::after_bracket-returns-then-take-clause-read
 unfolding grammar
-postfix::behind_bracket-returns-then-take-clause-read t c =
-    if_ok (λ n. IsReadBy c.args.place.names Sort.expr (λ g. grammar g (suffixes c.args.place.inside (root c.in_ok-base.base.tree))) c.args.room (height (root c.in_ok-base.base.tree)) c.expect.new.self c.suffixes.new.tokens (root n.tree)) (λ n. IsReadBy c.args.place.names Sort.expr (λ g. behind_bracket c.args.place.inside (root c.args.base.tree)) c.args.room (height (root c.args.base.tree) + 1) c.args.tokens.now c.suffixes.new.tokens (root n.tree)) c.suffixes.result c.suffixes.ensures.read
+postfix::after_bracket-returns-then-take-clause-read t c =
+    if_ok (λ n. IsReadBy c.args.place.names Sort.expr (λ g. grammar g (suffixes c.args.place.inside (root c.in_ok-base.base.tree))) c.args.room (height (root c.in_ok-base.base.tree)) c.expect.new.self c.suffixes.new.tokens (root n.tree)) (λ n. IsReadBy c.args.place.names Sort.expr (λ g. after_bracket c.args.place.inside (root c.args.base.tree)) c.args.room (height (root c.args.base.tree) + 1) c.args.tokens.now c.suffixes.new.tokens (root n.tree)) c.suffixes.result c.suffixes.ensures.read
     (λ n v. record {
       reads = λ g a. reads (c.in_ok-low.ensures.read.reads g a) (took c.if-take.ensures refl (reads (c.in_ok-high.ensures.read.reads g a) (took c.in_ok-expect.ensures refl (reads (rw c.in_ok-base.ensures.0 at (v.reads g a)) gives))));
       fits = v.fits;
       tokens = omega (arith, v.tokens, c.in_ok-low.ensures.read.tokens, c.if-take.ensures.at, c.in_ok-high.ensures.read.tokens, c.in_ok-expect.ensures.at, c.in_ok-base.ensures.2, c.in_ok-base.base.in_step, c.args.base.in_step, height_positive (root c.args.base.tree));
     })
 
-pub postfix::behind_bracket-returns-then-take-clause-failed : goal.postfix::behind_bracket-returns-then-take-clause-failed
+pub postfix::after_bracket-returns-then-take-clause-failed : goal.postfix::after_bracket-returns-then-take-clause-failed
 unfolding grammar
-postfix::behind_bracket-returns-then-take-clause-failed t c =
-    if_err (λ f. HasFailedBy c.args.place.names true Sort.expr (λ g. grammar g (suffixes c.args.place.inside (root c.in_ok-base.base.tree))) c.args.room (height (root c.in_ok-base.base.tree)) c.expect.new.self c.suffixes.new.tokens f) (λ f. HasFailedBy c.args.place.names false Sort.expr (λ g. behind_bracket c.args.place.inside (root c.args.base.tree)) c.args.room (height (root c.args.base.tree) + 1) c.args.tokens.now c.suffixes.new.tokens f) c.suffixes.result c.suffixes.ensures.failed
+postfix::after_bracket-returns-then-take-clause-failed t c =
+    if_err (λ f. HasFailedBy c.args.place.names true Sort.expr (λ g. grammar g (suffixes c.args.place.inside (root c.in_ok-base.base.tree))) c.args.room (height (root c.in_ok-base.base.tree)) c.expect.new.self c.suffixes.new.tokens f) (λ f. HasFailedBy c.args.place.names false Sort.expr (λ g. after_bracket c.args.place.inside (root c.args.base.tree)) c.args.room (height (root c.args.base.tree) + 1) c.args.tokens.now c.suffixes.new.tokens f) c.suffixes.result c.suffixes.ensures.failed
     (λ f w. record {
       fails = λ g b. then_fails (c.in_ok-low.ensures.read.reads g (told_admits _ c.args.place.names g b)) (took_fails c.if-take.ensures refl (then_fails (c.in_ok-high.ensures.read.reads g (told_admits _ c.args.place.names g b)) (took_fails c.in_ok-expect.ensures refl (phrase_fails (rw c.in_ok-base.ensures.0 at (w.fails g b))))));
       stands = w.stands;
@@ -942,31 +942,31 @@ postfix::behind_bracket-returns-then-take-clause-failed t c =
       long = λ h. let l = w.long h in omega (arith, l, c.in_ok-low.ensures.read.tokens, c.if-take.ensures.at, c.in_ok-high.ensures.read.tokens, c.in_ok-expect.ensures.at, c.in_ok-base.ensures.2, c.in_ok-base.base.in_step, c.args.base.in_step, height_positive (root c.args.base.tree));
     })
 
-pub postfix::behind_bracket-returns-in_err-expect-2-clause-failed : goal.postfix::behind_bracket-returns-in_err-expect-2-clause-failed
+pub postfix::after_bracket-returns-in_err-expect-2-clause-failed : goal.postfix::after_bracket-returns-in_err-expect-2-clause-failed
 unfolding grammar
-postfix::behind_bracket-returns-in_err-expect-2-clause-failed t c =
+postfix::after_bracket-returns-in_err-expect-2-clause-failed t c =
     let p = err_from_is_err_and c.from_residual-in_err-expect-2.result c.from_residual-in_err-expect-2.ensures.1 in
     passed _ p.1 p.2 (refused c.in_err-expect-2.ensures.0 (λ g a. then_fails (c.in_ok-low.ensures.read.reads g a) (stayed_fails c.if-take.ensures (stayed_fails c.in_err-expect-2.ensures.1 refuses))))
 
-pub postfix::behind_bracket-returns-in_err-base-2-clause-failed : goal.postfix::behind_bracket-returns-in_err-base-2-clause-failed
-postfix::behind_bracket-returns-in_err-base-2-clause-failed t c =
+pub postfix::after_bracket-returns-in_err-base-2-clause-failed : goal.postfix::after_bracket-returns-in_err-base-2-clause-failed
+postfix::after_bracket-returns-in_err-base-2-clause-failed t c =
     let p = err_from_is_err_and c.from_residual-in_err-base-2.result c.from_residual-in_err-base-2.ensures.1 in
     passed _ p.1 p.2 (not_made (tree.index (root c.args.base.tree) (root c.in_ok-low.low.tree)) c.in_err-base-2.ensures (omega (arith, c.in_ok-room_beside.ensures.0, c.in_ok-room_beside.ensures.1, c.args.base.in_step, c.in_ok-low.ensures.read.fits)))
 
-pub postfix::behind_bracket-returns-clause-read : goal.postfix::behind_bracket-returns-clause-read
+pub postfix::after_bracket-returns-clause-read : goal.postfix::after_bracket-returns-clause-read
 unfolding grammar
-postfix::behind_bracket-returns-clause-read t c =
-    if_ok (λ n. IsReadBy c.args.place.names Sort.expr (λ g. grammar g (suffixes c.args.place.inside (root c.in_ok-base-2.base.tree))) c.args.room (height (root c.in_ok-base-2.base.tree)) c.expect-2.new.self c.suffixes-2.new.tokens (root n.tree)) (λ n. IsReadBy c.args.place.names Sort.expr (λ g. behind_bracket c.args.place.inside (root c.args.base.tree)) c.args.room (height (root c.args.base.tree) + 1) c.args.tokens.now c.suffixes-2.new.tokens (root n.tree)) c.suffixes-2.result c.suffixes-2.ensures.read
+postfix::after_bracket-returns-clause-read t c =
+    if_ok (λ n. IsReadBy c.args.place.names Sort.expr (λ g. grammar g (suffixes c.args.place.inside (root c.in_ok-base-2.base.tree))) c.args.room (height (root c.in_ok-base-2.base.tree)) c.expect-2.new.self c.suffixes-2.new.tokens (root n.tree)) (λ n. IsReadBy c.args.place.names Sort.expr (λ g. after_bracket c.args.place.inside (root c.args.base.tree)) c.args.room (height (root c.args.base.tree) + 1) c.args.tokens.now c.suffixes-2.new.tokens (root n.tree)) c.suffixes-2.result c.suffixes-2.ensures.read
     (λ n v. record {
       reads = λ g a. reads (c.in_ok-low.ensures.read.reads g a) (stayed c.if-take.ensures (took c.in_ok-expect-2.ensures refl (reads (rw c.in_ok-base-2.ensures.0 at (v.reads g a)) gives)));
       fits = v.fits;
       tokens = omega (arith, v.tokens, c.in_ok-low.ensures.read.tokens, c.if-take.ensures.at, c.in_ok-expect-2.ensures.at, c.in_ok-base-2.ensures.2, c.in_ok-base-2.base.in_step, c.args.base.in_step, height_positive (root c.args.base.tree));
     })
 
-pub postfix::behind_bracket-returns-clause-failed : goal.postfix::behind_bracket-returns-clause-failed
+pub postfix::after_bracket-returns-clause-failed : goal.postfix::after_bracket-returns-clause-failed
 unfolding grammar
-postfix::behind_bracket-returns-clause-failed t c =
-    if_err (λ f. HasFailedBy c.args.place.names true Sort.expr (λ g. grammar g (suffixes c.args.place.inside (root c.in_ok-base-2.base.tree))) c.args.room (height (root c.in_ok-base-2.base.tree)) c.expect-2.new.self c.suffixes-2.new.tokens f) (λ f. HasFailedBy c.args.place.names false Sort.expr (λ g. behind_bracket c.args.place.inside (root c.args.base.tree)) c.args.room (height (root c.args.base.tree) + 1) c.args.tokens.now c.suffixes-2.new.tokens f) c.suffixes-2.result c.suffixes-2.ensures.failed
+postfix::after_bracket-returns-clause-failed t c =
+    if_err (λ f. HasFailedBy c.args.place.names true Sort.expr (λ g. grammar g (suffixes c.args.place.inside (root c.in_ok-base-2.base.tree))) c.args.room (height (root c.in_ok-base-2.base.tree)) c.expect-2.new.self c.suffixes-2.new.tokens f) (λ f. HasFailedBy c.args.place.names false Sort.expr (λ g. after_bracket c.args.place.inside (root c.args.base.tree)) c.args.room (height (root c.args.base.tree) + 1) c.args.tokens.now c.suffixes-2.new.tokens f) c.suffixes-2.result c.suffixes-2.ensures.failed
     (λ f w. record {
       fails = λ g b. then_fails (c.in_ok-low.ensures.read.reads g (told_admits _ c.args.place.names g b)) (stayed_fails c.if-take.ensures (took_fails c.in_ok-expect-2.ensures refl (phrase_fails (rw c.in_ok-base-2.ensures.0 at (w.fails g b)))));
       stands = w.stands;
@@ -1229,7 +1229,7 @@ primary::braced-node_over-requires t c =
 pub primary::dollar-returns-then-take-clause-read : goal.primary::dollar-returns-then-take-clause-read
 unfolding grammar
 primary::dollar-returns-then-take-clause-read t c =
-    if_ok (λ n. IsReadBy c.args.place.names Sort.expr (λ g. behind_dollar c.args.place.inside) c.args.room 1 c.take.new.self c.behind_dollar.new.tokens (root n.tree)) (λ n. IsReadBy c.args.place.names Sort.expr (λ g. dollar c.args.place.inside) c.args.room 0 c.args.tokens.now c.behind_dollar.new.tokens (root n.tree)) c.behind_dollar.result c.behind_dollar.ensures.read
+    if_ok (λ n. IsReadBy c.args.place.names Sort.expr (λ g. after_dollar c.args.place.inside) c.args.room 1 c.take.new.self c.after_dollar.new.tokens (root n.tree)) (λ n. IsReadBy c.args.place.names Sort.expr (λ g. dollar c.args.place.inside) c.args.room 0 c.args.tokens.now c.after_dollar.new.tokens (root n.tree)) c.after_dollar.result c.after_dollar.ensures.read
     (λ n v. record {
       reads = λ g a. took c.if-take.ensures refl (v.reads g a);
       fits = omega (arith, v.fits);
@@ -1239,7 +1239,7 @@ primary::dollar-returns-then-take-clause-read t c =
 pub primary::dollar-returns-then-take-clause-failed : goal.primary::dollar-returns-then-take-clause-failed
 unfolding grammar
 primary::dollar-returns-then-take-clause-failed t c =
-    if_err (λ f. HasFailedBy c.args.place.names false Sort.expr (λ g. behind_dollar c.args.place.inside) c.args.room 1 c.take.new.self c.behind_dollar.new.tokens f) (λ f. HasFailedBy c.args.place.names true Sort.expr (λ g. dollar c.args.place.inside) c.args.room 0 c.args.tokens.now c.behind_dollar.new.tokens f) c.behind_dollar.result c.behind_dollar.ensures.failed
+    if_err (λ f. HasFailedBy c.args.place.names false Sort.expr (λ g. after_dollar c.args.place.inside) c.args.room 1 c.take.new.self c.after_dollar.new.tokens f) (λ f. HasFailedBy c.args.place.names true Sort.expr (λ g. dollar c.args.place.inside) c.args.room 0 c.args.tokens.now c.after_dollar.new.tokens f) c.after_dollar.result c.after_dollar.ensures.failed
     (λ f w. record {
       fails = λ g b. took_fails c.if-take.ensures refl (w.fails g b);
       stands = w.stands;
@@ -1268,71 +1268,71 @@ primary::dollar-returns-clause-failed t c =
       long = λ h. let l = w.long h in omega (arith, l, c.if-take.ensures.at);
     })
 
-pub primary::behind_dollar-returns-in_err-name-clause-failed : goal.primary::behind_dollar-returns-in_err-name-clause-failed
+pub primary::after_dollar-returns-in_err-name-clause-failed : goal.primary::after_dollar-returns-in_err-name-clause-failed
 unfolding grammar
-primary::behind_dollar-returns-in_err-name-clause-failed t c =
+primary::after_dollar-returns-in_err-name-clause-failed t c =
     let p = err_from_is_err_and c.from_residual.result c.from_residual.ensures.1 in
     passed _ p.1 p.2 (no_memory c.in_err-name.ensures.0)
 
-pub primary::behind_dollar-returns-then-not-place-clause-failed : goal.primary::behind_dollar-returns-then-not-place-clause-failed
+pub primary::after_dollar-returns-then-not-place-clause-failed : goal.primary::after_dollar-returns-then-not-place-clause-failed
 unfolding grammar
-primary::behind_dollar-returns-then-not-place-clause-failed t c =
+primary::after_dollar-returns-then-not-place-clause-failed t c =
     let no_name = none_of (Stays (λ x. is_some (name_at x)) c.args.tokens.now c.take_name.new.self) (λ s. Takes (Name s) c.args.tokens.now c.take_name.new.self) _ c.in_default.not-Some c.in_ok-name.ensures in
     let outside : c.args.place.inside ≡ false = c.if-not-place.true in
     refused refl (λ g a. rw outside (stayed_fails no_name refuses))
 
-pub primary::behind_dollar-returns-in_default-clause-read : goal.primary::behind_dollar-returns-in_default-clause-read
+pub primary::after_dollar-returns-in_default-clause-read : goal.primary::after_dollar-returns-in_default-clause-read
 unfolding grammar
-primary::behind_dollar-returns-in_default-clause-read t c =
+primary::after_dollar-returns-in_default-clause-read t c =
     let no_name = none_of (Stays (λ x. is_some (name_at x)) c.args.tokens.now c.take_name.new.self) (λ s. Takes (Name s) c.args.tokens.now c.take_name.new.self) _ c.in_default.not-Some c.in_ok-name.ensures in
     let inside : c.args.place.inside ≡ true = c.if-not-place.false in
-    made c.args.place.names (λ g. behind_dollar c.args.place.inside) c.args.room 1 c.args.tokens.now c.take_name.new.self (tree.length_mark) c.node_over.result c.node_over.ensures (λ g a. rw inside (stayed no_name gives)) (omega (arith, no_name.at))
+    made c.args.place.names (λ g. after_dollar c.args.place.inside) c.args.room 1 c.args.tokens.now c.take_name.new.self (tree.length_mark) c.node_over.result c.node_over.ensures (λ g a. rw inside (stayed no_name gives)) (omega (arith, no_name.at))
 
-pub primary::behind_dollar-returns-in_default-clause-failed : goal.primary::behind_dollar-returns-in_default-clause-failed
+pub primary::after_dollar-returns-in_default-clause-failed : goal.primary::after_dollar-returns-in_default-clause-failed
 unfolding grammar
-primary::behind_dollar-returns-in_default-clause-failed t c =
+primary::after_dollar-returns-in_default-clause-failed t c =
     let no_name = none_of (Stays (λ x. is_some (name_at x)) c.args.tokens.now c.take_name.new.self) (λ s. Takes (Name s) c.args.tokens.now c.take_name.new.self) _ c.in_default.not-Some c.in_ok-name.ensures in
     let inside : c.args.place.inside ≡ true = c.if-not-place.false in
-    no_leaf c.args.place.names false (λ g. behind_dollar c.args.place.inside) c.args.room 1 c.args.tokens.now c.take_name.new.self (tree.length_mark) c.node_over.result c.node_over.ensures
-    (λ high g ok. subst (λ v. Deepens g false Sort.expr c.args.room (behind_dollar c.args.place.inside) (left c.args.tokens.now) v) (sym no_name.rest) (rw inside (meets_at_once (can_take (Name []) refl (can_take (Sign LeftParen) refl can_read)) ((λ x. ((λ y xs _. ((λ z. omega (arith, high)), tt)), omega (arith, high))), high))))
+    no_leaf c.args.place.names false (λ g. after_dollar c.args.place.inside) c.args.room 1 c.args.tokens.now c.take_name.new.self (tree.length_mark) c.node_over.result c.node_over.ensures
+    (λ high g ok. subst (λ v. Deepens g false Sort.expr c.args.room (after_dollar c.args.place.inside) (left c.args.tokens.now) v) (sym no_name.rest) (rw inside (meets_at_once (can_take (Name []) refl (can_take (Sign LeftParen) refl can_read)) ((λ x. ((λ y xs _. ((λ z. omega (arith, high)), tt)), omega (arith, high))), high))))
     (λ high. omega (arith, high, no_name.at))
 
-pub primary::behind_dollar-returns-in_err-object-clause-failed : goal.primary::behind_dollar-returns-in_err-object-clause-failed
+pub primary::after_dollar-returns-in_err-object-clause-failed : goal.primary::after_dollar-returns-in_err-object-clause-failed
 unfolding grammar
-primary::behind_dollar-returns-in_err-object-clause-failed t c =
+primary::after_dollar-returns-in_err-object-clause-failed t c =
     let p = err_from_is_err_and c.from_residual-in_err-object.result c.from_residual-in_err-object.ensures.1 in
     passed _ p.1 p.2 (no_memory c.in_err-object.ensures)
 
-pub primary::behind_dollar-returns-in_err-name-2-clause-failed : goal.primary::behind_dollar-returns-in_err-name-2-clause-failed
+pub primary::after_dollar-returns-in_err-name-2-clause-failed : goal.primary::after_dollar-returns-in_err-name-2-clause-failed
 unfolding grammar
-primary::behind_dollar-returns-in_err-name-2-clause-failed t c =
+primary::after_dollar-returns-in_err-name-2-clause-failed t c =
     let p = err_from_is_err_and c.from_residual-in_err-name-2.result c.from_residual-in_err-name-2.ensures.1 in
     passed _ p.1 p.2 (no_memory c.in_err-name-2.ensures)
 
-pub primary::behind_dollar-returns-then-not-take-clause-read : goal.primary::behind_dollar-returns-then-not-take-clause-read
+pub primary::after_dollar-returns-then-not-take-clause-read : goal.primary::after_dollar-returns-then-not-take-clause-read
 unfolding grammar
-primary::behind_dollar-returns-then-not-take-clause-read t c =
+primary::after_dollar-returns-then-not-take-clause-read t c =
     let k = rw c.in-Some.is at c.in_ok-name.ensures in
-    made c.args.place.names (λ g. behind_dollar c.args.place.inside) c.args.room 1 c.args.tokens.now c.take.new.self (tree.property (root c.in_ok-object.object.tree) (root c.in_ok-name-2.name.tree)) c.node_over-then-not-take.result c.node_over-then-not-take.ensures (λ g a. rw (c.in_ok-object.ensures, c.in_ok-name-2.ensures) (took k refl (stayed c.if-not-take.ensures gives))) (omega (arith, k.at, c.if-not-take.ensures.at, ap height c.in_ok-object.ensures, ap height c.in_ok-name-2.ensures))
+    made c.args.place.names (λ g. after_dollar c.args.place.inside) c.args.room 1 c.args.tokens.now c.take.new.self (tree.property (root c.in_ok-object.object.tree) (root c.in_ok-name-2.name.tree)) c.node_over-then-not-take.result c.node_over-then-not-take.ensures (λ g a. rw (c.in_ok-object.ensures, c.in_ok-name-2.ensures) (took k refl (stayed c.if-not-take.ensures gives))) (omega (arith, k.at, c.if-not-take.ensures.at, ap height c.in_ok-object.ensures, ap height c.in_ok-name-2.ensures))
 
-pub primary::behind_dollar-returns-then-not-take-clause-failed : goal.primary::behind_dollar-returns-then-not-take-clause-failed
+pub primary::after_dollar-returns-then-not-take-clause-failed : goal.primary::after_dollar-returns-then-not-take-clause-failed
 unfolding grammar
-primary::behind_dollar-returns-then-not-take-clause-failed t c =
+primary::after_dollar-returns-then-not-take-clause-failed t c =
     let k = rw c.in-Some.is at c.in_ok-name.ensures in
-    no_leaf c.args.place.names false (λ g. behind_dollar c.args.place.inside) c.args.room 1 c.args.tokens.now c.take.new.self (tree.property (root c.in_ok-object.object.tree) (root c.in_ok-name-2.name.tree)) c.node_over-then-not-take.result c.node_over-then-not-take.ensures
+    no_leaf c.args.place.names false (λ g. after_dollar c.args.place.inside) c.args.room 1 c.args.tokens.now c.take.new.self (tree.property (root c.in_ok-object.object.tree) (root c.in_ok-name-2.name.tree)) c.node_over-then-not-take.result c.node_over-then-not-take.ensures
     (λ high g ok. at_any (took_deepens k refl (subst (λ v. Deepens g false Sort.expr c.args.room (system_part c.args.place.inside c.in-Some.name) (left c.take_name.new.self) v) (sym c.if-not-take.ensures.rest) (meets_at_once (can_take (Sign LeftParen) refl can_read) ((λ y xs _. ((λ z. omega (arith, high, ap height c.in_ok-object.ensures, ap height c.in_ok-name-2.ensures)), tt)), omega (arith, high, ap height c.in_ok-object.ensures, ap height c.in_ok-name-2.ensures))))))
     (λ high. omega (arith, high, k.at, c.if-not-take.ensures.at, ap height c.in_ok-object.ensures, ap height c.in_ok-name-2.ensures))
 
-pub primary::behind_dollar-returns-in_err-beside-clause-failed : goal.primary::behind_dollar-returns-in_err-beside-clause-failed
+pub primary::after_dollar-returns-in_err-beside-clause-failed : goal.primary::after_dollar-returns-in_err-beside-clause-failed
 unfolding grammar
-primary::behind_dollar-returns-in_err-beside-clause-failed t c =
+primary::after_dollar-returns-in_err-beside-clause-failed t c =
     let p = err_from_is_err_and c.from_residual-in_err-beside.result c.from_residual-in_err-beside.ensures.1 in
     let k = rw c.in-Some.is at c.in_ok-name.ensures in
     passed _ p.1 p.2 (too_high c.in_err-beside.ensures.0 (λ g ok. at_any (took_deepens k refl (took_deepens c.if-not-take.ensures refl (meets_at_once can_read (λ xs _. ((λ x. omega (arith, c.in_err-beside.ensures.1)), tt)))))) (omega (arith, c.in_err-beside.ensures.1, k.at, c.if-not-take.ensures.at)))
 
-pub primary::behind_dollar-returns-in_err-members-clause-failed : goal.primary::behind_dollar-returns-in_err-members-clause-failed
+pub primary::after_dollar-returns-in_err-members-clause-failed : goal.primary::after_dollar-returns-in_err-members-clause-failed
 unfolding grammar
-primary::behind_dollar-returns-in_err-members-clause-failed t c =
+primary::after_dollar-returns-in_err-members-clause-failed t c =
     let p = err_from_is_err_and c.from_residual-in_err-members.result c.from_residual-in_err-members.ensures.1 in
     let k = rw c.in-Some.is at c.in_ok-name.ensures in
     passed _ p.1 p.2 (record {
@@ -1342,31 +1342,31 @@ primary::behind_dollar-returns-in_err-members-clause-failed t c =
       long = λ h. let l = c.in_err-members.ensures.failed.long h in omega (arith, l, k.at, c.if-not-take.ensures.at, c.in_ok-beside.ensures.0);
     })
 
-pub primary::behind_dollar-returns-in_err-expect-clause-failed : goal.primary::behind_dollar-returns-in_err-expect-clause-failed
+pub primary::after_dollar-returns-in_err-expect-clause-failed : goal.primary::after_dollar-returns-in_err-expect-clause-failed
 unfolding grammar
-primary::behind_dollar-returns-in_err-expect-clause-failed t c =
+primary::after_dollar-returns-in_err-expect-clause-failed t c =
     let p = err_from_is_err_and c.from_residual-in_err-expect.result c.from_residual-in_err-expect.ensures.1 in
     let k = rw c.in-Some.is at c.in_ok-name.ensures in
     passed _ p.1 p.2 (refused c.in_err-expect.ensures.0 (λ g a. took_fails k refl (took_fails c.if-not-take.ensures refl (then_fails (c.in_ok-members.ensures.read.reads g a) (stayed_fails c.in_err-expect.ensures.1 refuses)))))
 
-pub primary::behind_dollar-returns-clause-read : goal.primary::behind_dollar-returns-clause-read
+pub primary::after_dollar-returns-clause-read : goal.primary::after_dollar-returns-clause-read
 unfolding grammar
-primary::behind_dollar-returns-clause-read t c =
+primary::after_dollar-returns-clause-read t c =
     let k = rw c.in-Some.is at c.in_ok-name.ensures in
-    made c.args.place.names (λ g. behind_dollar c.args.place.inside) c.args.room 1 c.args.tokens.now c.expect.new.self (tree.verb_call (root c.in_ok-object.object.tree) (root c.in_ok-name-2.name.tree) (row_of c.in_ok-items.items.value)) c.node_over-2.result c.node_over-2.ensures (λ g a. rw (c.in_ok-object.ensures, c.in_ok-name-2.ensures, row_items c.in_ok-items.items.value, c.in_ok-items.ensures.ok) (took k refl (took c.if-not-take.ensures refl (reads (c.in_ok-members.ensures.read.reads g a) (took c.in_ok-expect.ensures refl gives))))) (omega (arith, k.at, c.if-not-take.ensures.at, c.in_ok-members.ensures.read.tokens, c.in_ok-expect.ensures.at, ap height c.in_ok-object.ensures, ap height c.in_ok-name-2.ensures, ap items_height (row_items c.in_ok-items.items.value ∙ ap (λ v. items_of v.items) c.in_ok-items.ensures.ok)))
+    made c.args.place.names (λ g. after_dollar c.args.place.inside) c.args.room 1 c.args.tokens.now c.expect.new.self (tree.verb_call (root c.in_ok-object.object.tree) (root c.in_ok-name-2.name.tree) (row_of c.in_ok-items.items.value)) c.node_over-2.result c.node_over-2.ensures (λ g a. rw (c.in_ok-object.ensures, c.in_ok-name-2.ensures, row_items c.in_ok-items.items.value, c.in_ok-items.ensures.ok) (took k refl (took c.if-not-take.ensures refl (reads (c.in_ok-members.ensures.read.reads g a) (took c.in_ok-expect.ensures refl gives))))) (omega (arith, k.at, c.if-not-take.ensures.at, c.in_ok-members.ensures.read.tokens, c.in_ok-expect.ensures.at, ap height c.in_ok-object.ensures, ap height c.in_ok-name-2.ensures, ap items_height (row_items c.in_ok-items.items.value ∙ ap (λ v. items_of v.items) c.in_ok-items.ensures.ok)))
 
-pub primary::behind_dollar-returns-clause-failed : goal.primary::behind_dollar-returns-clause-failed
+pub primary::after_dollar-returns-clause-failed : goal.primary::after_dollar-returns-clause-failed
 unfolding grammar
-primary::behind_dollar-returns-clause-failed t c =
+primary::after_dollar-returns-clause-failed t c =
     let k = rw c.in-Some.is at c.in_ok-name.ensures in
-    unmade c.args.place.names false (λ g. behind_dollar c.args.place.inside) c.args.room 1 c.args.tokens.now c.expect.new.self (tree.verb_call (root c.in_ok-object.object.tree) (root c.in_ok-name-2.name.tree) (row_of c.in_ok-items.items.value)) c.node_over-2.result c.node_over-2.ensures (omega (arith, c.in_ok-beside.ensures.0, c.in_ok-beside.ensures.1, c.in_ok-members.ensures.read.fits, ap height c.in_ok-object.ensures, ap height c.in_ok-name-2.ensures, ap items_height (row_items c.in_ok-items.items.value ∙ ap (λ v. items_of v.items) c.in_ok-items.ensures.ok)))
+    unmade c.args.place.names false (λ g. after_dollar c.args.place.inside) c.args.room 1 c.args.tokens.now c.expect.new.self (tree.verb_call (root c.in_ok-object.object.tree) (root c.in_ok-name-2.name.tree) (row_of c.in_ok-items.items.value)) c.node_over-2.result c.node_over-2.ensures (omega (arith, c.in_ok-beside.ensures.0, c.in_ok-beside.ensures.1, c.in_ok-members.ensures.read.fits, ap height c.in_ok-object.ensures, ap height c.in_ok-name-2.ensures, ap items_height (row_items c.in_ok-items.items.value ∙ ap (λ v. items_of v.items) c.in_ok-items.ensures.ok)))
 
-pub primary::behind_dollar-node_over-requires-then-not-take : goal.primary::behind_dollar-node_over-requires-then-not-take
-primary::behind_dollar-node_over-requires-then-not-take t c =
+pub primary::after_dollar-node_over-requires-then-not-take : goal.primary::after_dollar-node_over-requires-then-not-take
+primary::after_dollar-node_over-requires-then-not-take t c =
     omega (arith, ap height c.in_ok-object.ensures, ap height c.in_ok-name-2.ensures)
 
-pub primary::behind_dollar-node_over-requires-2 : goal.primary::behind_dollar-node_over-requires-2
-primary::behind_dollar-node_over-requires-2 t c =
+pub primary::after_dollar-node_over-requires-2 : goal.primary::after_dollar-node_over-requires-2
+primary::after_dollar-node_over-requires-2 t c =
     omega (arith, ap height c.in_ok-object.ensures, ap height c.in_ok-name-2.ensures, ap items_height (row_items c.in_ok-items.items.value ∙ ap (λ v. items_of v.items) c.in_ok-items.ensures.ok), c.in_ok-members.members.in_step)
 
 pub primary::guarded-returns-in_err-expect-clause-failed : goal.primary::guarded-returns-in_err-expect-clause-failed
@@ -1578,12 +1578,12 @@ pub members::member-returns-then-take_where-clause-read : goal.members::member-r
 unfolding grammar
 members::member-returns-then-take_where-clause-read t c =
     let asked_for = c.if-take_where.ensures in
-    if_ok (λ m. IsPiece c.args.place.names c.args.place.inside c.args.room c.take_where.new.self c.behind_question.new.tokens m.item) (λ m. IsMember c.args.place.names c.args.place.inside c.args.optional c.args.room c.args.tokens.now c.behind_question.new.tokens m.item) c.behind_question.result c.behind_question.ensures.read
+    if_ok (λ m. IsPiece c.args.place.names c.args.place.inside c.args.room c.take_where.new.self c.after_question.new.tokens m.item) (λ m. IsMember c.args.place.names c.args.place.inside c.args.optional c.args.room c.args.tokens.now c.after_question.new.tokens m.item) c.after_question.result c.after_question.ensures.read
     (λ m v. record {
       leads = record {
-        reads = λ g a e u d. stayed c.if-take.ensures (asked c.args.optional (behind_question c.args.place.inside) (phrase (expression c.args.place.inside) λ a. after_member c.args.place.inside c.args.optional (element a)) c.if-take_where.ensures (v.leads.reads g a _ _ (piece_reads asked_for.0 d)));
-        fails = λ g a u d. stayed_fails c.if-take.ensures (asked_fails c.args.optional (behind_question c.args.place.inside) (phrase (expression c.args.place.inside) λ a. after_member c.args.place.inside c.args.optional (element a)) c.if-take_where.ensures (v.leads.fails g a _ (piece_fails asked_for.0 d)));
-        deep = λ g ok n r d. stayed_deepens c.if-take.ensures (asked_deepens c.args.optional (behind_question c.args.place.inside) (phrase (expression c.args.place.inside) λ a. after_member c.args.place.inside c.args.optional (element a)) c.if-take_where.ensures (v.leads.deep g ok n r (piece_deepens asked_for.0 d)));
+        reads = λ g a e u d. stayed c.if-take.ensures (asked c.args.optional (after_question c.args.place.inside) (phrase (expression c.args.place.inside) λ a. after_member c.args.place.inside c.args.optional (element a)) c.if-take_where.ensures (v.leads.reads g a _ _ (piece_reads asked_for.0 d)));
+        fails = λ g a u d. stayed_fails c.if-take.ensures (asked_fails c.args.optional (after_question c.args.place.inside) (phrase (expression c.args.place.inside) λ a. after_member c.args.place.inside c.args.optional (element a)) c.if-take_where.ensures (v.leads.fails g a _ (piece_fails asked_for.0 d)));
+        deep = λ g ok n r d. stayed_deepens c.if-take.ensures (asked_deepens c.args.optional (after_question c.args.place.inside) (phrase (expression c.args.place.inside) λ a. after_member c.args.place.inside c.args.optional (element a)) c.if-take_where.ensures (v.leads.deep g ok n r (piece_deepens asked_for.0 d)));
       };
       fits = v.fits;
       tokens = omega (arith, v.tokens, c.if-take.ensures.at, c.if-take_where.ensures.1.at);
@@ -1592,11 +1592,11 @@ members::member-returns-then-take_where-clause-read t c =
 pub members::member-returns-then-take_where-clause-failed : goal.members::member-returns-then-take_where-clause-failed
 unfolding grammar
 members::member-returns-then-take_where-clause-failed t c =
-    if_err (λ f. HasFailedBy c.args.place.names true Sort.items (λ g. behind_question c.args.place.inside) c.args.room 0 c.take_where.new.self c.behind_question.new.tokens f) (λ f. HasFailedBy c.args.place.names true Sort.items (λ g. grammar g (members c.args.place.inside c.args.optional)) c.args.room 0 c.args.tokens.now c.behind_question.new.tokens f) c.behind_question.result c.behind_question.ensures.failed
+    if_err (λ f. HasFailedBy c.args.place.names true Sort.items (λ g. after_question c.args.place.inside) c.args.room 0 c.take_where.new.self c.after_question.new.tokens f) (λ f. HasFailedBy c.args.place.names true Sort.items (λ g. grammar g (members c.args.place.inside c.args.optional)) c.args.room 0 c.args.tokens.now c.after_question.new.tokens f) c.after_question.result c.after_question.ensures.failed
     (λ f w. record {
-      fails = λ g b. stayed_fails c.if-take.ensures (asked_fails c.args.optional (behind_question c.args.place.inside) (phrase (expression c.args.place.inside) λ a. after_member c.args.place.inside c.args.optional (element a)) c.if-take_where.ensures (w.fails g b));
+      fails = λ g b. stayed_fails c.if-take.ensures (asked_fails c.args.optional (after_question c.args.place.inside) (phrase (expression c.args.place.inside) λ a. after_member c.args.place.inside c.args.optional (element a)) c.if-take_where.ensures (w.fails g b));
       stands = w.stands;
-      deep = λ h g ok. stayed_deepens c.if-take.ensures (asked_deepens c.args.optional (behind_question c.args.place.inside) (phrase (expression c.args.place.inside) λ a. after_member c.args.place.inside c.args.optional (element a)) c.if-take_where.ensures (w.deep h g ok));
+      deep = λ h g ok. stayed_deepens c.if-take.ensures (asked_deepens c.args.optional (after_question c.args.place.inside) (phrase (expression c.args.place.inside) λ a. after_member c.args.place.inside c.args.optional (element a)) c.if-take_where.ensures (w.deep h g ok));
       long = λ h. let l = w.long h in omega (arith, l, c.if-take.ensures.at, c.if-take_where.ensures.1.at);
     })
 
@@ -1605,9 +1605,9 @@ unfolding grammar
 members::member-returns-in_err-tree-2-clause-failed t c =
     let p = err_from_is_err_and c.from_residual-in_err-tree-2.result c.from_residual-in_err-tree-2.ensures.1 in
     passed _ p.1 p.2 (record {
-      fails = λ g b. stayed_fails c.if-take.ensures (unasked_fails c.args.optional (behind_question c.args.place.inside) (phrase (expression c.args.place.inside) λ a. after_member c.args.place.inside c.args.optional (element a)) c.if-take_where.ensures (phrase_fails (c.in_err-tree-2.ensures.failed.fails g b)));
+      fails = λ g b. stayed_fails c.if-take.ensures (unasked_fails c.args.optional (after_question c.args.place.inside) (phrase (expression c.args.place.inside) λ a. after_member c.args.place.inside c.args.optional (element a)) c.if-take_where.ensures (phrase_fails (c.in_err-tree-2.ensures.failed.fails g b)));
       stands = c.in_err-tree-2.ensures.failed.stands;
-      deep = λ h g ok. stayed_deepens c.if-take.ensures (unasked_deepens c.args.optional (behind_question c.args.place.inside) (phrase (expression c.args.place.inside) λ a. after_member c.args.place.inside c.args.optional (element a)) c.if-take_where.ensures (phrase_deepens (c.in_err-tree-2.ensures.failed.deep h g ok) (λ a q. ((λ x xs _. omega (arith, q)), omega (arith, q)))));
+      deep = λ h g ok. stayed_deepens c.if-take.ensures (unasked_deepens c.args.optional (after_question c.args.place.inside) (phrase (expression c.args.place.inside) λ a. after_member c.args.place.inside c.args.optional (element a)) c.if-take_where.ensures (phrase_deepens (c.in_err-tree-2.ensures.failed.deep h g ok) (λ a q. ((λ x xs _. omega (arith, q)), omega (arith, q)))));
       long = λ h. let l = c.in_err-tree-2.ensures.failed.long h in omega (arith, l, c.if-take.ensures.at, c.if-take_where.ensures.at);
     })
 
@@ -1616,37 +1616,37 @@ unfolding grammar
 members::member-returns-clause-read t c =
     record {
       leads = record {
-        reads = λ g a e u d. stayed c.if-take.ensures (unasked c.args.optional (behind_question c.args.place.inside) (phrase (expression c.args.place.inside) λ a. after_member c.args.place.inside c.args.optional (element a)) c.if-take_where.ensures (reads (c.in_ok-tree-2.ensures.read.reads g a) (d)));
-        fails = λ g a u d. stayed_fails c.if-take.ensures (unasked_fails c.args.optional (behind_question c.args.place.inside) (phrase (expression c.args.place.inside) λ a. after_member c.args.place.inside c.args.optional (element a)) c.if-take_where.ensures (then_fails (c.in_ok-tree-2.ensures.read.reads g a) (d)));
-        deep = λ g ok n r d. stayed_deepens c.if-take.ensures (unasked_deepens c.args.optional (behind_question c.args.place.inside) (phrase (expression c.args.place.inside) λ a. after_member c.args.place.inside c.args.optional (element a)) c.if-take_where.ensures (then_deepens (c.in_ok-tree-2.ensures.read.reads g ok) (d)));
+        reads = λ g a e u d. stayed c.if-take.ensures (unasked c.args.optional (after_question c.args.place.inside) (phrase (expression c.args.place.inside) λ a. after_member c.args.place.inside c.args.optional (element a)) c.if-take_where.ensures (reads (c.in_ok-tree-2.ensures.read.reads g a) (d)));
+        fails = λ g a u d. stayed_fails c.if-take.ensures (unasked_fails c.args.optional (after_question c.args.place.inside) (phrase (expression c.args.place.inside) λ a. after_member c.args.place.inside c.args.optional (element a)) c.if-take_where.ensures (then_fails (c.in_ok-tree-2.ensures.read.reads g a) (d)));
+        deep = λ g ok n r d. stayed_deepens c.if-take.ensures (unasked_deepens c.args.optional (after_question c.args.place.inside) (phrase (expression c.args.place.inside) λ a. after_member c.args.place.inside c.args.optional (element a)) c.if-take_where.ensures (then_deepens (c.in_ok-tree-2.ensures.read.reads g ok) (d)));
       };
       fits = omega (arith, c.in_ok-tree-2.ensures.read.fits);
       tokens = omega (arith, c.in_ok-tree-2.ensures.read.tokens, c.if-take.ensures.at, c.if-take_where.ensures.at);
     }
 
-pub members::behind_question-returns-in_err-name-clause-failed : goal.members::behind_question-returns-in_err-name-clause-failed
+pub members::after_question-returns-in_err-name-clause-failed : goal.members::after_question-returns-in_err-name-clause-failed
 unfolding grammar
-members::behind_question-returns-in_err-name-clause-failed t c =
+members::after_question-returns-in_err-name-clause-failed t c =
     let p = err_from_is_err_and c.from_residual.result c.from_residual.ensures.1 in
     passed _ p.1 p.2 (no_memory c.in_err-name.ensures.0)
 
-pub members::behind_question-returns-in_default-clause-failed : goal.members::behind_question-returns-in_default-clause-failed
+pub members::after_question-returns-in_default-clause-failed : goal.members::after_question-returns-in_default-clause-failed
 unfolding grammar
-members::behind_question-returns-in_default-clause-failed t c =
+members::after_question-returns-in_default-clause-failed t c =
     let no_name = none_of (Stays (λ x. is_some (name_at x)) c.args.tokens.now c.take_name.new.self) (λ s. Takes (Name s) c.args.tokens.now c.take_name.new.self) _ c.in_default.not-Some c.in_ok-name.ensures in
     refused refl (λ g a. stayed_fails no_name refuses)
 
-pub members::behind_question-returns-in_err-below-clause-failed : goal.members::behind_question-returns-in_err-below-clause-failed
+pub members::after_question-returns-in_err-below-clause-failed : goal.members::after_question-returns-in_err-below-clause-failed
 unfolding grammar
-members::behind_question-returns-in_err-below-clause-failed t c =
+members::after_question-returns-in_err-below-clause-failed t c =
     let p = err_from_is_err_and c.from_residual-in_err-below.result c.from_residual-in_err-below.ensures.1 in
     let k = rw c.in-Some.is at c.in_ok-name.ensures in
     let none = c.in_err-below.ensures.1 in
     passed _ p.1 p.2 (too_high c.in_err-below.ensures.0 (λ g ok. took_deepens k refl (meets_at_once (can_take (Sign Assign) refl can_read) ((λ y a _. ((λ z xs _. omega (arith, none, height_positive a)), omega (arith, none, height_positive a))), ((λ z xs _. omega (arith, none)), omega (arith, none))))) (omega (arith, none, k.at)))
 
-pub members::behind_question-returns-then-not-take-clause-read : goal.members::behind_question-returns-then-not-take-clause-read
+pub members::after_question-returns-then-not-take-clause-read : goal.members::after_question-returns-then-not-take-clause-read
 unfolding grammar
-members::behind_question-returns-then-not-take-clause-read t c =
+members::after_question-returns-then-not-take-clause-read t c =
     let k = rw c.in-Some.is at c.in_ok-name.ensures in
     record {
       leads = rw (c.in_ok-variable.ensures.ok, c.new.ensures) (record {
@@ -1658,9 +1658,9 @@ members::behind_question-returns-then-not-take-clause-read t c =
       tokens = omega (arith, k.at, c.if-not-take.ensures.at);
     }
 
-pub members::behind_question-returns-in_err-tree-clause-failed : goal.members::behind_question-returns-in_err-tree-clause-failed
+pub members::after_question-returns-in_err-tree-clause-failed : goal.members::after_question-returns-in_err-tree-clause-failed
 unfolding grammar
-members::behind_question-returns-in_err-tree-clause-failed t c =
+members::after_question-returns-in_err-tree-clause-failed t c =
     let p = err_from_is_err_and c.from_residual-in_err-tree.result c.from_residual-in_err-tree.ensures.1 in
     let k = rw c.in-Some.is at c.in_ok-name.ensures in
     passed _ p.1 p.2 (record {
@@ -1670,9 +1670,9 @@ members::behind_question-returns-in_err-tree-clause-failed t c =
       long = λ h. let l = c.in_err-tree.ensures.failed.long h in omega (arith, l, k.at, c.if-not-take.ensures.at);
     })
 
-pub members::behind_question-returns-clause-read : goal.members::behind_question-returns-clause-read
+pub members::after_question-returns-clause-read : goal.members::after_question-returns-clause-read
 unfolding grammar
-members::behind_question-returns-clause-read t c =
+members::after_question-returns-clause-read t c =
     let k = rw c.in-Some.is at c.in_ok-name.ensures in
     record {
       leads = rw (c.in_ok-variable.ensures.ok, c.new.ensures) (record {

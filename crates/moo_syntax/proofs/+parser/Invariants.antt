@@ -9,20 +9,20 @@ use Rattle.moo_syntax.proofs.+parser.Given as goal
 abbrev pub decreases-members::arguments : goal.decreases-members::arguments
 decreases-members::arguments l = 40 * (length l.tokens.now.spots.now - l.tokens.now.at) + 29
 
-abbrev pub decreases-postfix::behind_bracket : goal.decreases-postfix::behind_bracket
-decreases-postfix::behind_bracket l = 40 * (length l.tokens.now.spots.now - l.tokens.now.at) + 30
+abbrev pub decreases-postfix::after_bracket : goal.decreases-postfix::after_bracket
+decreases-postfix::after_bracket l = 40 * (length l.tokens.now.spots.now - l.tokens.now.at) + 30
 
-abbrev pub decreases-postfix::behind_colon : goal.decreases-postfix::behind_colon
-decreases-postfix::behind_colon l = 40 * (length l.tokens.now.spots.now - l.tokens.now.at) + 30
+abbrev pub decreases-postfix::after_colon : goal.decreases-postfix::after_colon
+decreases-postfix::after_colon l = 40 * (length l.tokens.now.spots.now - l.tokens.now.at) + 30
 
-abbrev pub decreases-primary::behind_dollar : goal.decreases-primary::behind_dollar
-decreases-primary::behind_dollar l = 40 * (length l.tokens.now.spots.now - l.tokens.now.at) + 31
+abbrev pub decreases-primary::after_dollar : goal.decreases-primary::after_dollar
+decreases-primary::after_dollar l = 40 * (length l.tokens.now.spots.now - l.tokens.now.at) + 31
 
-abbrev pub decreases-postfix::behind_dot : goal.decreases-postfix::behind_dot
-decreases-postfix::behind_dot l = 40 * (length l.tokens.now.spots.now - l.tokens.now.at) + 30
+abbrev pub decreases-postfix::after_dot : goal.decreases-postfix::after_dot
+decreases-postfix::after_dot l = 40 * (length l.tokens.now.spots.now - l.tokens.now.at) + 30
 
-abbrev pub decreases-members::behind_question : goal.decreases-members::behind_question
-decreases-members::behind_question l = 40 * (length l.tokens.now.spots.now - l.tokens.now.at) + 30
+abbrev pub decreases-members::after_question : goal.decreases-members::after_question
+decreases-members::after_question l = 40 * (length l.tokens.now.spots.now - l.tokens.now.at) + 30
 
 abbrev pub decreases-primary::braced : goal.decreases-primary::braced
 decreases-primary::braced l = 40 * (length l.tokens.now.spots.now - l.tokens.now.at) + 9

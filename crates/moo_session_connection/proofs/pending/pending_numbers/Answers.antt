@@ -21,7 +21,7 @@ returns-clause-only c k there =
     let joined = c.extend_from_slice.new.self.items in
     ⊎_elim
     (λ first. inl (c.in_ok-numbers.ensures.only k first))
-    (λ behind. inr (ap (λ (ns : List ℕ). list_any (is_number k) ns) (sym c.leaving.ensures) ∙ leaves c.leaving.result.now k behind))
+    (λ after. inr (ap (λ (ns : List ℕ). list_any (is_number k) ns) (sym c.leaving.ensures) ∙ leaves c.leaving.result.now k after))
     (Contains-append_cases c.in_ok-numbers.numbers.items c.leaving.result.now k (subst (λ (ns : List ℕ). Contains ns k) c.in_ok-extend_from_slice.ensures.items
     (sorted_adds_none joined c.sort_unstable.new.self.items c.dedup.new.self.items c.sort_unstable.ensures.permutation (dedup_is _ _ _ c.dedup.ensures.filtered) k there)))
 

@@ -16,9 +16,9 @@ returns-then-opened-gt-MOST_BRACKETS c =
     let i = c.loop-at.at in
     let x = c.index-spots-at.result in
     let before = c.loop-at.invariant.within [] (omega (arith, c.loop-at.invariant.opened)) in
-    let behind = c.loop-at.invariant.outside (x.token ∷ []) (omega (arith, c.open_behind-opened.ensures, c.if-opened-gt-MOST_BRACKETS.true)) in
+    let after = c.loop-at.invariant.outside (x.token ∷ []) (omega (arith, c.open_after-opened.ensures, c.if-opened-gt-MOST_BRACKETS.true)) in
     let front = sym (words_front spots i x c.loop-at-test.true c.index-spots-at.is []) ∙ nothing_more (words (take (i + 1) spots)) in (
       c.loop-at-test.true,
       subst (λ (ts : List Token). most_open ts ≤ most_brackets) (nothing_more (words (take i spots))) before,
-      subst (λ (ts : List Token). most_brackets < most_open ts) front behind,
+      subst (λ (ts : List Token). most_brackets < most_open ts) front after,
     )

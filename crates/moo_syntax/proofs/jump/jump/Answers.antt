@@ -3,7 +3,7 @@ use Rattle.std.proofs.lemmas.Result.{err_from_is_err_and}
 use Rattle.moo_syntax_grammar.specs.Rules.{has_loop}
 use Rattle.moo_syntax_grammar.specs.Tokens.{is_keyword, next_passes}
 use Rattle.moo_syntax_grammar.specs.Machine.{sees_fails}
-use Rattle.moo_syntax_grammar.specs.Predictive.{behind_jump}
+use Rattle.moo_syntax_grammar.specs.Predictive.{after_jump}
 use Rattle.moo_syntax_grammar.proofs.Kept.{refused_fails}
 use Rattle.moo_syntax.specs.Places.{at_keyword}
 use Rattle.moo_syntax.proofs.Jumps.{label_at, empty_list, loop_jumps, no_loop_jumps, some_loops, jump_name, jump_memory, jump_too_deep, jump_ends, jump_unended, jump_refused}
@@ -45,7 +45,7 @@ returns-in_err-expect_loop-clause-failed c =
     let some : c.args.loops.now ≡ [] → ⊥ = search rules in
     let ls = reverse c.args.loops.now in
     λ names. passed _ p.1 p.2 (rw e.0 (record {
-      fails = λ h q g b. admitted_fails (λ _. behind_jump g ls h) k same (loop_jumps g ls None (some_loops c.args.loops.now some)) (jump_refused g ls h c.expect_keyword.new.self c.expect_keyword.new.self c.expect_keyword.new.self b.1 e.1.other e.1.token);
+      fails = λ h q g b. admitted_fails (λ _. after_jump g ls h) k same (loop_jumps g ls None (some_loops c.args.loops.now some)) (jump_refused g ls h c.expect_keyword.new.self c.expect_keyword.new.self c.expect_keyword.new.self b.1 e.1.other e.1.token);
       stands = jump_name k c.requires.jumps e.1.token;
       deep = λ h. absurd cc;
       long = λ h. absurd cc;
@@ -65,7 +65,7 @@ returns-in_err-expect-clause-failed c =
     let some : c.args.loops.now ≡ [] → ⊥ = search rules in
     let ls = reverse c.args.loops.now in
     λ names. passed _ p.1 p.2 (rw e.0 (record {
-      fails = λ h q g b. admitted_fails (λ _. behind_jump g ls h) k same (loop_jumps g ls None (some_loops c.args.loops.now some)) (jump_unended g ls h c.expect_keyword.new.self c.take_name.new.self c.expect.new.self c.in_ok-name.name c.in_ok-name.ensures c.in_ok-expect_loop.ensures e.1);
+      fails = λ h q g b. admitted_fails (λ _. after_jump g ls h) k same (loop_jumps g ls None (some_loops c.args.loops.now some)) (jump_unended g ls h c.expect_keyword.new.self c.take_name.new.self c.expect.new.self c.in_ok-name.name c.in_ok-name.ensures c.in_ok-expect_loop.ensures e.1);
       stands = tt;
       deep = λ h. absurd cc;
       long = λ h. absurd cc;
@@ -79,7 +79,7 @@ returns-clause-read c =
     let some : c.args.loops.now ≡ [] → ⊥ = search rules in
     let ls = reverse c.args.loops.now in
     λ names. record {
-      reads = λ f q g a. admitted (λ _. behind_jump g ls f) k same (loop_jumps g ls None (some_loops c.args.loops.now some)) (jump_ends g ls f c.expect_keyword.new.self c.take_name.new.self c.expect.new.self c.in_ok-name.name c.in_ok-name.ensures c.in_ok-expect_loop.ensures s);
+      reads = λ f q g a. admitted (λ _. after_jump g ls f) k same (loop_jumps g ls None (some_loops c.args.loops.now some)) (jump_ends g ls f c.expect_keyword.new.self c.take_name.new.self c.expect.new.self c.in_ok-name.name c.in_ok-name.ensures c.in_ok-expect_loop.ensures s);
       fits = omega (arith, c.in_ok-below.ensures);
       tokens = omega (arith, k.at, label_at c.expect_keyword.new.self c.take_name.new.self c.in_ok-name.name c.in_ok-name.ensures, s.at);
     }

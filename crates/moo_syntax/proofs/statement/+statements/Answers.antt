@@ -11,13 +11,13 @@ use Rattle.moo_syntax_ast.specs.View.{statement as tree_of}
 use Rattle.moo_syntax_ast.proofs.Rows.{row_block, row_arms, row_handlers}
 use Rattle.moo_syntax_grammar.specs.Grammar.{Sort, statement}
 use Rattle.moo_syntax_grammar.specs.Machine.{gives, sees, misses, reads, refuses, sees_fails, misses_fails, phrase_fails, then_fails}
-use Rattle.moo_syntax_grammar.specs.Predictive.{grammar, behind_if, behind_for, behind_while, behind_return, behind_try}
+use Rattle.moo_syntax_grammar.specs.Predictive.{grammar, after_if, after_for, after_while, after_return, after_try}
 use Rattle.moo_syntax_grammar.specs.Tokens.{name_at}
 use Rattle.moo_syntax.specs.Cursor.{left, Takes, Stays}
 use Rattle.moo_syntax.specs.Outcome.{IsReadBy, HasFailedBy}
 use Rattle.moo_syntax.specs.Outgrown.{can_read, can_take, at_once}
 use Rattle.moo_syntax.proofs.Deepening.{at_any, sees_deepens, misses_deepens, then_deepens, phrase_deepens}
-use Rattle.moo_syntax.specs.Statements.{behind_range, performing}
+use Rattle.moo_syntax.specs.Statements.{after_range, performing}
 use Rattle.moo_syntax.proofs.Blocks.{before_nothing, before_push, block_height_push, statement_height_positive, arms_before_nothing, arms_before_push, arms_push, arms_height_push, handlers_before_push, handlers_push, with_handler_height, handlers_height_push}
 use Rattle.moo_syntax.proofs.Jumps.{label_reads, label_at, no_statement_room, break_jumps, continue_jumps}
 use Rattle.moo_syntax.proofs.Steps.{took, took_fails, took_deepens, stayed, stayed_fails, stayed_deepens, told_admits, passed, refused, no_memory, too_high, if_ok, if_err, none_of}
@@ -110,7 +110,7 @@ statements-returns-clause-read t c =
 pub statement-returns-then-take_keyword-clause-read : goal.statement-returns-then-take_keyword-clause-read
 unfolding grammar
 statement-returns-then-take_keyword-clause-read t c =
-    if_ok (λ n. IsReadBy c.args.names Sort.stmt (λ g. behind_if (reverse c.args.loops.now.items)) c.args.room 1 c.take_keyword.new.self c.branches.new.tokens (tree_of n)) (λ n. IsReadBy c.args.names Sort.stmt (λ g. grammar g (statement (reverse c.args.loops.now.items))) c.args.room 0 c.args.tokens.now c.branches.new.tokens (tree_of n)) c.branches.result c.branches.ensures.read
+    if_ok (λ n. IsReadBy c.args.names Sort.stmt (λ g. after_if (reverse c.args.loops.now.items)) c.args.room 1 c.take_keyword.new.self c.branches.new.tokens (tree_of n)) (λ n. IsReadBy c.args.names Sort.stmt (λ g. grammar g (statement (reverse c.args.loops.now.items))) c.args.room 0 c.args.tokens.now c.branches.new.tokens (tree_of n)) c.branches.result c.branches.ensures.read
     (λ n v. record {
       reads = λ g a. took c.if-take_keyword.ensures refl (v.reads g a);
       fits = omega (arith, v.fits);
@@ -120,7 +120,7 @@ statement-returns-then-take_keyword-clause-read t c =
 pub statement-returns-then-take_keyword-clause-failed : goal.statement-returns-then-take_keyword-clause-failed
 unfolding grammar
 statement-returns-then-take_keyword-clause-failed t c =
-    if_err (λ f. HasFailedBy c.args.names false Sort.stmt (λ g. behind_if (reverse c.args.loops.now.items)) c.args.room 1 c.take_keyword.new.self c.branches.new.tokens f) (λ f. HasFailedBy c.args.names true Sort.stmt (λ g. grammar g (statement (reverse c.args.loops.now.items))) c.args.room 0 c.args.tokens.now c.branches.new.tokens f) c.branches.result c.branches.ensures.failed
+    if_err (λ f. HasFailedBy c.args.names false Sort.stmt (λ g. after_if (reverse c.args.loops.now.items)) c.args.room 1 c.take_keyword.new.self c.branches.new.tokens f) (λ f. HasFailedBy c.args.names true Sort.stmt (λ g. grammar g (statement (reverse c.args.loops.now.items))) c.args.room 0 c.args.tokens.now c.branches.new.tokens f) c.branches.result c.branches.ensures.failed
     (λ f w. record {
       fails = λ g b. took_fails c.if-take_keyword.ensures refl (w.fails g b);
       stands = w.stands;
@@ -131,7 +131,7 @@ statement-returns-then-take_keyword-clause-failed t c =
 pub statement-returns-then-take_keyword-2-clause-read : goal.statement-returns-then-take_keyword-2-clause-read
 unfolding grammar
 statement-returns-then-take_keyword-2-clause-read t c =
-    if_ok (λ n. IsReadBy c.args.names Sort.stmt (λ g. behind_for (reverse c.args.loops.now.items)) c.args.room 1 c.take_keyword-2.new.self c.for_loop.new.tokens (tree_of n)) (λ n. IsReadBy c.args.names Sort.stmt (λ g. grammar g (statement (reverse c.args.loops.now.items))) c.args.room 0 c.args.tokens.now c.for_loop.new.tokens (tree_of n)) c.for_loop.result c.for_loop.ensures.read
+    if_ok (λ n. IsReadBy c.args.names Sort.stmt (λ g. after_for (reverse c.args.loops.now.items)) c.args.room 1 c.take_keyword-2.new.self c.for_loop.new.tokens (tree_of n)) (λ n. IsReadBy c.args.names Sort.stmt (λ g. grammar g (statement (reverse c.args.loops.now.items))) c.args.room 0 c.args.tokens.now c.for_loop.new.tokens (tree_of n)) c.for_loop.result c.for_loop.ensures.read
     (λ n v. record {
       reads = λ g a. stayed c.if-take_keyword.ensures (took c.if-take_keyword-2.ensures refl (v.reads g a));
       fits = omega (arith, v.fits);
@@ -141,7 +141,7 @@ statement-returns-then-take_keyword-2-clause-read t c =
 pub statement-returns-then-take_keyword-2-clause-failed : goal.statement-returns-then-take_keyword-2-clause-failed
 unfolding grammar
 statement-returns-then-take_keyword-2-clause-failed t c =
-    if_err (λ f. HasFailedBy c.args.names false Sort.stmt (λ g. behind_for (reverse c.args.loops.now.items)) c.args.room 1 c.take_keyword-2.new.self c.for_loop.new.tokens f) (λ f. HasFailedBy c.args.names true Sort.stmt (λ g. grammar g (statement (reverse c.args.loops.now.items))) c.args.room 0 c.args.tokens.now c.for_loop.new.tokens f) c.for_loop.result c.for_loop.ensures.failed
+    if_err (λ f. HasFailedBy c.args.names false Sort.stmt (λ g. after_for (reverse c.args.loops.now.items)) c.args.room 1 c.take_keyword-2.new.self c.for_loop.new.tokens f) (λ f. HasFailedBy c.args.names true Sort.stmt (λ g. grammar g (statement (reverse c.args.loops.now.items))) c.args.room 0 c.args.tokens.now c.for_loop.new.tokens f) c.for_loop.result c.for_loop.ensures.failed
     (λ f w. record {
       fails = λ g b. stayed_fails c.if-take_keyword.ensures (took_fails c.if-take_keyword-2.ensures refl (w.fails g b));
       stands = w.stands;
@@ -152,7 +152,7 @@ statement-returns-then-take_keyword-2-clause-failed t c =
 pub statement-returns-then-take_keyword-3-clause-read : goal.statement-returns-then-take_keyword-3-clause-read
 unfolding grammar
 statement-returns-then-take_keyword-3-clause-read t c =
-    if_ok (λ n. IsReadBy c.args.names Sort.stmt (λ g. behind_while (reverse c.args.loops.now.items)) c.args.room 1 c.take_keyword-3.new.self c.while_loop.new.tokens (tree_of n)) (λ n. IsReadBy c.args.names Sort.stmt (λ g. grammar g (statement (reverse c.args.loops.now.items))) c.args.room 0 c.args.tokens.now c.while_loop.new.tokens (tree_of n)) c.while_loop.result c.while_loop.ensures.read
+    if_ok (λ n. IsReadBy c.args.names Sort.stmt (λ g. after_while (reverse c.args.loops.now.items)) c.args.room 1 c.take_keyword-3.new.self c.while_loop.new.tokens (tree_of n)) (λ n. IsReadBy c.args.names Sort.stmt (λ g. grammar g (statement (reverse c.args.loops.now.items))) c.args.room 0 c.args.tokens.now c.while_loop.new.tokens (tree_of n)) c.while_loop.result c.while_loop.ensures.read
     (λ n v. record {
       reads = λ g a. stayed c.if-take_keyword.ensures (stayed c.if-take_keyword-2.ensures (took c.if-take_keyword-3.ensures refl (v.reads g a)));
       fits = omega (arith, v.fits);
@@ -162,7 +162,7 @@ statement-returns-then-take_keyword-3-clause-read t c =
 pub statement-returns-then-take_keyword-3-clause-failed : goal.statement-returns-then-take_keyword-3-clause-failed
 unfolding grammar
 statement-returns-then-take_keyword-3-clause-failed t c =
-    if_err (λ f. HasFailedBy c.args.names false Sort.stmt (λ g. behind_while (reverse c.args.loops.now.items)) c.args.room 1 c.take_keyword-3.new.self c.while_loop.new.tokens f) (λ f. HasFailedBy c.args.names true Sort.stmt (λ g. grammar g (statement (reverse c.args.loops.now.items))) c.args.room 0 c.args.tokens.now c.while_loop.new.tokens f) c.while_loop.result c.while_loop.ensures.failed
+    if_err (λ f. HasFailedBy c.args.names false Sort.stmt (λ g. after_while (reverse c.args.loops.now.items)) c.args.room 1 c.take_keyword-3.new.self c.while_loop.new.tokens f) (λ f. HasFailedBy c.args.names true Sort.stmt (λ g. grammar g (statement (reverse c.args.loops.now.items))) c.args.room 0 c.args.tokens.now c.while_loop.new.tokens f) c.while_loop.result c.while_loop.ensures.failed
     (λ f w. record {
       fails = λ g b. stayed_fails c.if-take_keyword.ensures (stayed_fails c.if-take_keyword-2.ensures (took_fails c.if-take_keyword-3.ensures refl (w.fails g b)));
       stands = w.stands;
@@ -223,7 +223,7 @@ statement-returns-then-is_at_keyword-2-clause-read t c =
 pub statement-returns-then-take_keyword-4-clause-read : goal.statement-returns-then-take_keyword-4-clause-read
 unfolding grammar
 statement-returns-then-take_keyword-4-clause-read t c =
-    if_ok (λ n. IsReadBy c.args.names Sort.stmt (λ g. behind_return) c.args.room 1 c.take_keyword-4.new.self c.returned.new.tokens (tree_of n)) (λ n. IsReadBy c.args.names Sort.stmt (λ g. grammar g (statement (reverse c.args.loops.now.items))) c.args.room 0 c.args.tokens.now c.returned.new.tokens (tree_of n)) c.returned.result c.returned.ensures.read
+    if_ok (λ n. IsReadBy c.args.names Sort.stmt (λ g. after_return) c.args.room 1 c.take_keyword-4.new.self c.returned.new.tokens (tree_of n)) (λ n. IsReadBy c.args.names Sort.stmt (λ g. grammar g (statement (reverse c.args.loops.now.items))) c.args.room 0 c.args.tokens.now c.returned.new.tokens (tree_of n)) c.returned.result c.returned.ensures.read
     (λ n v. record {
       reads = λ g a. stayed c.if-take_keyword.ensures (stayed c.if-take_keyword-2.ensures (stayed c.if-take_keyword-3.ensures (misses (sym c.is_at_keyword.ensures ∙ c.if-is_at_keyword.false) (misses (sym c.is_at_keyword-2.ensures ∙ c.if-is_at_keyword-2.false) (took c.if-take_keyword-4.ensures refl (v.reads g a))))));
       fits = omega (arith, v.fits);
@@ -233,7 +233,7 @@ statement-returns-then-take_keyword-4-clause-read t c =
 pub statement-returns-then-take_keyword-4-clause-failed : goal.statement-returns-then-take_keyword-4-clause-failed
 unfolding grammar
 statement-returns-then-take_keyword-4-clause-failed t c =
-    if_err (λ f. HasFailedBy c.args.names false Sort.stmt (λ g. behind_return) c.args.room 1 c.take_keyword-4.new.self c.returned.new.tokens f) (λ f. HasFailedBy c.args.names true Sort.stmt (λ g. grammar g (statement (reverse c.args.loops.now.items))) c.args.room 0 c.args.tokens.now c.returned.new.tokens f) c.returned.result c.returned.ensures.failed
+    if_err (λ f. HasFailedBy c.args.names false Sort.stmt (λ g. after_return) c.args.room 1 c.take_keyword-4.new.self c.returned.new.tokens f) (λ f. HasFailedBy c.args.names true Sort.stmt (λ g. grammar g (statement (reverse c.args.loops.now.items))) c.args.room 0 c.args.tokens.now c.returned.new.tokens f) c.returned.result c.returned.ensures.failed
     (λ f w. record {
       fails = λ g b. stayed_fails c.if-take_keyword.ensures (stayed_fails c.if-take_keyword-2.ensures (stayed_fails c.if-take_keyword-3.ensures (misses_fails (sym c.is_at_keyword.ensures ∙ c.if-is_at_keyword.false) (misses_fails (sym c.is_at_keyword-2.ensures ∙ c.if-is_at_keyword-2.false) (took_fails c.if-take_keyword-4.ensures refl (w.fails g b))))));
       stands = w.stands;
@@ -244,7 +244,7 @@ statement-returns-then-take_keyword-4-clause-failed t c =
 pub statement-returns-then-take_keyword-5-clause-read : goal.statement-returns-then-take_keyword-5-clause-read
 unfolding grammar
 statement-returns-then-take_keyword-5-clause-read t c =
-    if_ok (λ n. IsReadBy c.args.names Sort.stmt (λ g. behind_try (reverse c.args.loops.now.items)) c.args.room 1 c.take_keyword-5.new.self c.attempt.new.tokens (tree_of n)) (λ n. IsReadBy c.args.names Sort.stmt (λ g. grammar g (statement (reverse c.args.loops.now.items))) c.args.room 0 c.args.tokens.now c.attempt.new.tokens (tree_of n)) c.attempt.result c.attempt.ensures.read
+    if_ok (λ n. IsReadBy c.args.names Sort.stmt (λ g. after_try (reverse c.args.loops.now.items)) c.args.room 1 c.take_keyword-5.new.self c.attempt.new.tokens (tree_of n)) (λ n. IsReadBy c.args.names Sort.stmt (λ g. grammar g (statement (reverse c.args.loops.now.items))) c.args.room 0 c.args.tokens.now c.attempt.new.tokens (tree_of n)) c.attempt.result c.attempt.ensures.read
     (λ n v. record {
       reads = λ g a. stayed c.if-take_keyword.ensures (stayed c.if-take_keyword-2.ensures (stayed c.if-take_keyword-3.ensures (misses (sym c.is_at_keyword.ensures ∙ c.if-is_at_keyword.false) (misses (sym c.is_at_keyword-2.ensures ∙ c.if-is_at_keyword-2.false) (stayed c.if-take_keyword-4.ensures (took c.if-take_keyword-5.ensures refl (v.reads g a)))))));
       fits = omega (arith, v.fits);
@@ -254,7 +254,7 @@ statement-returns-then-take_keyword-5-clause-read t c =
 pub statement-returns-then-take_keyword-5-clause-failed : goal.statement-returns-then-take_keyword-5-clause-failed
 unfolding grammar
 statement-returns-then-take_keyword-5-clause-failed t c =
-    if_err (λ f. HasFailedBy c.args.names false Sort.stmt (λ g. behind_try (reverse c.args.loops.now.items)) c.args.room 1 c.take_keyword-5.new.self c.attempt.new.tokens f) (λ f. HasFailedBy c.args.names true Sort.stmt (λ g. grammar g (statement (reverse c.args.loops.now.items))) c.args.room 0 c.args.tokens.now c.attempt.new.tokens f) c.attempt.result c.attempt.ensures.failed
+    if_err (λ f. HasFailedBy c.args.names false Sort.stmt (λ g. after_try (reverse c.args.loops.now.items)) c.args.room 1 c.take_keyword-5.new.self c.attempt.new.tokens f) (λ f. HasFailedBy c.args.names true Sort.stmt (λ g. grammar g (statement (reverse c.args.loops.now.items))) c.args.room 0 c.args.tokens.now c.attempt.new.tokens f) c.attempt.result c.attempt.ensures.failed
     (λ f w. record {
       fails = λ g b. stayed_fails c.if-take_keyword.ensures (stayed_fails c.if-take_keyword-2.ensures (stayed_fails c.if-take_keyword-3.ensures (misses_fails (sym c.is_at_keyword.ensures ∙ c.if-is_at_keyword.false) (misses_fails (sym c.is_at_keyword-2.ensures ∙ c.if-is_at_keyword-2.false) (stayed_fails c.if-take_keyword-4.ensures (took_fails c.if-take_keyword-5.ensures refl (w.fails g b)))))));
       stands = w.stands;
@@ -478,7 +478,7 @@ pub for_loop-returns-then-take-clause-read : goal.for_loop-returns-then-take-cla
 unfolding grammar
 for_loop-returns-then-take-clause-read t c =
     let k = rw c.in-Some.is at c.in_ok-name.ensures in
-    if_ok (λ n. IsReadBy c.args.names Sort.stmt (λ g. behind_range (reverse c.args.loops.now.items) c.in-Some.name) (c.in_ok-room_below.room_below + 1) 1 c.take.new.self c.for_range.new.tokens (tree_of n)) (λ n. IsReadBy c.args.names Sort.stmt (λ g. behind_for (reverse c.args.loops.now.items)) c.args.room 1 c.args.tokens.now c.for_range.new.tokens (tree_of n)) c.for_range.result c.for_range.ensures.read
+    if_ok (λ n. IsReadBy c.args.names Sort.stmt (λ g. after_range (reverse c.args.loops.now.items) c.in-Some.name) (c.in_ok-room_below.room_below + 1) 1 c.take.new.self c.for_range.new.tokens (tree_of n)) (λ n. IsReadBy c.args.names Sort.stmt (λ g. after_for (reverse c.args.loops.now.items)) c.args.room 1 c.args.tokens.now c.for_range.new.tokens (tree_of n)) c.for_range.result c.for_range.ensures.read
     (λ n v. record {
       reads = λ g a. took k refl (took c.in_ok-expect_keyword.ensures refl (took c.if-take.ensures refl (v.reads g a)));
       fits = omega (arith, v.fits, c.in_ok-room_below.ensures);
@@ -489,7 +489,7 @@ pub for_loop-returns-then-take-clause-failed : goal.for_loop-returns-then-take-c
 unfolding grammar
 for_loop-returns-then-take-clause-failed t c =
     let k = rw c.in-Some.is at c.in_ok-name.ensures in
-    if_err (λ f. HasFailedBy c.args.names true Sort.stmt (λ g. behind_range (reverse c.args.loops.now.items) c.in-Some.name) (c.in_ok-room_below.room_below + 1) 1 c.take.new.self c.for_range.new.tokens f) (λ f. HasFailedBy c.args.names false Sort.stmt (λ g. behind_for (reverse c.args.loops.now.items)) c.args.room 1 c.args.tokens.now c.for_range.new.tokens f) c.for_range.result c.for_range.ensures.failed
+    if_err (λ f. HasFailedBy c.args.names true Sort.stmt (λ g. after_range (reverse c.args.loops.now.items) c.in-Some.name) (c.in_ok-room_below.room_below + 1) 1 c.take.new.self c.for_range.new.tokens f) (λ f. HasFailedBy c.args.names false Sort.stmt (λ g. after_for (reverse c.args.loops.now.items)) c.args.room 1 c.args.tokens.now c.for_range.new.tokens f) c.for_range.result c.for_range.ensures.failed
     (λ f w. record {
       fails = λ g b. took_fails k refl (took_fails c.in_ok-expect_keyword.ensures refl (took_fails c.if-take.ensures refl (w.fails g b)));
       stands = w.stands;

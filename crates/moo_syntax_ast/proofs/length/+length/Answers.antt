@@ -6,13 +6,13 @@ use Rattle.moo_syntax_ast.specs.View.{tree, items_of}
 use Rattle.moo_syntax_ast.specs.Listing.{is_compound_base, constant_name, is_system_object}
 use Rattle.moo_syntax_ast.specs.Length.{listed_length, length_in_parentheses, shown_base_length, items_length, item_length, further_item_length}
 use Rattle.moo_syntax_ast.proofs.Rows.{row_items}
-use Rattle.moo_syntax_ast.proofs.Lengths.{items_length_sum, leaves_behind}
+use Rattle.moo_syntax_ast.proofs.Lengths.{items_length_sum, leaves_after}
 use Rattle.moo_syntax_ast.proofs.length.+length.Goals as goal
 
 pub expression-returns-in_ok-checked_sub-in-List : goal.expression-returns-in_ok-checked_sub-in-List
 expression-returns-in_ok-checked_sub-in-List t c =
     let rest = c.in_ok-checked_sub-in-List in
-    rw (c.in-List.is, row_items) (leaves_behind c.args.room rest.field-0 (items_length (items_of c.in-List.items.items)) _ c.items_rest.result (omega (arith, rest.ensures.0, rest.ensures.1)) (rw c.deref-in-List.ensures.value at c.items_rest.ensures))
+    rw (c.in-List.is, row_items) (leaves_after c.args.room rest.field-0 (items_length (items_of c.in-List.items.items)) _ c.items_rest.result (omega (arith, rest.ensures.0, rest.ensures.1)) (rw c.deref-in-List.ensures.value at c.items_rest.ensures))
 
 pub expression-returns-in_err-room-in-VerbCall : goal.expression-returns-in_err-room-in-VerbCall
 expression-returns-in_err-room-in-VerbCall t c =
@@ -27,13 +27,13 @@ expression-returns-in_err-selector_rest-in-VerbCall t c =
 pub expression-returns-in_ok-selector_rest-in-VerbCall : goal.expression-returns-in_ok-selector_rest-in-VerbCall
 expression-returns-in_ok-selector_rest-in-VerbCall t c =
     let rest = c.in_ok-checked_sub-in-VerbCall in
-    rw (c.in-VerbCall.is, row_items) (leaves_behind c.args.room c.in_ok-selector_rest-in-VerbCall.field-0 (shown_base_length (constant_name (tree c.in-VerbCall.name.value)) (is_system_object (tree c.in-VerbCall.base.value)) (length_in_parentheses (is_compound_base (tree c.in-VerbCall.base.value)) (listed_length (tree c.in-VerbCall.base.value)))) _ c.shown_base_rest-in-VerbCall.result (omega (arith, rest.ensures.0, rest.ensures.1, rw (c.deref-in-VerbCall-2.ensures.value, c.deref-in-VerbCall.ensures) at c.in_ok-room-in-VerbCall.ensures, rw c.deref-in-VerbCall-5.ensures at c.in_ok-selector_rest-in-VerbCall.ensures)) (rw (c.deref-in-VerbCall-3.ensures, c.deref-in-VerbCall-4.ensures) at c.shown_base_rest-in-VerbCall.ensures))
+    rw (c.in-VerbCall.is, row_items) (leaves_after c.args.room c.in_ok-selector_rest-in-VerbCall.field-0 (shown_base_length (constant_name (tree c.in-VerbCall.name.value)) (is_system_object (tree c.in-VerbCall.base.value)) (length_in_parentheses (is_compound_base (tree c.in-VerbCall.base.value)) (listed_length (tree c.in-VerbCall.base.value)))) _ c.shown_base_rest-in-VerbCall.result (omega (arith, rest.ensures.0, rest.ensures.1, rw (c.deref-in-VerbCall-2.ensures.value, c.deref-in-VerbCall.ensures) at c.in_ok-room-in-VerbCall.ensures, rw c.deref-in-VerbCall-5.ensures at c.in_ok-selector_rest-in-VerbCall.ensures)) (rw (c.deref-in-VerbCall-3.ensures, c.deref-in-VerbCall-4.ensures) at c.shown_base_rest-in-VerbCall.ensures))
 
 pub expression-returns-in_ok-checked_sub-in-Call : goal.expression-returns-in_ok-checked_sub-in-Call
 expression-returns-in_ok-checked_sub-in-Call t c =
     let name = c.in_ok-room-in-Call in
     let rest = c.in_ok-checked_sub-in-Call in
-    rw (c.in-Call.is, row_items) (leaves_behind c.args.room rest.field-0 (items_length (items_of c.in-Call.arguments.items)) _ c.items_rest-in-Call.result (omega (arith, c.len-in-Call.ensures.value, name.ensures.0, name.ensures.1, rest.ensures.0, rest.ensures.1)) (rw c.deref-in-Call.ensures.value at c.items_rest-in-Call.ensures))
+    rw (c.in-Call.is, row_items) (leaves_after c.args.room rest.field-0 (items_length (items_of c.in-Call.arguments.items)) _ c.items_rest-in-Call.result (omega (arith, c.len-in-Call.ensures.value, name.ensures.0, name.ensures.1, rest.ensures.0, rest.ensures.1)) (rw c.deref-in-Call.ensures.value at c.items_rest-in-Call.ensures))
 
 pub codes_rest-returns-in-Listed : goal.codes_rest-returns-in-Listed
 codes_rest-returns-in-Listed t c = rw (c.in-Listed.is, row_items) (rw c.deref.ensures.value at c.items_rest.ensures)

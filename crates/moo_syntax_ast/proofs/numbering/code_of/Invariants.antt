@@ -5,7 +5,7 @@ use Rattle.moo_syntax_ast.specs.NameNumber.{code_of}
 use Rattle.moo_syntax_ast.proofs.numbering.code_of.Given as goal
 
 abbrev pub invariant-loop-last : goal.invariant-loop-last
-invariant-loop-last l = (behind : List ℕ) × (l.name ≡ l.rest ++ behind) × (code_of (folded behind) ≡ Some l.code)
+invariant-loop-last l = (after : List ℕ) × (l.name ≡ l.rest ++ after) × (code_of (folded after) ≡ Some l.code)
 
 abbrev pub decreases-loop-last : goal.decreases-loop-last
 decreases-loop-last l = length l.rest

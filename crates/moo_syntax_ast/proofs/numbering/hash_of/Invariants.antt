@@ -5,7 +5,7 @@ use Rattle.moo_syntax_ast.specs.NameNumber.{hash_of}
 use Rattle.moo_syntax_ast.proofs.numbering.hash_of.Given as goal
 
 abbrev pub invariant-loop-last : goal.invariant-loop-last
-invariant-loop-last l = (behind : List ℕ) × (l.name ≡ l.rest ++ behind) × (hash_of (folded behind) ≡ l.hash)
+invariant-loop-last l = (after : List ℕ) × (l.name ≡ l.rest ++ after) × (hash_of (folded after) ≡ l.hash)
 
 abbrev pub decreases-loop-last : goal.decreases-loop-last
 decreases-loop-last l = length l.rest

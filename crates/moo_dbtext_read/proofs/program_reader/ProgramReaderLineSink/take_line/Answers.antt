@@ -3,19 +3,19 @@ use Rattle.std.proofs.lemmas.Result.{err_from_is_err_and}
 use Rattle.moo_dbtext_record.proofs.Sparing.{at_stops}
 use Rattle.moo_dbtext_read.proofs.Refused.{line_refused}
 use Rattle.moo_dbtext_read.proofs.Cases.{both_then, err_then, match_of}
-use Rattle.moo_dbtext_read.proofs.Behind.{behind_still, at_dot, behind_ended, source_refused}
+use Rattle.moo_dbtext_read.proofs.After.{after_still, at_dot, after_ended, source_refused}
 use Rattle.moo_dbtext_read.proofs.program_reader.ProgramReaderLineSink.take_line.Goals as goal
 
 pub returns-in-None : goal.returns-in-None
 returns-in-None c = λ bytes h.
-    behind_still c.args.self.now _ bytes c.args.line.now c.requires h c.in_ok-object.ensures.ok (c.in_ok-object.ensures.steps h.going) (sym c.in_ok-object.ensures.ended ∙ c.in-None.is) refl
+    after_still c.args.self.now _ bytes c.args.line.now c.requires h c.in_ok-object.ensures.ok (c.in_ok-object.ensures.steps h.going) (sym c.in_ok-object.ensures.ended ∙ c.in-None.is) refl
 
 pub returns-in-Some : goal.returns-in-Some
 returns-in-Some c = λ bytes h.
     let d = at_dot c.args.self.now.records c.take_line.new.records bytes c.args.line.now c.in-Some.object c.in-Some.verb c.requires h.at (c.in_ok-object.ensures.steps h.going) (sym c.in_ok-object.ensures.ended ∙ c.in-Some.is) in
     match_of c.keep.result _ _
     (both_then c.keep.result _ _ _ c.keep.ensures.there c.keep.ensures.others (λ there others.
-    behind_ended c.args.self.now c.keep.new.self bytes c.args.line.now c.in-Some.object c.in-Some.verb c.take_line.new.records h d (c.keep.ensures.going c.in_ok-object.ensures.ok) c.keep.ensures.alike (there _ d.had) others))
+    after_ended c.args.self.now c.keep.new.self bytes c.args.line.now c.in-Some.object c.in-Some.verb c.take_line.new.records h d (c.keep.ensures.going c.in_ok-object.ensures.ok) c.keep.ensures.alike (there _ d.had) others))
     (err_then c.keep.result _ _ c.keep.ensures.refused (λ e refused. source_refused c.args.self.now c.take_line.new.records bytes c.args.line.now c.in-Some.object c.in-Some.verb e h d refused))
 
 pub returns-in_err-object : goal.returns-in_err-object

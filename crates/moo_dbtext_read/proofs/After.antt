@@ -33,7 +33,7 @@ use Rattle.moo_dbtext_record.proofs.Sparing.{open_alike, reads_alike, alike_self
 use Rattle.moo_dbtext_read.specs.Says.{Programs, programs_of, HasSource, IsParsedAs, AreParsedAs, HasProgramsWithin}
 use Rattle.moo_dbtext_read.specs.Faults.{told_kind, source_kind_of, HasProgramAt, through_program}
 use Rattle.moo_dbtext_read.specs.declared.program_reader.ProgramReader.{ProgramReader}
-use Rattle.moo_dbtext_read.specs.Reading.{IsBehind, IsRefused, IsSourceRefused, ended_between, verb_at, sources_at}
+use Rattle.moo_dbtext_read.specs.Reading.{IsAfter, IsRefused, IsSourceRefused, ended_between, verb_at, sources_at}
 
 -- ---- the records
 
@@ -138,17 +138,17 @@ programmed_front t k m more =
     ap front (ap (λ (ls : List Line). players ++ (objects ++ (ls ++ more))) (sym (append-nil programs))
     ∙ ap (λ (ls : List Line). players ++ ls) (sym (append_assoc objects (programs ++ []) more)) ∙ sym (append_assoc players (objects ++ (programs ++ [])) more))
 
-dot_behind : (before source : List Line) (o v : ℕ) → through_program before o v source ≡ unlines (before ++ program_line o v ∷ source) ++ (codes "." ++ 10 ∷ [])
-dot_behind before source o v =
+dot_after : (before source : List Line) (o v : ℕ) → through_program before o v source ≡ unlines (before ++ program_line o v ∷ source) ++ (codes "." ++ 10 ∷ [])
+dot_after before source o v =
     ap unlines (sym (append_assoc before (program_line o v ∷ source) (codes "." ∷ []))) ∙ flat_map_push (λ (l : Line). l ++ 10 ∷ []) (before ++ program_line o v ∷ source) (codes ".")
 
 -- the program is there, and this is what had come before its dot
-pub record StandsBehind (bytes : List ℕ) (n o v : ℕ) (p : Progress) : Type 0 where
+pub record StandsAfter (bytes : List ℕ) (n o v : ℕ) (p : Progress) : Type 0 where
   pub place : HasProgramAt bytes n o v p.source
   pub same : place.reading.state.progress ≡ p
 
 pub program_stands : (s t : Taken) (bytes line : List ℕ) (h : Passes s bytes line t) (o v n : ℕ) → taken_on limited begin bytes ≡ Ok s → taken_on limited begin (bytes ++ line) ≡ Ok t → Ends s bytes line t h o v
-    → n ≡ t.lines - length s.progress.source - 1 → StandsBehind (bytes ++ line) n o v s.progress
+    → n ≡ t.lines - length s.progress.source - 1 → StandsAfter (bytes ++ line) n o v s.progress
 program_stands s t bytes line h o v n leads taken e number =
     let p = s.progress in
     let k = h.before.slack in
@@ -158,7 +158,7 @@ program_stands s t bytes line h o v n leads taken e number =
     ∙ ap (λ (i : ℕ). before ++ program_line i p.verb ∷ p.source) e.object ∙ ap (λ (i : ℕ). before ++ program_line o i ∷ p.source) e.verb in
     let same : bytes ++ line ≡ through_program before o v p.source =
     ap (λ (b : List ℕ). b ++ line) (h.before.whole ∙ ap (λ (ls : List Line). unlines ls ++ s.rest) read) ∙ ap (λ (b : List ℕ). (unlines lines ++ s.rest) ++ b) h.is ∙ append_assoc (unlines lines) s.rest (h.front ++ 10 ∷ [])
-    ∙ ap (λ (b : List ℕ). unlines lines ++ b) (sym (append_assoc s.rest h.front (10 ∷ []))) ∙ ap (λ (b : List ℕ). unlines lines ++ (b ++ 10 ∷ [])) e.dot ∙ sym (dot_behind before p.source o v) in
+    ∙ ap (λ (b : List ℕ). unlines lines ++ b) (sym (append_assoc s.rest h.front (10 ∷ []))) ∙ ap (λ (b : List ℕ). unlines lines ++ (b ++ 10 ∷ [])) e.dot ∙ sym (dot_after before p.source o v) in
     let there : entry_at t.progress.text.programs o v ≡ Some p.source =
     ap (λ (i : ℕ). entry_at t.progress.text.programs i v) (sym e.object) ∙ ap (λ (i : ℕ). entry_at t.progress.text.programs p.object i) (sym e.verb) ∙ e.ended.there in
     let count : s.lines ≡ length before + suc (length p.source) = h.before.count ∙ ap length read ∙ length-append before (program_line o v ∷ p.source) in
@@ -193,9 +193,9 @@ parsed_within t ps h o v s e = some_source (IsParsed Any) (entry_at ps o v) s (s
 stays_parsed : (old new : Taken) (ps : Programs) → SameSources old.progress new.progress → AreParsedAs old.progress.text.programs ps → AreParsedAs new.progress.text.programs ps
 stays_parsed old new ps same h o v = subst (λ (x : Option (List Line)). IsParsedAs x (entry_at ps o v)) (sym (same o v)) (h o v)
 
-pub behind_nothing : (r : ProgramReader) → IsGoing r.records → HasTaken r.records [] → r.programs.items ≡ [] → IsBehind r []
+pub after_nothing : (r : ProgramReader) → IsGoing r.records → HasTaken r.records [] → r.programs.items ≡ [] → IsAfter r []
 unfolding taken_on
-behind_nothing r going taken none = record {
+after_nothing r going taken none = record {
   going = going;
   at = record { state = begin; leads = refl; alike = subst (AreAlikeTaken begin) same (alike_self begin) };
   parsed = λ o v. subst (λ (ps : Programs). IsParsedAs (entry_at [] o v) (entry_at ps o v)) (sym (ap (map (λ row. row.items)) none)) tt;
@@ -205,8 +205,8 @@ behind_nothing r going taken none = record {
     same = let ok : Taken → Result Taken Told = λ x. Ok x in let e : ok begin ≡ ok (taken_of r.records) = taken_going r.records [] going taken in cc
 
 -- a piece that ends no source
-pub behind_part : (old new : ProgramReader) (bytes part : List ℕ) → HasNoEnd part → IsBehind old bytes → IsGoing new.records → taken_on limited (taken_of old.records) part ≡ Ok (taken_of new.records) → new.programs ≡ old.programs → IsBehind new (bytes ++ part)
-behind_part old new bytes part clean h on e kept =
+pub after_part : (old new : ProgramReader) (bytes part : List ℕ) → HasNoEnd part → IsAfter old bytes → IsGoing new.records → taken_on limited (taken_of old.records) part ≡ Ok (taken_of new.records) → new.programs ≡ old.programs → IsAfter new (bytes ++ part)
+after_part old new bytes part clean h on e kept =
     let at = at_on old.records new.records bytes part h.at e in
     let same = part_sources bytes part h.at.state at.state clean h.at.leads at.leads in
     record {
@@ -219,8 +219,8 @@ behind_part old new bytes part clean h on e kept =
 ended_alike : (s t l m : Progress) → AreAlike s l → AreAlike t m → ended_between (verb_read s.section s) (verb_read t.section t) ≡ ended_between (verb_read l.section l) (verb_read m.section m)
 ended_alike s t l m h k = ap (λ (x : Option (ℕ × ℕ)). ended_between x (verb_read t.section t)) (reads_alike s l h) ∙ ap (ended_between (verb_read l.section l)) (reads_alike t m k)
 
-pub behind_still : (old new : ProgramReader) (bytes line : List ℕ) → IsWholeLine line → IsBehind old bytes → IsGoing new.records → taken_on limited (taken_of old.records) line ≡ Ok (taken_of new.records) → ended_between (verb_at old.records) (verb_at new.records) ≡ None → new.programs ≡ old.programs → IsBehind new (bytes ++ line)
-behind_still old new bytes line whole h on e none kept =
+pub after_still : (old new : ProgramReader) (bytes line : List ℕ) → IsWholeLine line → IsAfter old bytes → IsGoing new.records → taken_on limited (taken_of old.records) line ≡ Ok (taken_of new.records) → ended_between (verb_at old.records) (verb_at new.records) ≡ None → new.programs ≡ old.programs → IsAfter new (bytes ++ line)
+after_still old new bytes line whole h on e none kept =
     let at = at_on old.records new.records bytes line h.at e in
     let s = h.at.state in
     let t = at.state in
@@ -288,10 +288,10 @@ at_dot old new bytes line o v whole before e some = record { after = after; pass
         (ap (λ (r : Line). r ++ p.front) (sym before.alike.rest) ∙ d.dot) past.step
         ∙ ap (λ (r : Progress). Some r.source) (sym before.alike.progress.rest)
 
-pub behind_ended : (old new : ProgramReader) (bytes line : List ℕ) (o v : ℕ) (middle : RecordReader) (h : IsBehind old bytes) (d : IsAtDot old.records middle bytes line h.at o v)
+pub after_ended : (old new : ProgramReader) (bytes line : List ℕ) (o v : ℕ) (middle : RecordReader) (h : IsAfter old bytes) (d : IsAtDot old.records middle bytes line h.at o v)
     → IsGoing new.records → AreAlikeTaken (taken_of middle) (taken_of new.records) → IsParsedAs (Some h.at.state.progress.source) (entry_at (programs_of new.programs) o v)
-    → ((i j : ℕ) → (i ≡ o → j ≡ v → ⊥) → entry_at (programs_of new.programs) i j ≡ entry_at (programs_of old.programs) i j) → IsBehind new (bytes ++ line)
-behind_ended old new bytes line o v middle h d on dropped there others = record {
+    → ((i j : ℕ) → (i ≡ o → j ≡ v → ⊥) → entry_at (programs_of new.programs) i j ≡ entry_at (programs_of old.programs) i j) → IsAfter new (bytes ++ line)
+after_ended old new bytes line o v middle h d on dropped there others = record {
   going = on;
   at = record { state = t; leads = d.after.leads; alike = alike_then t (taken_of middle) (taken_of new.records) d.after.alike dropped };
   parsed = λ i j. elim (same_or_apart i o j v) [
@@ -327,7 +327,7 @@ told_source bytes o v source e at k (Some x) told is blames place parsed = inr (
   is = record { source = source; place = place; blamed = record { kind = k; told = told; blames = blames }; parsed = parsed };
 }))
 
-pub source_refused : (r : ProgramReader) (new : RecordReader) (bytes line : List ℕ) (o v : ℕ) (e : DbFault) (h : IsBehind r bytes) → IsAtDot r.records new bytes line h.at o v
+pub source_refused : (r : ProgramReader) (new : RecordReader) (bytes line : List ℕ) (o v : ℕ) (e : DbFault) (h : IsAfter r bytes) → IsAtDot r.records new bytes line h.at o v
     → ((source : List Line) → entry_at (sources_at new) o v ≡ Some source → IsSourceRefused (taken_of new).lines o v source e) → IsRefused (bytes ++ line) (taken_on limited begin (bytes ++ line)) e
 source_refused r new bytes line o v e h d refused =
     let s = h.at.state in

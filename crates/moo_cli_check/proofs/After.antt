@@ -15,7 +15,7 @@ use Rattle.moo_dbtext_record.proofs.Standing.{taken_ends}
 use Rattle.moo_dbtext_record.proofs.Sparing.{reads_alike, alike_self, alike_then, at_on}
 use Rattle.moo_dbtext_read.specs.Faults.{told_kind}
 use Rattle.moo_dbtext_read.specs.Reading.{ended_between, verb_at}
-use Rattle.moo_dbtext_read.proofs.Behind.{taken_going, taken_between, part_sources, line_passes, still_sources, program_stands, IsAtDot}
+use Rattle.moo_dbtext_read.proofs.After.{taken_going, taken_between, part_sources, line_passes, still_sources, program_stands, IsAtDot}
 use Rattle.moo_cli_check.specs.Survey.{IsRefusedProgram, AreRefusedBetween, IsToldOf}
 use Rattle.moo_cli_check.specs.Reading.{IsAfter, IsNoted}
 use Rattle.moo_cli_check.specs.declared.survey.Survey.{Survey}
@@ -24,9 +24,9 @@ use Rattle.moo_cli_check.proofs.Noted.{known_kind, between_on, between_later, be
 abbrev IsProgram : List Line → Type 0
 IsProgram source = (b : Block) × IsParsed Any source b
 
-pub behind_nothing : (r : Survey) → IsGoing r.records → HasTaken r.records [] → r.faults.items ≡ [] → IsAfter r []
+pub after_nothing : (r : Survey) → IsGoing r.records → HasTaken r.records [] → r.faults.items ≡ [] → IsAfter r []
 unfolding taken_on
-behind_nothing r going taken none = record {
+after_nothing r going taken none = record {
   going = going;
   at = record { state = begin; leads = refl; alike = subst (AreAlikeTaken begin) same (alike_self begin) };
   refused = subst (λ (es : List DbFault). AreRefusedBetween [] 0 0 es) (sym none) (omega arith);
@@ -49,8 +49,8 @@ still old new bytes piece h on at le same kept =
       others = λ o v source e. subst (λ (l : List DbFault). IsToldOf o v l ⊎ IsProgram source) (sym es) (h.others o v source (sym (same o v) ∙ e));
     }
 
-pub behind_part : (old new : Survey) (bytes part : List ℕ) → HasNoEnd part → IsAfter old bytes → IsGoing new.records → taken_on limited (taken_of old.records) part ≡ Ok (taken_of new.records) → new.faults ≡ old.faults → IsAfter new (bytes ++ part)
-behind_part old new bytes part clean h on e kept =
+pub after_part : (old new : Survey) (bytes part : List ℕ) → HasNoEnd part → IsAfter old bytes → IsGoing new.records → taken_on limited (taken_of old.records) part ≡ Ok (taken_of new.records) → new.faults ≡ old.faults → IsAfter new (bytes ++ part)
+after_part old new bytes part clean h on e kept =
     let at = at_on old.records new.records bytes part h.at e in
     let same = part_sources bytes part h.at.state at.state clean h.at.leads at.leads in
     let more = taken_ends limited part h.at.state at.state (taken_between bytes part h.at.state at.state h.at.leads at.leads) in
@@ -59,8 +59,8 @@ behind_part old new bytes part clean h on e kept =
 ended_alike : (s t l m : Progress) → AreAlike s l → AreAlike t m → ended_between (verb_read s.section s) (verb_read t.section t) ≡ ended_between (verb_read l.section l) (verb_read m.section m)
 ended_alike s t l m h k = ap (λ (x : Option (ℕ × ℕ)). ended_between x (verb_read t.section t)) (reads_alike s l h) ∙ ap (ended_between (verb_read l.section l)) (reads_alike t m k)
 
-pub behind_still : (old new : Survey) (bytes line : List ℕ) → IsWholeLine line → IsAfter old bytes → IsGoing new.records → taken_on limited (taken_of old.records) line ≡ Ok (taken_of new.records) → ended_between (verb_at old.records) (verb_at new.records) ≡ None → new.faults ≡ old.faults → IsAfter new (bytes ++ line)
-behind_still old new bytes line whole h on e none kept =
+pub after_still : (old new : Survey) (bytes line : List ℕ) → IsWholeLine line → IsAfter old bytes → IsGoing new.records → taken_on limited (taken_of old.records) line ≡ Ok (taken_of new.records) → ended_between (verb_at old.records) (verb_at new.records) ≡ None → new.faults ≡ old.faults → IsAfter new (bytes ++ line)
+after_still old new bytes line whole h on e none kept =
     let at = at_on old.records new.records bytes line h.at e in
     let s = h.at.state in
     let t = at.state in
@@ -98,15 +98,15 @@ module _ (old new : Survey) (middle : RecordReader) (bytes line : List ℕ) (o v
     | inr apart ↦ grows i j x (h.others i j x (sym (d.ends.ended.others i j (λ a b. apart (a ∙ d.ends.object) (b ∙ d.ends.verb))) ∙ e))
   ]
 
-  pub behind_ended : IsGoing new.records → AreAlikeTaken (taken_of middle) (taken_of new.records) → IsNoted old.faults.items new.faults.items (taken_of middle).lines o v source → IsAfter new (bytes ++ line)
-  behind_ended on dropped (inl sound) = record {
+  pub after_ended : IsGoing new.records → AreAlikeTaken (taken_of middle) (taken_of new.records) → IsNoted old.faults.items new.faults.items (taken_of middle).lines o v source → IsAfter new (bytes ++ line)
+  after_ended on dropped (inl sound) = record {
     going = on;
     at = record { state = d.after.state; leads = d.after.leads; alike = alike_then d.after.state (taken_of middle) (taken_of new.records) d.after.alike dropped };
     refused = subst (λ (l : List DbFault). AreRefusedBetween (bytes ++ line) 0 d.after.state.lines l) (sym sound.0)
         (between_later (bytes ++ line) 0 h.at.state.lines d.after.state.lines old.faults.items (between_on bytes line 0 h.at.state.lines old.faults.items h.refused) (omega (arith, lines)));
     others = entries new.faults.items (λ i j x k. subst (λ (l : List DbFault). IsToldOf i j l ⊎ IsProgram x) (sym sound.0) k) (inr sound.1);
   }
-  behind_ended on dropped (inr noted) =
+  after_ended on dropped (inr noted) =
       let e = noted.0 in
       let fault = noted.3 in
       let stands = program_stands h.at.state d.after.state bytes line d.passes o v e.line h.at.leads d.after.leads d.ends (fault.line ∙ ap (λ (n : ℕ). n - length source - 1) (sym d.after.alike.lines)) in

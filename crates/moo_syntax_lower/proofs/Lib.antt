@@ -1,4 +1,5 @@
 pub mod Rows
 pub mod Items
+pub mod Constants
 pub mod StatementRows
 pub mod Statements

@@ -3,10 +3,12 @@ use Rattle.std.specs.Prelude.{List, [], ◌∷◌}
 use Rattle.moo_syntax_ast.specs.Tree
 use Rattle.moo_syntax_ast.specs.Tree.{Items}
 use Rattle.moo_syntax_ast.specs.declared.tree.Literal.TheVariants as literal
-use Rattle.moo_syntax_lower.specs.declared.node.Node.{Node, Integer, Object, Error, Str, Variable, Length, Unary', Binary', Arithmetic', Logic', Conditional', Index', Range', List', Property', VerbCall', Call', Assign', Catch', Row_of-NodeItem, end_of-NodeItem, more_of-NodeItem, None', Some'}
+use Rattle.moo_syntax_lower.specs.declared.node.Node.{Node, Integer, Object, Error, Str, Variable, Length, Unary', Binary', Arithmetic', Logic', Conditional', Index', Range', List', Constant, Property', VerbCall', Call', Assign', Catch', Row_of-NodeItem, end_of-NodeItem, more_of-NodeItem, None', Some'}
 use Rattle.moo_syntax_lower.specs.declared.node.NodeItem.{NodeItem, Element', Splice', Optional, Defaulted'}
 use Rattle.moo_syntax_lower.specs.declared.node.NodeCodes.{NodeCodes, Any, Known, Listed'}
+use Rattle.moo_syntax_lower.specs.Spelling.{spelled_items}
 use Rattle.moo_value.specs.declared.error_code.ErrorCode.{ErrorCode}
+use Rattle.moo_value.specs.Tree.{elements_of}
 
 -- the items that are these literal errors
 abbrev pub error_items : List ErrorCode → Items
@@ -30,6 +32,7 @@ abbrev mutual
   source (Index' p a q b) = Tree.index (source a) (source b)
   source (Range' p a q b r c) = Tree.range (source a) (source b) (source c)
   source (List' shape xs) = Tree.list (source_row xs)
+  source (Constant ts) = Tree.list (spelled_items (elements_of ts))
   source (Property' p a q b) = Tree.property (source a) (source b)
   source (VerbCall' p a q b r shape xs) = Tree.verb_call (source a) (source b) (source_row xs)
   source (Call' f shape xs) = Tree.call f (source_row xs)

@@ -2,8 +2,9 @@
 ghost use Rattle.std.specs.Prelude.{◌≡◌, IfOk};
 ghost use Rattle.moo_syntax_ast.specs.Tree as source_tree;
 ghost use Rattle.moo_syntax_ast.specs.View.{tree, items_of, codes_of};
-ghost use Rattle.moo_syntax_lower.specs.Source.{source};
+ghost use Rattle.moo_syntax_lower.specs.Source.{source, source_items};
 
+use crate::constant::constant_list;
 use crate::function_name::FunctionName;
 use crate::item::{lower_codes, lower_items};
 use crate::node::{Node, NodeItem};
@@ -36,7 +37,7 @@ pub(crate) fn lower_expression(alloc: Global, expr: &Expr) -> Result<Node, Alloc
         Expr::Conditional(test, a, b) => lower_conditional(alloc, test, a, b),
         Expr::Index(base, place) => lower_index(alloc, base, place),
         Expr::Range(base, low, high) => lower_range(alloc, base, low, high),
-        Expr::List(items) => Ok(Node::List(lower_items(alloc, items)?)),
+        Expr::List(items) => list_node(alloc, lower_items(alloc, items)?),
         Expr::Property(base, name) => lower_property(alloc, base, name),
         Expr::VerbCall(base, name, items) => lower_verb_call(alloc, base, name, items),
         Expr::Call(name, items) => lower_call(alloc, name, items),
@@ -63,6 +64,16 @@ fn lower_literal(literal: &Literal) -> Result<Node, AllocError>
         Literal::Object(number) => Ok(Node::Object(*number)),
         Literal::Error(error) => Ok(Node::Error(*error)),
         Literal::Str(text) => Ok(Node::Str(Text::new(text.string().try_clone()?))),
+    }
+}
+
+// Returns the node of a list with these items.
+fn list_node(alloc: Global, items: Vec<NodeItem>) -> Result<Node, AllocError>
+    ensures { IfOk result (λ node. source node ≡ source_tree.list (source_items items.items)) }
+{
+    match constant_list(alloc, &items)? {
+        Some(list) => Ok(Node::Constant(list)),
+        None => Ok(Node::List(items)),
     }
 }
 

@@ -4,6 +4,7 @@
 
 mod assignment;
 mod block;
+mod constant;
 mod expression;
 mod function_name;
 mod item;
@@ -11,6 +12,7 @@ mod node;
 mod statement;
 
 pub use block::lower_block;
+pub use constant::Constant;
 pub use function_name::FunctionName;
 pub use node::{Node, NodeCodes, NodeItem};
 pub use statement::{NodeArm, NodeHandler, NodeStmt};

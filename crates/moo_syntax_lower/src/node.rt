@@ -1,4 +1,5 @@
 //! The nodes of lowered expressions.
+use crate::constant::Constant;
 use crate::function_name::FunctionName;
 use moo_syntax_ast::operator::{BinaryOperator, LogicOperator, UnaryOperator};
 use moo_syntax_ast::{Name, Text};
@@ -30,6 +31,8 @@ pub enum Node {
     Range(Box<Node>, Box<Node>, Box<Node>),
     /// `{..}`
     List(Vec<NodeItem>),
+    /// `{..}` of literals and of such lists.
+    Constant(Constant),
     /// `a.(b)`; `a.n` is `a.("n")`.
     Property(Box<Node>, Box<Node>),
     /// `a:(b)(..)`; `a:n(..)` is `a:("n")(..)`.

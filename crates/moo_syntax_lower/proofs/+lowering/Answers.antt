@@ -14,7 +14,7 @@ expression::lower_expression-lower_items-requires t c =
 
 pub expression::lower_expression-returns-in_ok-lower_items-in-List : goal.expression::lower_expression-returns-in_ok-lower_items-in-List
 expression::lower_expression-returns-in_ok-lower_items-in-List t c =
-    rw (c.in-List.is, given.row_items, row_items, c.in_ok-lower_items-in-List.ensures, c.deref-in-List.ensures.value) refl
+    rw (c.in-List.is, given.row_items, ← c.deref-in-List.ensures.value, ← c.in_ok-lower_items-in-List.ensures) c.list_node.ensures
 
 pub expression::lower_expression-lower_verb_call-requires : goal.expression::lower_expression-lower_verb_call-requires
 expression::lower_expression-lower_verb_call-requires t c =

@@ -1,5 +1,6 @@
 //! The listener for browsers.
 ghost use Rattle.std.specs.Prelude.{◌≡◌, ◌≤◌, ◌+◌, ℕ, map, None, IfOk, IfSome, OnOk};
+ghost use Rattle.std.specs.declared.net.socket_addr.SocketAddr.{SocketAddr as SocketAddrModel};
 ghost use Rattle.slab.specs.Slab.{get, slab_len};
 ghost use Rattle.moo_cli_web_listener.specs.Callers.{Accepts, AreCallers, IsFirst, IsStepped, IsTimely, MakesRoom, Serves, Takes};
 ghost use Rattle.moo_cli_web_listener.specs.Names.{AllowsNames};
@@ -38,7 +39,7 @@ pub struct WebListener {
 }
 
 impl WebListener {
-    /// Listens for browsers on a port of an address. Port 0 takes any free one. Pages of this machine and of these further origins
+    /// Listens for browsers on a port of an address. Port 0 takes any free one. Pages of the address, of this machine and of these further origins
     /// may open a WebSocket. Fails if the address is not available, or if memory runs out.
     pub fn open<N: Net>(
         rt: &N,
@@ -49,12 +50,12 @@ impl WebListener {
         origins: &[&str],
     ) -> io::Result<WebListener>
         ensures callers { IfOk result (λ web. AreCallers web.allowed web.callers) }
-        ensures names { IfOk result (λ web. (port : ℕ) × AllowsNames port (map (λ origin. origin.now) origins.now) web.allowed) }
+        ensures names { IfOk result (λ web. (address : SocketAddrModel) × AllowsNames address (map (λ origin. origin.now) origins.now) web.allowed) }
     {
         let mut listener = TcpListener::bind(rt, SocketAddr::from((host, port)))?;
         registry.register(&mut listener, LISTENER, Interest::READABLE)?;
         let address = listener.local_addr()?;
-        let allowed = allowed_names(alloc, address.port(), origins)?;
+        let allowed = allowed_names(alloc, address, origins)?;
         Ok(WebListener {
             alloc,
             listener,

@@ -3,4 +3,4 @@ use Rattle.moo_cli_web_listener.specs.Names.{AllowsNames}
 use Rattle.moo_cli_web_listener.proofs.names.allowed_names.Given as goal
 
 abbrev pub invariant-loop-origin : goal.invariant-loop-origin
-invariant-loop-origin l = AllowsNames l.port (map (λ origin. origin.now) l.origins) l.allowed
+invariant-loop-origin l = AllowsNames l.fn.address (map (λ origin. origin.now) l.origins) l.allowed

@@ -94,8 +94,8 @@ class Page(Server):
 
     def __enter__(self):
         super().__enter__()
-        self.wait("printed", "listening on 127.0.0.1:PORT")
-        self.web = int(re.search(r"the page for browsers is http://127.0.0.1:(\d+)/\n", self.read("logged"))[1])
+        self.wait("printed", r"listening on \S+")
+        self.web = int(re.search(r"the page for browsers is http://[\d.]+:(\d+)/\n", self.read("logged"))[1])
         return self
 
 
@@ -119,6 +119,17 @@ def requests_are_answered(moo):
             same(repr(request[:80]), head[:13], b"HTTP/1.1 %d " % status)
             same("length", int(re.search(rb"Content-Length: (\d+)", head)[1]), len(body))
             same("upgrade", b"\nUpgrade: " in head, b"\nConnection: upgrade" in head)
+
+
+def the_address_of_the_server_is_a_host(moo):
+    """Pages of the address on which the server listens may connect. An address of all networks is no host."""
+    for host, status, other in [("127.0.0.2", 200, "127.0.0.3"), ("0.0.0.0", 403, "127.0.0.2")]:
+        with Page(moo, "--host", host) as server:
+            own = f"{host}:{server.web}"
+            same(own, respond(server.web, get("/", own), host=host)[:13], b"HTTP/1.1 %d " % status)
+            same(other, respond(server.web, get("/", f"{other}:{server.web}"), host=host)[:13], b"HTTP/1.1 403 ")
+            upgraded = respond(server.web, upgrade(own, f"http://{own}"), host=host, most=13)
+            same("WebSocket", upgraded, b"HTTP/1.1 %d " % (101 if status == 200 else status))
 
 
 def a_head_has_a_limit(moo):
@@ -377,6 +388,7 @@ def one_who_is_silent_is_pinged_and_then_hung_up(moo):
 CASES = [
     (the_page_is_served, ()),
     (requests_are_answered, ()),
+    (the_address_of_the_server_is_a_host, ()),
     (a_head_has_a_limit, ()),
     (a_handshake_and_frames_come_in_pieces_of_every_size, ()),
     (a_browser_plays, ()),

@@ -49,19 +49,19 @@ def frame(opcode, payload=b"", is_final=True, is_masked=True, reserved=0):
     return head + key + bytes(byte ^ key[at % 4] for at, byte in enumerate(payload))
 
 
-def respond(port, request, size=None):
-    """Returns the whole response to a request that is sent in pieces of this size, or at once."""
-    with socket.create_connection(("127.0.0.1", port), PATIENCE) as client:
+def respond(port, request, size=None, host="127.0.0.1", most=None):
+    """Returns the whole response to a request that is sent in pieces of this size, or at once: at most its first `most` bytes."""
+    with socket.create_connection((host, port), PATIENCE) as client:
         client.setsockopt(socket.IPPROTO_TCP, socket.TCP_NODELAY, 1)
         for at in range(0, len(request), size or len(request)):
             client.sendall(request[at : at + (size or len(request))])
         seen = b""
         try:
-            while data := client.recv(65536):
+            while (most is None or len(seen) < most) and (data := client.recv(65536)):
                 seen += data
         except ConnectionResetError:
             pass
-        return seen
+        return seen[:most]
 
 
 class WebSocket:

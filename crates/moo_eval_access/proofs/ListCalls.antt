@@ -1,11 +1,11 @@
 -- Lists that functions on lists make.
-use Rattle.std.proofs.Common.{◌≡◌, ℕ, ℤ, zero, suc, ◌≤◌, List, [], ◌∷◌, ◌++◌, length, Option, Some, None, Result, Ok, Err, refl, ap, sym, arith}
+use Rattle.std.proofs.Common.{◌≡◌, ℕ, ℤ, zero, suc, ◌+◌, ◌-◌, ◌≤◌, List, [], ◌∷◌, ◌++◌, length, Option, Some, None, Result, Ok, Err, refl, ap, sym, arith}
 use Rattle.std.specs.Prelude.{insert, remove, slice_set, position, is_some, IsTrue}
 use Rattle.moo_value.specs.declared.value.Value.{Value}
 use Rattle.moo_value.specs.Tree.{Tree, integer, list_of, elements_of, trees_of}
 use Rattle.moo_value.specs.TreeCode.{trees_of-elements_of}
 use Rattle.moo_value.specs.View.{tree}
-use Rattle.moo_value.specs.Size.{IsWithinLimits, total_weight, greatest_depth}
+use Rattle.moo_value.specs.Size.{IsWithinLimits, weight, total_weight, greatest_depth}
 use Rattle.moo_syntax_function.specs.declared.function.Function.{Function}
 use Rattle.moo_syntax_function.specs.declared.function.Function.TheVariants.{ListAppend, ListInsert, ListSet, ListDelete, SetAdd, SetRemove}
 use Rattle.moo_builtin_operator.specs.declared.fault.OperationFault.{OperationFault}
@@ -13,8 +13,8 @@ use Rattle.moo_builtin_operator.specs.declared.fault.OperationFault.TheVariants.
 use Rattle.moo_builtin_operator.specs.Truth.{equal}
 use Rattle.moo_builtin_operator.proofs.Lawful.{limited_within}
 use Rattle.moo_builtin_value.specs.Calls.{plain_answer, GivesSome}
-use Rattle.moo_builtin_value.specs.Lists.{with_member, without_found, set_at, delete_at, taken_out}
-use Rattle.moo_eval_access.specs.ListCall.{MakesList, appends, inserts, adds, sets, deletes, removes, HasList, HasPlace, Takes, value_of_call}
+use Rattle.moo_builtin_value.specs.Lists.{brought_to, put_in, with_member, without_found, set_at, delete_at, taken_out}
+use Rattle.moo_eval_access.specs.ListCall.{MakesList, appends, inserts, appends_at, inserts_at, adds, sets, deletes, removes, HasList, HasPlace, Takes, value_of_call}
 
 insert_last : (ts : List Tree) (t : Tree) → insert ts (length ts) t ≡ ts ++ t ∷ []
 insert_last [] t = refl
@@ -26,6 +26,28 @@ append_has ts t h = (list_of (ts ++ t ∷ []), appends (rw (trees_of-elements_of
 
 pub insert_has : (ts : List Tree) (t : Tree) → IsWithinLimits (list_of (t ∷ ts)) → HasList ListInsert (list_of ts ∷ t ∷ [])
 insert_has ts t h = (list_of (t ∷ ts), inserts (rw (trees_of-elements_of ts) (limited_within _ h)))
+
+-- a list with one more at a place
+insert_lighter : (ts : List Tree) (k : ℕ) (t : Tree) → total_weight (elements_of (insert ts k t)) ≤ weight t + total_weight (elements_of ts)
+insert_lighter [] zero t = omega arith
+insert_lighter [] (suc k) t = omega arith
+insert_lighter (u ∷ ts) zero t = omega arith
+insert_lighter (u ∷ ts) (suc k) t = omega (arith, insert_lighter ts k t)
+
+insert_shallower : (ts : List Tree) (k : ℕ) (t : Tree) → greatest_depth (elements_of (insert ts k t)) ≤ greatest_depth (elements_of (t ∷ ts))
+insert_shallower [] zero t = omega arith
+insert_shallower [] (suc k) t = omega arith
+insert_shallower (u ∷ ts) zero t = omega arith
+insert_shallower (u ∷ ts) (suc k) t = omega (arith, insert_shallower ts k t)
+
+placed_within : (ts : List Tree) (k : ℕ) (t : Tree) → IsWithinLimits (list_of (t ∷ ts)) → put_in ts k t ≡ Ok (list_of (insert ts k t))
+placed_within ts k t h = limited_within _ (record { weight = omega (arith, h.weight, insert_lighter ts k t); depth = omega (arith, h.depth, insert_shallower ts k t) })
+
+pub append_at_has : (ts : List Tree) (t : Tree) (i : ℤ) → IsWithinLimits (list_of (t ∷ ts)) → HasList ListAppend (list_of ts ∷ t ∷ integer i ∷ [])
+append_at_has ts t i h = let k = brought_to i (length ts) in (list_of (insert ts k t), appends_at (rw (trees_of-elements_of ts) (placed_within ts k t h)))
+
+pub insert_at_has : (ts : List Tree) (t : Tree) (i : ℤ) → IsWithinLimits (list_of (t ∷ ts)) → HasList ListInsert (list_of ts ∷ t ∷ integer i ∷ [])
+insert_at_has ts t i h = let k = brought_to i (length ts + 1) - 1 in (list_of (insert ts k t), inserts_at (rw (trees_of-elements_of ts) (placed_within ts k t h)))
 
 member_has : (ts : List Tree) (t : Tree) (found : Option ℕ) → IsWithinLimits (list_of (ts ++ t ∷ [])) → position (equal t) ts ≡ found → (w : Tree) × (with_member ts t ≡ Ok w)
 member_has ts t None h e = (list_of (ts ++ t ∷ []), rw (e, insert_last ts t) (limited_within _ h))
@@ -76,6 +98,8 @@ some_there (Some k) h = (k, refl)
 pub answer_is : {f : Function} {args : List Tree} {w : Tree} → MakesList f args w → plain_answer f 0 args ≡ Some (Ok w)
 answer_is (appends e) = ap Some e
 answer_is (inserts e) = ap Some e
+answer_is (appends_at e) = ap Some e
+answer_is (inserts_at e) = ap Some e
 answer_is (adds e) = ap Some e
 answer_is (sets e) = ap Some e
 answer_is (deletes e) = ap Some e

@@ -13,6 +13,8 @@ use Rattle.moo_builtin_value.specs.Lists.{list_append, list_insert, list_set, li
 pub data MakesList : Function → List Tree → Tree → Type 0 where
   appends : {es : Elements} {t w : Tree} → list_append (list es ∷ t ∷ []) ≡ Ok w → MakesList function.ListAppend (list es ∷ t ∷ []) w
   inserts : {es : Elements} {t w : Tree} → list_insert (list es ∷ t ∷ []) ≡ Ok w → MakesList function.ListInsert (list es ∷ t ∷ []) w
+  appends_at : {es : Elements} {t w : Tree} {i : ℤ} → list_append (list es ∷ t ∷ integer i ∷ []) ≡ Ok w → MakesList function.ListAppend (list es ∷ t ∷ integer i ∷ []) w
+  inserts_at : {es : Elements} {t w : Tree} {i : ℤ} → list_insert (list es ∷ t ∷ integer i ∷ []) ≡ Ok w → MakesList function.ListInsert (list es ∷ t ∷ integer i ∷ []) w
   adds : {es : Elements} {t w : Tree} → set_add (list es ∷ t ∷ []) ≡ Ok w → MakesList function.SetAdd (list es ∷ t ∷ []) w
   sets : {es : Elements} {t w : Tree} {i : ℤ} → list_set (list es ∷ t ∷ integer i ∷ []) ≡ Ok w → MakesList function.ListSet (list es ∷ t ∷ integer i ∷ []) w
   deletes : {es : Elements} {i : ℤ} {w : Tree} → list_delete (list es ∷ integer i ∷ []) ≡ Ok w → MakesList function.ListDelete (list es ∷ integer i ∷ []) w

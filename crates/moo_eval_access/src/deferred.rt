@@ -36,6 +36,7 @@ impl Deferred {
     }
 
     // Makes the value. A list that nothing else holds is changed in place. Err is out of memory.
+    #[inline(always)]
     fn into_value(self, alloc: Global) -> Result<Value, AllocError>
         ensures { IfOk result (λ made. tree made ≡ deferred_tree self) }
     {
@@ -134,6 +135,27 @@ pub fn set_deferred_at(
     ensures err { IfErr result (λ failure. HadMemoryIn failure → answers (with_index_of (tree container) (tree place) (deferred_tree value)) ≡ Err (failure_of failure)) }
     ensures kept { IfErr result (λ failure. HadMemoryIn failure → variables_of variables.new ≡ variables_of variables.old) }
 {
+    match value {
+        Deferred::Value(value) => set_at(alloc, variables, name, container, &place, value),
+        changed => set_changed_at(alloc, variables, name, container, place, changed),
+    }
+}
+
+// Sets a variable to the container with a changed list at the place. Not inlined, so that other values need no stack
+// space for it.
+#[inline(never)]
+fn set_changed_at(
+    alloc: Global,
+    variables: &mut Variables,
+    name: &Name,
+    container: Value,
+    place: Value,
+    value: Deferred,
+) -> Result<(), Failure>
+    ensures ok { OnOk result ((w : Tree) × (with_index_of (tree container) (tree place) (deferred_tree value) ≡ Ok w) × (variables_of variables.new ≡ with_variable (variables_of variables.old) (bind name.now w))) }
+    ensures err { IfErr result (λ failure. HadMemoryIn failure → answers (with_index_of (tree container) (tree place) (deferred_tree value)) ≡ Err (failure_of failure)) }
+    ensures kept { IfErr result (λ failure. HadMemoryIn failure → variables_of variables.new ≡ variables_of variables.old) }
+{
     if value.is_taken_at(&container, &place) {
         return replace_deferred_at(alloc, variables, name, container, place, value);
     }
@@ -161,6 +183,31 @@ fn replace_deferred_at(
 
 /// Sets a property whose name is a literal to the container with the value at the place, as `set_property_at` does.
 pub fn set_property_deferred_at(
+    alloc: Global,
+    world: &mut World,
+    programmer: i32,
+    base: &Value,
+    name: &Text,
+    container: Value,
+    place: Value,
+    value: Deferred,
+) -> Result<(), Failure>
+    ensures world { IsKnownFailure result → answers (write_result world.old programmer (tree base.now) (string name.now) (with_index_of (tree container) (tree place) (deferred_tree value))) ≡ seen_by (λ _. world.new) result }
+    ensures kept { IfErr result (λ failure. HadMemoryIn failure → world.new ≡ world.old) }
+{
+    match value {
+        Deferred::Value(value) => set_property_at(
+            alloc, world, programmer, base, name, container, &place, value,
+        ),
+        changed => set_changed_property_at(
+            alloc, world, programmer, base, name, container, place, changed,
+        ),
+    }
+}
+
+// Sets a property to the container with a changed list at the place. Not inlined, as `set_changed_at`.
+#[inline(never)]
+fn set_changed_property_at(
     alloc: Global,
     world: &mut World,
     programmer: i32,

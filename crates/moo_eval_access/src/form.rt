@@ -24,20 +24,32 @@ pub enum ListForm<'a> {
 }
 
 /// Returns the parts, if a node has one of these forms.
+#[inline(always)]
 pub fn list_form(node: &Node) -> Option<ListForm<'_>>
     ensures { IfSome result (λ form. source node.now ≡ form_source form) }
 {
-    if let Some((called, items)) = as_list_call(node) {
-        return Some(ListForm::Called(called, items));
+    match node {
+        Node::List(items) => items_form(items),
+        Node::Call(called, items) if makes_list(called) => Some(ListForm::Called(called, items)),
+        _ => None,
     }
-    if let Some((list, last)) = as_appended(node) {
-        return Some(ListForm::Appended(list, last));
+}
+
+// Returns the parts of a list with these items, if it has one of these forms.
+#[inline(always)]
+fn items_form(items: &[NodeItem]) -> Option<ListForm<'_>>
+    ensures { IfSome result (λ form. list (source_items items.now) ≡ form_source form) }
+{
+    match items {
+        [NodeItem::Splice(list), NodeItem::Element(last)] => Some(ListForm::Appended(list, last)),
+        [NodeItem::Element(first), NodeItem::Splice(list)] => {
+            Some(ListForm::Prepended(first, list))
+        }
+        [NodeItem::Splice(list), more @ ..] if !more.is_empty() && !is_repeated(list, more) => {
+            Some(ListForm::Extended(list, more))
+        }
+        _ => None,
     }
-    if let Some((first, list)) = as_prepended(node) {
-        return Some(ListForm::Prepended(first, list));
-    }
-    let (list, more) = as_extended(node)?;
-    Some(ListForm::Extended(list, more))
 }
 
 /// Is true for an expression of a `ListForm`, and for a conditional expression one of whose two results is one. Picks
@@ -64,21 +76,6 @@ fn has_splice_at_end(items: &[NodeItem]) -> bool {
         [_, NodeItem::Splice(_)] => true,
         _ => false,
     }
-}
-
-// Returns the list and the other items, if a node is a list that begins with a splice. `None` for `{@x, @x, ..}`.
-fn as_extended(node: &Node) -> Option<(&Node, &[NodeItem])>
-    ensures { IfSome result (λ p. source node.now ≡ list (splice (source p.0.now) (source_items p.1.now))) }
-{
-    let Node::List(items) = node else {
-        return None;
-    };
-    let (first, more) = items.split_first()?;
-    let list = as_splice(first)?;
-    if more.is_empty() || is_repeated(list, more) {
-        return None;
-    }
-    Some((list, more))
 }
 
 // Returns whether the node is a variable, and the first item is a splice of it.
@@ -112,52 +109,8 @@ pub fn as_text(node: &Node) -> Option<&Text>
 pub fn as_appended(node: &Node) -> Option<(&Node, &Node)>
     ensures { IfSome result (λ p. source node.now ≡ list (splice (source p.0.now) (element (source p.1.now) no_items))) }
 {
-    let Node::List(items) = node else {
-        return None;
-    };
-    let (first, last) = two_items(items)?;
-    let list = as_splice(first)?;
-    let last = as_element(last)?;
-    Some((list, last))
-}
-
-// Returns the parts of `{first, @list}`, or `None` for a node of another form.
-#[inline(always)]
-fn as_prepended(node: &Node) -> Option<(&Node, &Node)>
-    ensures { IfSome result (λ p. source node.now ≡ list (element (source p.0.now) (splice (source p.1.now) no_items))) }
-{
-    let Node::List(items) = node else {
-        return None;
-    };
-    let (item, rest) = two_items(items)?;
-    let first = as_element(item)?;
-    let list = as_splice(rest)?;
-    Some((first, list))
-}
-
-fn two_items(items: &[NodeItem]) -> Option<(&NodeItem, &NodeItem)>
-    ensures { IfSome result (λ p. items.now ≡ p.0.now ∷ p.1.now ∷ []) }
-{
-    match items {
-        [first, second] => Some((first, second)),
-        _ => None,
-    }
-}
-
-fn as_splice(item: &NodeItem) -> Option<&Node>
-    ensures { IfSome result (λ e. (rest : Items) → with_source item.now rest ≡ splice (source e.now) rest) }
-{
-    match item {
-        NodeItem::Splice(node) => Some(node),
-        _ => None,
-    }
-}
-
-fn as_element(item: &NodeItem) -> Option<&Node>
-    ensures { IfSome result (λ e. (rest : Items) → with_source item.now rest ≡ element (source e.now) rest) }
-{
-    match item {
-        NodeItem::Element(node) => Some(node),
+    match list_form(node)? {
+        ListForm::Appended(list, last) => Some((list, last)),
         _ => None,
     }
 }
@@ -171,16 +124,6 @@ pub fn as_set_property(node: &Node) -> Option<(&Node, &Node, &Node)>
     };
     let (base, name) = as_property(target)?;
     Some((base, name, value))
-}
-
-// Returns the function and its arguments, if a node is a call of a built-in function that makes a list of a list.
-fn as_list_call(node: &Node) -> Option<(&FunctionName, &[NodeItem])>
-    ensures { IfSome result (λ p. source node.now ≡ call p.0.now (source_items p.1.now)) }
-{
-    match node {
-        Node::Call(called, items) if makes_list(called) => Some((called, items)),
-        _ => None,
-    }
 }
 
 // Is true for the functions that make a list of their first argument, with an element more, less or replaced.

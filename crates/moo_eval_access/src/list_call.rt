@@ -107,14 +107,14 @@ fn out_of_memory(fault: OperationFault) -> AllocError
 }
 
 // Is true only if a function makes a list of its first argument, with an element more, less or replaced, and raises no
-// error. False for other functions, and for `listappend` and `listinsert` with a place.
+// error. False for other functions.
 fn has_list(function: Function, args: &[Value]) -> bool
     ensures { IsTrue result → HasList function (trees args.now) }
 {
     match args {
         [Value::List(list), value] => has_list_of(function, list, value),
         [Value::List(list), value, Value::Int(place)] => {
-            has_list_set(function, list, value, *place)
+            has_list_at(function, list, value, *place)
         }
         _ => false,
     }
@@ -134,11 +134,13 @@ fn has_list_of(function: Function, list: &MooList, value: &Value) -> bool
     }
 }
 
-// Is true if the function is `listset` and the list takes the value at the place.
-fn has_list_set(function: Function, list: &MooList, value: &Value, place: i32) -> bool
+// Is true if the function is one with a place, and the list takes the value there.
+fn has_list_at(function: Function, list: &MooList, value: &Value, place: i32) -> bool
     ensures { IsTrue result → HasList function (list_of list.now ∷ tree value.now ∷ integer place ∷ []) }
 {
     match function {
+        Function::ListAppend => has_room_for(list, value),
+        Function::ListInsert => has_room_for(list, value),
         Function::ListSet => takes(list, place, value),
         _ => false,
     }

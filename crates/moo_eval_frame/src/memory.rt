@@ -9,7 +9,7 @@ use moo_value::{ListLimit, MooList, Value};
 use std::alloc::Global;
 
 /// Holds the memory of a frame that has ended: of its slots, and of the list of its arguments if nothing else shared
-/// that list.
+/// that list. The elements of that list have memory of their own.
 #[derive(Drop)]
 pub struct FrameMemory {
     slots: Vec<Option<Value>>,
@@ -26,25 +26,18 @@ impl FrameMemory {
         }
     }
 
-    /// Returns the memory of these slots, and of `args` if it is a list that nothing else shares. The values that they
-    /// hold are dropped.
+    /// Returns the memory of these slots and of `args`, and the elements of `args` if it is a list that nothing else shares.
+    /// The values of the slots are dropped.
     #[inline(always)]
-    pub(crate) fn of(slots: Vec<Option<Value>>, args: Value) -> FrameMemory {
+    pub(crate) fn of(
+        alloc: Global,
+        slots: Vec<Option<Value>>,
+        args: Value,
+    ) -> (FrameMemory, Vec<Value>) {
         let mut slots = slots;
         slots.clear();
-        FrameMemory {
-            slots,
-            args: emptied(args),
-        }
-    }
-
-    /// Takes out the memory of the list of arguments, as a vector without values.
-    #[inline(always)]
-    pub fn take_values(&mut self, alloc: Global) -> Vec<Value> {
-        match &mut self.args {
-            Some(list) => list.take_elements(alloc),
-            None => Vec::new(alloc),
-        }
+        let (args, elements) = taken_apart(alloc, args);
+        (FrameMemory { slots, args }, elements)
     }
 
     /// Makes the list of these values, as `MooList::try_from_vec` does. It uses the memory of the list of arguments, if
@@ -68,11 +61,19 @@ impl FrameMemory {
     }
 }
 
-// Removes the elements of a list and returns it, if nothing else shares it. Returns `None` for other values.
+// Returns the memory of a list and its elements, if nothing else shares them. Returns no memory for other values.
 #[inline(always)]
-fn emptied(value: Value) -> Option<MooList> {
+fn taken_apart(alloc: Global, value: Value) -> (Option<MooList>, Vec<Value>) {
     match value {
-        Value::List(list) => list.emptied(),
-        _ => None,
+        Value::List(list) => {
+            let mut list = list;
+            let elements = list.take_elements(alloc);
+            if list.is_empty() {
+                (Some(list), elements)
+            } else {
+                (None, elements)
+            }
+        }
+        _ => (None, Vec::new(alloc)),
     }
 }

@@ -63,10 +63,11 @@ impl Variables {
         })
     }
 
-    /// Drops the values, and returns the memory of the slots and of the arguments.
+    /// Drops the values, and returns the memory of the slots and of the arguments. The elements of `args` are returned too, if
+    /// nothing else shares them.
     #[inline(always)]
-    pub fn into_memory(self) -> FrameMemory {
-        FrameMemory::of(self.own.into_values(), self.given.into_args())
+    pub fn into_memory(self, alloc: Global) -> (FrameMemory, Vec<Value>) {
+        FrameMemory::of(alloc, self.own.into_values(), self.given.into_args())
     }
 
     /// Returns the values of the names that every frame has, for a verb that this frame calls. The variables of the

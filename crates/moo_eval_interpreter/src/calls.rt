@@ -210,7 +210,8 @@ fn run_called(
     };
     let statements = callee.running.program.code();
     let outcome = run_all(task, world, &mut running, &callee, statements);
-    task.spare.keep(running.variables.into_memory());
+    let (memory, arguments) = running.variables.into_memory(task.alloc());
+    task.spare.keep(memory, arguments);
     answered(outcome)
 }
 

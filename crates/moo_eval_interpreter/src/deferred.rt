@@ -138,7 +138,7 @@ fn defer_appended(
 
 // Computes the parts of `{first, @spliced}`.
 #[cycle(evaluation)]
-#[inline(never)]
+#[inline(always)]
 fn defer_prepended(
     task: &mut Task,
     world: &mut World,
@@ -164,7 +164,7 @@ fn defer_prepended(
 
 // Computes the parts of `{@spliced, ..}`.
 #[cycle(evaluation)]
-#[inline(never)]
+#[inline(always)]
 fn defer_extended(
     task: &mut Task,
     world: &mut World,

@@ -109,6 +109,7 @@ pub(crate) fn compute(
             range(task, world, active, stack, indexed, base, low, high)
         }
         Node::List(items) => list(task, world, active, stack, indexed, items),
+        Node::Constant(list) => task.constant(active, stack, list),
         Node::Property(base, name) => match as_text(name) {
             Some(name) => written_property(task, world, active, stack, indexed, base, name),
             None => computed_property(task, world, active, stack, indexed, base, name),

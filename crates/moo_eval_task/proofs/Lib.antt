@@ -3,6 +3,7 @@ pub mod Exits
 pub mod Hooking
 pub mod Dealt
 pub mod Direct
+pub mod Constants
 pub mod Extended
 pub mod Lengthened
 pub mod ElementLengthened

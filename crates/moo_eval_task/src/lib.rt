@@ -8,6 +8,7 @@ mod assignment;
 mod calls;
 mod catching;
 mod conditions;
+mod constant;
 mod element;
 mod extension;
 mod hooks;

@@ -19,8 +19,8 @@ use moo_syntax_lower::{FunctionName, Node, NodeItem};
 use moo_value::Value;
 
 impl Task {
-    /// Evaluates at once an operator of arithmetic, an element as `try_element` does, or the length or the type of a
-    /// variable. Takes its ticks. `None` if that can't be, or for another node; then nothing has changed.
+    /// Evaluates at once an operator of arithmetic, an element as `try_element` does, a list of literals, or the length or
+    /// the type of a variable. Takes its ticks. `None` if that can't be, or for another node; then nothing has changed.
     #[inline(always)]
     pub fn try_node(&mut self, active: &Activation, node: &Node) -> Option<Value>
         ensures some { IfSome result (λ v. (w : WorldModel) (c : Context) → Evaluates Faults c (source node.now) (state_of self.old w active.now) (Ok (tree v)) (state_of self.new w active.now)) }
@@ -33,6 +33,7 @@ impl Task {
                 Some(Value::Int(number))
             }
             Node::Index(base, place) => self.try_element(active, base, place),
+            Node::Constant(list) => self.try_constant(list),
             Node::Call(name, items) => {
                 let number = self.try_call(active, name, items)?;
                 Some(Value::Int(number))

@@ -36,12 +36,11 @@ impl SpareMemory {
         }
     }
 
-    /// Keeps the memory of a frame, or drops it if enough is kept. The memory of the values of its arguments is kept
-    /// apart, since the next call takes that before the memory of its frame.
+    /// Keeps the memory of a frame, or drops it if enough is kept. The memory of its arguments is kept apart, since the next
+    /// call takes that before the memory of its frame. The arguments are dropped.
     #[inline(always)]
-    pub fn keep(&mut self, memory: FrameMemory) {
-        let mut memory = memory;
-        self.keep_values(memory.take_values(self.alloc));
+    pub fn keep(&mut self, memory: FrameMemory, arguments: Vec<Value>) {
+        self.keep_values(arguments);
         if self.frames.len() >= MOST_FRAMES {
             return;
         }

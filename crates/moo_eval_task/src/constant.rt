@@ -1,0 +1,65 @@
+//! Evaluates lists of literals.
+ghost use Rattle.std.specs.Prelude.{◌≡◌, ◌≤◌, ◌-◌, Option, Ok, IfSome, IfNone};
+ghost use Rattle.std.specs.Borrow.{Bor};
+ghost use Rattle.moo_value.specs.Tree.{elements_of, list_of};
+ghost use Rattle.moo_value.specs.View.{tree};
+ghost use Rattle.moo_value.specs.declared.value.Value.{Value as ValueModel};
+ghost use Rattle.moo_syntax_ast.specs.Tree.{list};
+ghost use Rattle.moo_syntax_lower.specs.Spelling.{spelled, spelled_items};
+ghost use Rattle.moo_world_table.specs.World.{World};
+ghost use Rattle.moo_builtin.specs.Telling.{Faults};
+ghost use Rattle.moo_eval_frame.specs.State.{Context};
+ghost use Rattle.moo_eval_frame.specs.declared.frame.Activation.{Activation};
+ghost use Rattle.moo_eval_frame.specs.Seen.{context_of, seen_answer, IsKnownFailure};
+ghost use Rattle.moo_eval_semantics.specs.Meaning.{Computes, Evaluates};
+ghost use Rattle.moo_eval_task.specs.Seen.{state_of};
+
+use crate::task::Task;
+use moo_eval_frame::{Activation, CallStack, Failure};
+use moo_syntax_lower::Constant;
+use moo_value::{MooList, Value};
+
+impl Task {
+    /// Returns a list of literals, and takes its ticks: one for the list and one for each literal in it. `None` if ticks or
+    /// memory are missing; then nothing has changed.
+    #[inline(always)]
+    pub(crate) fn try_constant(&mut self, list: &Constant) -> Option<Value>
+        ensures some { IfSome result (λ v. (w : World) (active : Activation) (c : Context) → Evaluates Faults c (spelled (list_of list.now)) (state_of self.old w active) (Ok (tree v)) (state_of self.new w active)) }
+        ensures none { IfNone result (self.new ≡ self.old) }
+        ensures ticks { self.new.ticks_left ≤ self.old.ticks_left }
+    {
+        let left = self.ticks_left.left() as u32;
+        if (left as usize) < list.nodes() {
+            return None;
+        }
+        let value = copied(list.list())?;
+        self.ticks_left.leave(left - list.nodes() as u32);
+        Some(value)
+    }
+
+    /// Returns a list of literals, whose own tick was taken. Takes those of the literals; if fewer are left, it takes those and
+    /// returns the end of the task.
+    #[inline(never)]
+    pub fn constant(
+        &mut self,
+        active: &Activation,
+        stack: &CallStack<'_>,
+        list: &Constant,
+    ) -> Result<Value, Failure>
+        ensures meaning { (indexed : Option (Bor ValueModel)) (w : World) → IsKnownFailure result → Computes Faults (context_of stack.now indexed) (list (spelled_items (elements_of list.now))) (state_of self.old w active.now) (seen_answer result) (state_of self.new w active.now) }
+        ensures ticks { self.new.ticks_left ≤ self.old.ticks_left }
+    {
+        self.take_ticks(active, stack, list.nodes() - 1)?;
+        Ok(Value::List(list.list().try_clone()?))
+    }
+}
+
+#[inline(always)]
+fn copied(list: &MooList) -> Option<Value>
+    ensures { IfSome result (λ copy. tree copy ≡ list_of list.now) }
+{
+    match list.try_clone() {
+        Ok(copy) => Some(Value::List(copy)),
+        Err(_) => None,
+    }
+}

@@ -68,10 +68,10 @@ fn taken_apart(alloc: Global, value: Value) -> (Option<MooList>, Vec<Value>) {
         Value::List(list) => {
             let mut list = list;
             let elements = list.take_elements(alloc);
-            if list.is_empty() {
-                (Some(list), elements)
+            if elements.is_empty() {
+                (list.emptied(), elements)
             } else {
-                (None, elements)
+                (Some(list), elements)
             }
         }
         _ => (None, Vec::new(alloc)),

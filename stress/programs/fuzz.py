@@ -33,6 +33,7 @@ VERBS = {
     "g": "return args;",
     "h": "a = 1; {?x = 3, @r} = args; this.p = this.p; if (x) return {x, @r}; endif",
     "mild": 'x = {@args, 1 / 0}; x[1] = x[$] + nosuch; s = "ab"; s = s + "c"; s[1] = "x"; return {x, s};',
+    "fresh": 'l = {1, {2, {3}}, "ab"}; l[1] = args; l[2][2][1] = length(l[3]); l[3][1] = "x"; return {@l, {4, "c"}, typeof({})};',
     "deep": "return length(callers()) < 45 ? `this:deep(@args) ! E_TYPE' | this:f(@args);",
 }
 PROPERTIES = {"p": "1", "q": "{1, 2, 3}", "r_long_property_name": '"abcdef"'}

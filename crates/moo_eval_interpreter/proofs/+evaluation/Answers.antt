@@ -1105,6 +1105,10 @@ pub nodes::compute-returns-in-List-clause-meaning : goal.nodes::compute-returns-
 nodes::compute-returns-in-List-clause-meaning t c =
     λ k. rw (c.in-List.is, row_items, ← c.deref-in-List.ensures.value) (c.list.ensures.meaning k)
 
+pub nodes::compute-returns-in-Constant-clause-meaning : goal.nodes::compute-returns-in-Constant-clause-meaning
+nodes::compute-returns-in-Constant-clause-meaning t c =
+    λ k. rw c.in-Constant.is (c.constant.ensures.meaning c.args.indexed c.args.world.now k)
+
 pub nodes::compute-returns-in-VerbCall-clause-meaning : goal.nodes::compute-returns-in-VerbCall-clause-meaning
 nodes::compute-returns-in-VerbCall-clause-meaning t c =
     λ k. rw (c.in-VerbCall.is, row_items, ← c.deref-in-VerbCall.ensures, ← c.deref-in-VerbCall-2.ensures, ← c.deref-in-VerbCall-3.ensures, ← c.deref-in-VerbCall-4.ensures.value) (c.verb_call.ensures.meaning k)

@@ -1,9 +1,10 @@
 -- The meaning of the program's targets.
 use Rattle.std.specs.Prelude.{List, [], ◌∷◌, map, reverse}
-use Rattle.moo_value.specs.Tree.{Tree}
+use Rattle.moo_value.specs.Tree.{Tree, elements_of}
 use Rattle.moo_value.specs.View.{tree}
 use Rattle.moo_syntax_ast.specs.Tree.{Items, no_items, element}
 use Rattle.moo_syntax_lower.specs.Source.{source, source_items}
+use Rattle.moo_syntax_lower.specs.Spelling.{spelled_items}
 use Rattle.moo_eval_access.specs.declared.target.Root as code_root
 use Rattle.moo_eval_access.specs.declared.target.Root.TheVariants as root_case
 use Rattle.moo_eval_access.specs.declared.target.Places.{Places}
@@ -18,6 +19,7 @@ abbrev pub root_seen : code_root.Root → Root
 root_seen (root_case.Variable x) = named x.now
 root_seen (root_case.Property base name) = owned (tree base) (tree name)
 root_seen (root_case.Scatter items) = scattered (source_items items.now)
+root_seen (root_case.Literals list) = scattered (spelled_items (elements_of list.now))
 
 abbrev pub places_of : Places → List Tree
 places_of (places_case.Element place) = tree place ∷ []

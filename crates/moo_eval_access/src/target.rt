@@ -20,7 +20,7 @@ use moo_builtin_operator as operation;
 use moo_builtin_operator::OperationFault;
 use moo_eval_frame::{Activation, Failure, Variables, read_variable};
 use moo_syntax_ast::Name;
-use moo_syntax_lower::{Node, NodeItem};
+use moo_syntax_lower::{Constant, Node, NodeItem};
 use moo_value::{ErrorCode, Value};
 use moo_world::World;
 use std::alloc::{AllocError, Global};
@@ -46,6 +46,8 @@ pub enum Root<'a> {
     /// A property, by the values of its base and of its name.
     Property(Value, Value),
     Scatter(&'a [NodeItem]),
+    /// A list of literals. No program has one before `=`.
+    Literals(&'a Constant),
 }
 
 /// Holds the place of an element in a container, or the first and the last place of a part.
@@ -112,6 +114,7 @@ pub fn root_alone(root: &Node) -> Result<Root<'_>, Failure>
     match root {
         Node::Variable(name) => Ok(Root::Variable(name)),
         Node::List(items) => Ok(Root::Scatter(items)),
+        Node::Constant(list) => Ok(Root::Literals(list)),
         _ => Err(Failure::Fails(ErrorCode::TypeMismatch)),
     }
 }
@@ -125,7 +128,7 @@ impl<'a> Root<'a> {
             Root::Property(base, name) => {
                 read_property(alloc, world, active.programmer, base, name)
             }
-            Root::Scatter(_) => Err(Failure::Fails(ErrorCode::TypeMismatch)),
+            Root::Scatter(_) | Root::Literals(_) => Err(Failure::Fails(ErrorCode::TypeMismatch)),
         }
     }
 }

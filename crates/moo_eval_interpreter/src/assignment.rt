@@ -228,5 +228,6 @@ fn store(
             let whole = rebuilt(task.alloc(), steps, value)?;
             scatter(task, world, active, stack, indexed, items, &whole)
         }
+        Root::Literals(list) => task.store_literals(list, steps, value),
     }
 }

@@ -4,6 +4,7 @@ pub mod Hooking
 pub mod Dealt
 pub mod Direct
 pub mod Constants
+pub mod DealtLiterals
 pub mod Extended
 pub mod Lengthened
 pub mod ElementLengthened

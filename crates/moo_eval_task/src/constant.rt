@@ -10,14 +10,18 @@ ghost use Rattle.moo_world_table.specs.World.{World};
 ghost use Rattle.moo_builtin.specs.Telling.{Faults};
 ghost use Rattle.moo_eval_frame.specs.State.{Context};
 ghost use Rattle.moo_eval_frame.specs.declared.frame.Activation.{Activation};
-ghost use Rattle.moo_eval_frame.specs.Seen.{context_of, seen_answer, IsKnownFailure};
-ghost use Rattle.moo_eval_semantics.specs.Meaning.{Computes, Evaluates};
+ghost use Rattle.moo_eval_frame.specs.Seen.{context_of, seen_answer, seen_done, IsKnownFailure};
+ghost use Rattle.moo_eval_semantics.specs.Meaning.{Computes, Evaluates, Puts, Stores};
+ghost use Rattle.moo_eval_access.specs.State.{State};
+ghost use Rattle.moo_eval_access.specs.Target.{scattered};
+ghost use Rattle.moo_eval_access.specs.SeenTarget.{steps_of};
 ghost use Rattle.moo_eval_task.specs.Seen.{state_of};
 
 use crate::task::Task;
+use moo_eval_access::{Step, rebuilt};
 use moo_eval_frame::{Activation, CallStack, Failure};
 use moo_syntax_lower::Constant;
-use moo_value::{MooList, Value};
+use moo_value::{ErrorCode, MooList, Value};
 
 impl Task {
     /// Returns a list of literals, and takes its ticks: one for the list and one for each literal in it. `None` if ticks or
@@ -37,6 +41,21 @@ impl Task {
         Some(value)
     }
 
+    /// Assigns a value to a list of literals at the root of these steps, which no program does. Fails as `rebuilt`; then E_TYPE
+    /// for a value that is no list, E_ARGS for a wrong number of elements. Nothing is set.
+    #[inline(never)]
+    pub fn store_literals(
+        &self,
+        literals: &Constant,
+        steps: Vec<Step>,
+        value: Value,
+    ) -> Result<(), Failure>
+        ensures { (c : Context) (s : State) → IsKnownFailure result → Stores Faults c (scattered (spelled_items (elements_of literals.now))) (steps_of steps.items) (tree value) s (seen_done result) s }
+    {
+        let whole = rebuilt(self.alloc(), steps, value)?;
+        deal(literals.list(), &whole)
+    }
+
     /// Returns a list of literals, whose own tick was taken. Takes those of the literals; if fewer are left, it takes those and
     /// returns the end of the task.
     #[inline(never)]
@@ -52,6 +71,20 @@ impl Task {
         self.take_ticks(active, stack, list.nodes() - 1)?;
         Ok(Value::List(list.list().try_clone()?))
     }
+}
+
+// Deals the elements of a list to literals, so nothing is set: E_TYPE for a value that is no list, E_ARGS for a wrong
+// number of elements.
+fn deal(literals: &MooList, value: &Value) -> Result<(), Failure>
+    ensures { (c : Context) (s : State) → IsKnownFailure result → Puts Faults c (scattered (spelled_items (elements_of literals.now))) (tree value.now) s (seen_done result) s }
+{
+    let Value::List(list) = value else {
+        return Err(Failure::Fails(ErrorCode::TypeMismatch));
+    };
+    if list.len() != literals.len() {
+        return Err(Failure::Fails(ErrorCode::Arguments));
+    }
+    Ok(())
 }
 
 #[inline(always)]

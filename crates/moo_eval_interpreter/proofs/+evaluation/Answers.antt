@@ -569,6 +569,10 @@ pub assignment::store-returns-in-Property-clause-meaning : goal.assignment::stor
 assignment::store-returns-in-Property-clause-meaning t c =
     λ k. rw c.in-Property.is (rw c.in_ok-value.ensures.value at (c.store_property.ensures (context_of c.args.stack.now c.args.indexed) k))
 
+pub assignment::store-returns-in-Literals-clause-meaning : goal.assignment::store-returns-in-Literals-clause-meaning
+assignment::store-returns-in-Literals-clause-meaning t c =
+    λ k. rw c.in-Literals.is (rw c.in_ok-value.ensures.value at (c.store_literals.ensures (context_of c.args.stack.now c.args.indexed) _ k))
+
 pub assignment::store-returns-in_ok-whole-in-Scatter-clause-meaning : goal.assignment::store-returns-in_ok-whole-in-Scatter-clause-meaning
 assignment::store-returns-in_ok-whole-in-Scatter-clause-meaning t c =
     λ k. rw c.in-Scatter.is (stores (rw c.in_ok-value.ensures.value at (c.in_ok-whole-in-Scatter.ensures tt)) (c.scatter.ensures.meaning k))

@@ -239,9 +239,9 @@ elseif (this.editing)
   this.editing[6] = 0;
   notify(this, tostr("You are still writing ", $editor:title(this.editing), ". A line of one dot ends, .q drops it, .h shows more."));
 endif
-if (this == #3 && $login:unclaimed())
+if (this == #3 && (first = $login:unclaimed()))
   notify(this, "");
-  notify(this, "!! Your password is one that the world has made, from the moment of its start.");
+  notify(this, typeof(first) == STR ? "!! Your password is one that the world has made, from the moment of its start." | "!! Your password is the first one, and the server's log has it.");
   notify(this, "!! Type  @password NEW  now. (It will be readable in the world's file.)");
 endif
 .

@@ -1,5 +1,6 @@
 """Which program ./moo runs: cases over a small folder of sources, with programs and a kit that say who they are."""
 
+import fcntl
 import hashlib
 import os
 import pathlib
@@ -17,7 +18,8 @@ from outcome import PATIENCE, Outcome, Result, Skipped
 from row_file import TOP
 
 # The commands that the launcher takes from the system. A run has these alone on its path, and perhaps a kit.
-TOOLS = "awk cat chmod cp cut date dd dirname find grep mkdir mkfifo mktemp mv paste readlink rm sed sh sha256sum sleep sort stat tail tar uname wc xargs".split()
+TOOLS = ("awk cat chmod cp cut date dd dirname find flock grep head mkdir mkfifo mktemp mv paste readlink rm sed sh sha256sum sleep sort stat tail tar tr uname"
+         " wc xargs yes").split()
 
 PARTS = ["moo", "release/sum", "release/check", "release/launch"]
 NEWER = "moo: the sources are newer than the release; this is the release (./moo build builds the newer program)\n"
@@ -386,6 +388,89 @@ def a_world_that_everybody_can_read_is_warned_of(folder):
     yield folder.run("serve", str(world), "0", *given), 0, f"released serve {world} 0 {' '.join(given)}\n"
 
 
+# A random first password, and one that the starter world makes.
+RANDOM = "-".join(["[a-km-np-z2-9]{5}"] * 3)
+MADE = "[a-z]{6}-[a-z]{6}"
+
+
+def start_new_world(folder):
+    """Serves a starter world for three rounds, with a console that says nothing. Returns its first passwords, and the lines of the launcher."""
+    (folder.top / "a.db").chmod(0o600)
+    done = folder.run("serve", "a.db", "0", "--rounds", "3", "--console", command=folder.top / "release/launch", folder=folder.top, MOO_PROGRAM=folder.tested.path)
+    return re.findall(r"connect wizard (\S+)", done.printed.decode()), re.findall(r"^moo: .*\n", done.printed.decode(), re.MULTILINE)
+
+
+def copy_starter_world(folder):
+    """Copies the starter world to a.db. There is nothing else of that name."""
+    for path in folder.top.glob("a.db*"):
+        path.unlink()
+    shutil.copy(TOP / "worlds/starter.db", folder.top / "a.db")
+
+
+def is_first(folder, passwords, form):
+    """Returns as a result whether there is one password, of this form, and the wizard of a.db can connect with it."""
+    [password] = passwords
+    text = f"open 1\nline 1 connect wizard {password}\n"
+    given = folder.tested.output(["script", folder.top / "a.db"], text.encode())
+    return Result(bool(re.fullmatch(form, password)) and (form is MADE or b"1: *** Connected ***" in given.printed), b"")
+
+
+def the_first_password_of_a_new_world_is_random(folder):
+    """The world logs it at each start until the wizard has one of his own. The file keeps its permissions, and nothing else is left."""
+    copy_starter_world(folder)
+    first, lines = start_new_world(folder)
+    yield is_first(folder, first, RANDOM), True, ""
+    yield Result(stat.S_IMODE((folder.top / "a.db").stat().st_mode), b""), 0o600, ""
+    yield Result(0, " ".join(sorted(path.name for path in folder.top.glob("a.db*"))).encode()), 0, "a.db a.db.lock"
+    yield Result((start_new_world(folder), lines) == ((first, []), []), b""), True, ""
+    copy_starter_world(folder)
+    yield Result(start_new_world(folder)[0] != first, b""), True, ""
+
+
+def a_world_whose_wizard_has_a_password_stays_as_it_is(folder):
+    copy_starter_world(folder)
+    lines = [f"open 1\nline 1 connect wizard {start_new_world(folder)[0][0]}\nline 1 @password lantern\nhangup 1\nmoment 4000000000\n", "flush\n" * 40, "show\n"]
+    text = folder.tested.output(["script", folder.top / "a.db"], "".join(lines).encode()).printed.decode()
+    folder.write("a.db", text[text.index("** LambdaMOO Database"):])
+    before = (folder.top / "a.db").read_bytes()
+    yield Result(start_new_world(folder) == ([], []), b""), True, ""
+    yield Result((folder.top / "a.db").read_bytes() == before, b""), True, ""
+
+
+def without_randomness_the_world_makes_the_first_password(folder):
+    wanted = "moo: the wizard's first password is not random, since {}: whoever knows when the server started can compute it\n"
+    for tool, commands, why in (("tr", "cat > /dev/null", "/dev/urandom gives no password"), ("head", "exit 1", "/dev/urandom gives no password"),
+                                ("dd", "exit 1", f"{folder.top}/a.db.first cannot be written"), ("flock", "exit 66", f"{folder.top}/a.db.lock cannot be locked")):
+        copy_starter_world(folder)
+        folder.set_tool(tool, f"#!/bin/sh\n{commands}\n")
+        passwords, lines = start_new_world(folder)
+        yield Result(0, "".join(lines).encode()), 0, wanted.format(why)
+        yield is_first(folder, passwords, MADE), True, ""
+        yield Result((folder.top / "a.db").read_bytes() == (TOP / "worlds/starter.db").read_bytes(), b""), True, ""
+        yield Result((folder.top / "a.db.first").exists(), b""), False, ""
+        folder.set_tool(tool, f'#!/bin/sh\nexec {shutil.which(tool)} "$@"\n')
+
+
+def a_stop_before_or_after_a_new_world_is_in_place_loses_no_password(folder):
+    for commands in 'kill -s KILL "$PPID"', f'{shutil.which("mv")} "$@"; kill -s KILL "$PPID"':
+        copy_starter_world(folder)
+        folder.set_tool("mv", f"#!/bin/sh\n{commands}\n")
+        yield Result(start_new_world(folder) == ([], []), b""), True, ""
+        folder.set_tool("mv", f'#!/bin/sh\nexec {shutil.which("mv")} "$@"\n')
+        passwords, lines = start_new_world(folder)
+        yield Result(0, "".join(lines).encode()), 0, ""
+        yield is_first(folder, passwords, RANDOM), True, ""
+        yield Result((folder.top / "a.db.first").exists(), b""), False, ""
+
+
+def a_new_world_that_is_served_is_not_replaced(folder):
+    copy_starter_world(folder)
+    with open(folder.top / "a.db.lock", "w") as lock:
+        fcntl.flock(lock, fcntl.LOCK_EX)
+        yield Result(start_new_world(folder) == ([], []), b""), True, ""
+    yield Result((folder.top / "a.db").read_bytes() == (TOP / "worlds/starter.db").read_bytes(), b""), True, ""
+
+
 def what_is_typed_for_a_console_without_a_server_is_refused(folder):
     folder.release()
     yield (folder.run("console", "a.db"), 2, "moo: a.db.console is no pipe: no server that moo serve began under this name runs\n")
@@ -477,6 +562,11 @@ CASES = [
     a_server_without_a_pipe_has_no_console,
     a_file_in_the_place_of_the_pipe_is_named,
     a_world_that_everybody_can_read_is_warned_of,
+    the_first_password_of_a_new_world_is_random,
+    a_world_whose_wizard_has_a_password_stays_as_it_is,
+    without_randomness_the_world_makes_the_first_password,
+    a_stop_before_or_after_a_new_world_is_in_place_loses_no_password,
+    a_new_world_that_is_served_is_not_replaced,
     what_is_typed_for_a_console_without_a_server_is_refused,
     a_console_of_a_server_that_was_killed_is_refused,
     a_closed_standard_input_is_empty,

@@ -501,12 +501,50 @@ def a_closed_standard_input_is_empty(folder):
 def a_command_of_the_launcher_refuses_other_words(folder):
     """No word for help begins a build of an hour."""
     folder.change()
-    yield folder.run("build", "--help", has_kit=True), 2, "usage: ./moo build\n"
+    yield folder.run("build", "--help", has_kit=True), 2, "Usage: ./moo build\n"
     folder.release()
     for word, usage in ("install", "install DIR"), ("console", "console DB"):
         for words in [], ["--help"], [""], ["a", "b"]:
-            yield folder.run(word, *words), 2, f"usage: ./moo {usage}\n"
-    yield folder.run("--path", "a"), 2, "usage: ./moo --path\n"
+            yield folder.run(word, *words), 2, f"Usage: ./moo {usage}\n"
+    yield folder.run("--path", "a"), 2, "Usage: ./moo --path\n"
+
+
+# The usage line of each command. The installed program has another name.
+USAGES = {"serve": "moo serve [OPTIONS] <DB> <PORT>", "check": "moo check [OPTIONS] <DB>", "copy": "moo copy <DB>", "script": "moo script <DB>",
+          "expr": "moo expr", "frob": "moo <COMMAND>", "-x": "moo <COMMAND>", "": "moo <COMMAND>", "console": "moo console DB"}
+
+
+def usage_of(result):
+    """Returns a result with its usage lines alone."""
+    return Result(result.status, b"".join(re.findall(rb"^[Uu]sage: .*\n", result.printed, re.MULTILINE)))
+
+
+def each_usage_line_has_one_form(folder):
+    """Whatever is wrong with the words, it is that of the help. The options that the launcher gives aren't in it."""
+    place = folder.top.parent / "place"
+    place.mkdir()
+    shutil.copy(TOP / "release/launch", place / "moo")
+    shutil.copy(folder.tested.path, place / "moo.program")
+    wrong = ["serve", "serve a.db", "serve --telnet a.db", "serve a.db 0 --bad", "serve a.db 0 1", "serve -- a.db", "check", "check --bad a.db", "check a.db b.db",
+             "copy", "copy a.db b.db", "script", "expr a", "frob", "frob --bad", "-x", "", "console", "console a b"]
+    for line in wrong:
+        done = folder.run(*line.split(), command=place / "moo", folder=place)
+        yield usage_of(done), 2, f"Usage: {USAGES[line.split(' ')[0]]}\n"
+    for word in "serve", "check", "copy", "script", "expr":
+        for option in "--help", "-h":
+            yield usage_of(folder.run(word, option, command=place / "moo", folder=place)), 0, f"Usage: {USAGES[word]}\n"
+    yield Result(0, " ".join(sorted(path.name for path in place.iterdir())).encode()), 0, "moo moo.program"
+
+
+def a_device_that_gives_zeros_without_end_is_refused(folder):
+    """What ends, or is no database at its first line, is read as ever."""
+    folder.release()
+    (folder.top / "link.db").symlink_to("/dev/zero")
+    for words in ["check", "/dev/zero"], ["check", "--all", "/dev/full"], ["copy", "--", "/dev/zero"], ["script", "link.db"]:
+        yield (folder.run(*words, folder=folder.top), 3,
+               f"moo: {words[-1]} is no database: it gives zeros without end\nrefused: Device\n")
+    for name in "/dev/null", "/dev/stdin", "/dev/urandom", "none.db":
+        yield folder.run("check", name), 0, f"released check {name}\n"
 
 
 def headings(result):
@@ -571,6 +609,8 @@ CASES = [
     a_console_of_a_server_that_was_killed_is_refused,
     a_closed_standard_input_is_empty,
     a_command_of_the_launcher_refuses_other_words,
+    each_usage_line_has_one_form,
+    a_device_that_gives_zeros_without_end_is_refused,
     the_help_is_on_one_stream,
     a_script_finds_the_launcher_from_any_folder,
 ]

@@ -427,11 +427,29 @@ def the_first_password_of_a_new_world_is_random(folder):
     yield Result(start_new_world(folder)[0] != first, b""), True, ""
 
 
+def change_world(folder, *lines):
+    """Somebody types these lines in the world a.db, which is saved."""
+    script = ["open 1", *(f"line 1 {line}" for line in lines), "hangup 1", "moment 3600", *["flush"] * 40, "show", ""]
+    text = folder.tested.output(["script", folder.top / "a.db"], "\n".join(script).encode()).printed.decode()
+    folder.write("a.db", text[text.index("** LambdaMOO Database"):])
+
+
+# What the launcher looks for in the file, as a line that a player writes.
+DECEIT = "@describe me as the world makes the first password"
+
+
+def a_line_of_a_player_makes_no_world_new_or_old(folder):
+    copy_starter_world(folder)
+    change_world(folder, "create Ann open-sesame", DECEIT)
+    yield Result((folder.top / "a.db").read_text().count("\nthe world makes the first password\n"), b""), 2, ""
+    first, lines = start_new_world(folder)
+    yield is_first(folder, first, RANDOM), True, ""
+    yield Result((start_new_world(folder), lines) == ((first, []), []), b""), True, ""
+
+
 def a_world_whose_wizard_has_a_password_stays_as_it_is(folder):
     copy_starter_world(folder)
-    lines = [f"open 1\nline 1 connect wizard {start_new_world(folder)[0][0]}\nline 1 @password lantern\nhangup 1\nmoment 4000000000\n", "flush\n" * 40, "show\n"]
-    text = folder.tested.output(["script", folder.top / "a.db"], "".join(lines).encode()).printed.decode()
-    folder.write("a.db", text[text.index("** LambdaMOO Database"):])
+    change_world(folder, f"connect wizard {start_new_world(folder)[0][0]}", "@password lantern", DECEIT)
     before = (folder.top / "a.db").read_bytes()
     yield Result(start_new_world(folder) == ([], []), b""), True, ""
     yield Result((folder.top / "a.db").read_bytes() == before, b""), True, ""
@@ -602,6 +620,7 @@ CASES = [
     a_world_that_everybody_can_read_is_warned_of,
     the_first_password_of_a_new_world_is_random,
     a_world_whose_wizard_has_a_password_stays_as_it_is,
+    a_line_of_a_player_makes_no_world_new_or_old,
     without_randomness_the_world_makes_the_first_password,
     a_stop_before_or_after_a_new_world_is_in_place_loses_no_password,
     a_new_world_that_is_served_is_not_replaced,

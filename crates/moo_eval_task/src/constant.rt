@@ -27,17 +27,17 @@ impl Task {
     /// Returns a list of literals, and takes its ticks: one for the list and one for each literal in it. `None` if ticks or
     /// memory are missing; then nothing has changed.
     #[inline(always)]
-    pub(crate) fn try_constant(&mut self, list: &Constant) -> Option<Value>
-        ensures some { IfSome result (λ v. (w : World) (active : Activation) (c : Context) → Evaluates Faults c (spelled (list_of list.now)) (state_of self.old w active) (Ok (tree v)) (state_of self.new w active)) }
+    pub(crate) fn try_constant(&mut self, literals: &Constant) -> Option<Value>
+        ensures some { IfSome result (λ v. (w : World) (active : Activation) (c : Context) → Evaluates Faults c (spelled (list_of literals.now)) (state_of self.old w active) (Ok (tree v)) (state_of self.new w active)) }
         ensures none { IfNone result (self.new ≡ self.old) }
         ensures ticks { self.new.ticks_left ≤ self.old.ticks_left }
     {
         let left = self.ticks_left.left() as u32;
-        if (left as usize) < list.nodes() {
+        if (left as usize) < literals.nodes() {
             return None;
         }
-        let value = copied(list.list())?;
-        self.ticks_left.leave(left - list.nodes() as u32);
+        let value = copied(literals.list())?;
+        self.ticks_left.leave(left - literals.nodes() as u32);
         Some(value)
     }
 
@@ -63,13 +63,13 @@ impl Task {
         &mut self,
         active: &Activation,
         stack: &CallStack<'_>,
-        list: &Constant,
+        literals: &Constant,
     ) -> Result<Value, Failure>
-        ensures meaning { (indexed : Option (Bor ValueModel)) (w : World) → IsKnownFailure result → Computes Faults (context_of stack.now indexed) (list (spelled_items (elements_of list.now))) (state_of self.old w active.now) (seen_answer result) (state_of self.new w active.now) }
+        ensures meaning { (indexed : Option (Bor ValueModel)) (w : World) → IsKnownFailure result → Computes Faults (context_of stack.now indexed) (list (spelled_items (elements_of literals.now))) (state_of self.old w active.now) (seen_answer result) (state_of self.new w active.now) }
         ensures ticks { self.new.ticks_left ≤ self.old.ticks_left }
     {
-        self.take_ticks(active, stack, list.nodes() - 1)?;
-        Ok(Value::List(list.list().try_clone()?))
+        self.take_ticks(active, stack, literals.nodes() - 1)?;
+        Ok(Value::List(literals.list().try_clone()?))
     }
 }
 

@@ -31,18 +31,26 @@
 // Drops what is caused by a player whom this one gags, or who is muted. A line that begins with #$ would be a command to
 // some clients (#$# edit): it gets a blank before it, as nobody but the world itself sends those.
 @program $player:"tell tell_lines" this none this rxd wiz
+by = 0;
 if (player == this)
   // for most lines, which the core sends to who has typed the command, no other frames have to be looked at
-  by = caller_perms() == this || caller_perms() == $keeper ? 0 | $player:maker_of(callers(), this);
+  if (caller_perms() != this && caller_perms() != $keeper)
+    by = $player:maker_of(callers(), this);
+  endif
 else
-  if (valid(player) && (player in this.gags || ((`player.muted ! E_PROPNF' != {0, 0} || !(parent(player) in $player.kinds)) && $player:muted_for(player))))
+  if (valid(player) && (player in this.gags || ((!(parent(player) in $player.kinds) || player.muted[2]) && $player:muted_for(player))))
     return;
   endif
   // look_self, and move of an exit, show what a thing's owner has written
-  by = caller_perms() == $keeper && !(callers()[1][2] in {"look_self", "move"}) ? 0 | $player:maker_of(callers(), this);
+  if (caller_perms() != $keeper || callers()[1][2] in {"look_self", "move"})
+    by = $player:maker_of(callers(), this);
+  endif
 endif
 if (verb == "tell")
-  text = by ? $player:signed(tostr(@args), by) | tostr(@args);
+  text = tostr(@args);
+  if (by)
+    text = $player:signed(text, by);
+  endif
   notify(this, index(text, "#$") == 1 ? " " + text | text);
   return;
 endif
@@ -52,12 +60,22 @@ if (this.pagelength && length(lines) > this.pagelength)
   this.rest = lines[this.pagelength + 1..min(n, 500)];
   lines = {@lines[1..this.pagelength], tostr("(", length(this.rest), length(this.rest) == 1 ? " more line" | " more lines", ": type  @more)")};
 endif
+narrow = this.linelength < 78;
+// `index` searches the whole line: what begins with #$ is less than #%, and most lines are not
 for l in (lines)
-  l = tostr(l);
-  l = by ? $player:signed(l, by) | l;
-  for part in (this.linelength < 78 && length(l) > this.linelength ? $string:wrap(l, this.linelength) | {l})
-    notify(this, index(part, "#$") == 1 ? " " + part | part);
-  endfor
+  if (typeof(l) != STR)
+    l = tostr(l);
+  endif
+  if (by)
+    l = $player:signed(l, by);
+  endif
+  if (narrow && length(l) > this.linelength)
+    for part in ($string:wrap(l, this.linelength))
+      notify(this, part < "#%" && index(part, "#$") == 1 ? " " + part | part);
+    endfor
+  else
+    notify(this, l < "#%" && index(l, "#$") == 1 ? " " + l | l);
+  endif
 endfor
 .
 
@@ -144,6 +162,9 @@ endif
 // verb of this name on a programmer's own character would take back no mute.
 @program $player:lets_speak this none this rxd wiz
 {who, ?whom = #-1, ?kind = ""} = args;
+if (whom == #-1 && parent(who) in $player.kinds && !who.muted[2])
+  return 1;
+endif
 // only of players: else a thing of a programmer's could have any words as its name and its refusals
 refused = valid(whom) && is_player(whom) ? `whom.refusals ! ANY => {}' | {};
 if (left = $player:muted_for(who))
@@ -267,7 +288,7 @@ if (!argstr || argstr in {"here", "around"})
   if (!valid(here))
     player:tell("You are nowhere. Type home.");
     return;
-  elseif (!$isa(here, $root))
+  elseif (parent(here) != $room && !$isa(here, $root))
     // a programmer has taken the kind from his room
     player:tell(here.name, " isn't a room any more. Type home.");
     return;

@@ -184,7 +184,7 @@ elseif ($isa(o, $room))
   for p in (o.contents)
     if (is_player(p))
       this:spare(15000);
-      dest = ticks_left() > 60000 && this:is_safe(p) ? $login.start | #-1;
+      dest = ticks_left() > 62500 && this:is_safe(p) ? $login.start | #-1;
       notify(p, tostr("The place around you vanishes.", dest == #-1 ? " Type  home." | ""));
       move(p, dest);
     endif

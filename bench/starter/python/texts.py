@@ -8,10 +8,7 @@ class Strings:
     """Strings."""
 
     def join(self, parts, sep=" "):
-        text = ""
-        for p in parts:
-            text = text + sep + str(p)
-        return text[len(sep):]
+        return sep.join(map(str, parts))
 
     def past_blanks(self, text, start):
         while start < len(text) and text[start] == " ":
@@ -24,7 +21,7 @@ class Strings:
             return none
         if n == 1:
             return str(parts[0])
-        return self.join(parts[:n - 1], ", ") + " and " + parts[n - 1]
+        return f"{', '.join(map(str, parts[:n - 1]))} and {parts[n - 1]}"
 
     def right(self, text, width, fill=" "):
         text = str(text)
@@ -37,12 +34,11 @@ class Strings:
             return "the " + name
         return name
 
-    def width(self):
-        return task.player.linelength if task.player is not None else 78
-
     def wrap(self, text, width=None):
         if width is None:
-            width = self.width()
+            width = task.player.linelength if task.player is not None else 78
+        if len(text) <= width and width <= 20000:
+            return [text]
         last = min(20000, len(text))
         loose = text.find("  ", 0, last) >= 0
         start = 0
@@ -74,22 +70,24 @@ class Strings:
 
     def names(self, things):
         names = []
-        for o in things[:100]:
+        for o in things[:100] if len(things) > 100 else things:
             name = o.name
-            names.append(name[:60] + ".." if len(name) > 60 else name)
+            if len(name) > 60:
+                name = name[:60] + ".."
+            names.append(name)
         return [*names, f"{len(things) - 100} more"] if len(things) > 100 else names
 
     def flow(self, head, names):
         lines = []
-        width = self.width() - 2
+        width = task.player.linelength if task.player is not None else 78
         line = head
         for n in names:
-            n = str(n)
-            if len(line) + len(n) > width:
+            longer = f"{line} {n},"
+            if len(longer) > width:
                 lines.append(line)
-                line = "  " + n + ","
+                line = f"  {n},"
             else:
-                line = line + " " + n + ","
+                line = longer
         line = line[:-1] + "."
         return [*lines, line]
 
@@ -156,10 +154,8 @@ class Time:
         return f"{y}-{right(m, 2, '0')}-{right(d, 2, '0')} {right(h, 2, '0')}:{right(minute, 2, '0')} UTC"
 
     def span(self, s):
-        if s < 0 or s >= 86400 * 2:
-            return f"{abs(s // 86400)} days"
-        if s >= 7200:
-            return f"{s // 3600} hours"
+        if s < 0 or s >= 7200:
+            return f"{abs(s // 86400)} days" if s < 0 or s >= 86400 * 2 else f"{s // 3600} hours"
         if s >= 120:
             return f"{s // 60} minutes"
         return f"{s}{' second' if s == 1 else ' seconds'}"

@@ -18,15 +18,15 @@ class Root:
 
     def look_self(self, who):
         lines = strings.lines(self.description)
-        who.tell_lines(lines if lines else ["You see nothing special about " + strings.the(self.name) + "."])
+        who.tell_lines(lines if lines else ["You see nothing special about " + strings.the(self.name) + "."], perms=keeper)
 
-    def tell(self, *args):
+    def tell(self, *args, perms):
         return 0
 
-    def tell_lines(self, lines):
+    def tell_lines(self, lines, *, perms):
         return 0
 
-    def announce(self, text, but=()):
+    def announce(self, text, but=(), *, perms):
         return 0
 
     def noticed(self, who, word, what):
@@ -49,7 +49,7 @@ class Root:
         return move(self, where)
 
     def unlocked_for(self, who):
-        return self.opens(self, who)
+        return self.key is None or self.opens(self, who)
 
     def opens(self, what, who):
         key = what.key
@@ -91,15 +91,18 @@ class Room(Root):
             return self.unlocked_for(what)
         return len(self.contents) < 300 or what.number <= login.core_end.number
 
-    def announce(self, text, but=()):
+    def announce(self, text, but=(), *, perms):
         text = str(text)
-        text = " " + text if text.startswith("#$") else text
+        if perms is not keeper:
+            raise NotImplementedError("programs of others don't announce in this port")
+        if text.startswith("#$"):
+            text = " " + text
         player = task.player
         if player is not None:
-            at, span = player.muted
-            if span and task.now - at >= 0 and task.now - at < span:
+            if (type(player) not in Player.kinds or player.muted[1]) and Player.muted_for(player):
                 return
-            but = [*but, *player.gagged_by]
+            if player.gagged_by:
+                but = [*but, *player.gagged_by]
         for o in self.contents:
             if o.is_player and o not in but:
                 notify(o, text)
@@ -109,8 +112,8 @@ class Room(Root):
             self.look_self(what)
 
     def look_self(self, who):
-        who.tell(self.name)
-        who.tell_lines(strings.lines(self.description))
+        who.tell(self.name, perms=keeper)
+        who.tell_lines(strings.lines(self.description), perms=keeper)
         self.look_inside(who)
         self.tell_exits(who)
 
@@ -123,9 +126,9 @@ class Room(Root):
             elif o is not who:
                 people.append(o)
         if things:
-            who.tell_lines(strings.flow("You see:", strings.names(things)))
+            who.tell_lines(strings.flow("You see:", strings.names(things)), perms=keeper)
         if people:
-            who.tell_lines(strings.wrap(strings.english(strings.names(people)) + (" is here." if len(people) == 1 else " are here.")))
+            who.tell_lines(strings.wrap(strings.english(strings.names(people)) + (" is here." if len(people) == 1 else " are here.")), perms=keeper)
 
     def tell_exits(self, who):
         ways = []
@@ -133,7 +136,7 @@ class Room(Root):
             if e is not None:
                 ways.append(e)
         names = strings.names(ways)
-        who.tell_lines(strings.flow("Exits:", names) if names else ["There are no exits. (home takes you home.)"])
+        who.tell_lines(strings.flow("Exits:", names) if names else ["There are no exits. (home takes you home.)"], perms=keeper)
 
     @typed("say")
     def say(self, command):
@@ -141,12 +144,12 @@ class Room(Root):
         if player.location is not self:
             return
         if not argstr:
-            player.tell("Say what? For example: say Good morning")
+            player.tell("Say what? For example: say Good morning", perms=keeper)
             return
-        if not player.may_speak():
+        if not Player.lets_speak(player):
             return
-        player.tell("You say, \"", argstr, "\"")
-        self.announce(f'{player.name} says, "{argstr}"', [player])
+        player.tell("You say, \"", argstr, "\"", perms=keeper)
+        self.announce(f'{player.name} says, "{argstr}"', [player], perms=keeper)
         self.noticed(player, "say", argstr)
 
     def huh(self, command):
@@ -154,16 +157,18 @@ class Room(Root):
         text = command.verb + " " + argstr if argstr else command.verb
         e = matching.among(text, self.exits)
         if e is not FAILED and e is not AMBIGUOUS and player.location is self:
-            self.lead(e, player)
+            self.lead(e, player, self, keeper)
         elif e is not FAILED:
-            player.tell("There is more than one exit that begins so.")
+            player.tell("There is more than one exit that begins so.", perms=keeper)
         else:
             raise NotImplementedError("the hints of $room:huh aren't in this port")
 
-    def lead(self, e, player):
+    def lead(self, e, player, caller, perms):
+        if caller is not self and not system.controls(perms, player):
+            raise Refusal
         if isinstance(e, Exit) and e.source is self:
             return e.move(player, self)
-        player.tell("That way leads nowhere any more.")
+        player.tell("That way leads nowhere any more.", perms=keeper)
         return 0
 
 
@@ -183,30 +188,31 @@ class Exit(Root):
         to = self.dest
         if start is not self.source or not (caller is start or caller is who):
             raise Refusal
-        if to is None:
-            who.tell("That way leads nowhere any more.")
+        if not isinstance(to, Room):
+            who.tell("That way leads nowhere any more.", perms=keeper)
             return 0
         if not self.unlocked_for(who):
-            who.tell(Exit.message(self.locked_msg, "It is locked."))
+            who.tell(Exit.message(self.locked_msg, "It is locked."), perms=keeper)
             return 0
         try:
             who.moveto(to, self, keeper)
         except Refusal:
-            who.tell("You can't go there.")
+            who.tell("You can't go there.", perms=keeper)
             return 0
         if who.location is to and to is not start:
-            way = self.name in ("north", "south", "east", "west", "northeast", "northwest", "southeast", "southwest", "up", "down", "in", "out")
+            way = self.name in ("north", "south", "east", "west", "northeast", "northwest", "southeast", "southwest", "up", "down", "in", "out",
+                                 "n", "s", "e", "w", "ne", "nw", "se", "sw", "u", "d")
             name = who.name if who.is_player or task.player is None else task.player.name + " in " + strings.the(who.name)
             leaves = Exit.message(self.leave_msg, "goes " + self.name + "." if way else "leaves by " + strings.the(self.name) + ".")
-            start.announce(f"{name} {leaves}", [who])
+            start.announce(f"{name} {leaves}", [who], perms=keeper)
             arrives = Exit.message(self.arrive_msg, "arrives.")
-            to.announce(f"{name} {arrives}", [who])
+            to.announce(f"{name} {arrives}", [who], perms=keeper)
             start.noticed(who, "go", self)
         return who.location is to
 
     @staticmethod
     def message(text, otherwise):
-        return text if isinstance(text, str) and text and len(text) <= 200 and '"' not in text else otherwise
+        return text if text and isinstance(text, str) and len(text) <= 200 and '"' not in text else otherwise
 
 
 class Player(Root):
@@ -214,53 +220,58 @@ class Player(Root):
 
     connected_at = None
 
-    def tell(self, *args):
-        player = task.player
-        if player is not self and player is not None and self.is_deaf(player):
-            return
+    def tell(self, *args, perms):
+        if task.player is not self:
+            raise NotImplementedError("nobody tells others anything in this port")
+        if perms is not self and perms is not keeper:
+            raise NotImplementedError("programs of others don't tell anything in this port")
         text = "".join(args)
         notify(self, " " + text if text.startswith("#$") else text)
 
-    def tell_lines(self, lines):
-        player = task.player
-        if player is not self and player is not None and self.is_deaf(player):
-            return
+    def tell_lines(self, lines, *, perms):
+        if task.player is not self:
+            raise NotImplementedError("nobody tells others anything in this port")
+        if perms is not self and perms is not keeper:
+            raise NotImplementedError("programs of others don't tell anything in this port")
         if self.pagelength and len(lines) > self.pagelength:
             n = len(lines)
             self.rest = lines[self.pagelength:500]
             left = min(n, 500) - self.pagelength
             lines = [*lines[:self.pagelength], f"({left} more {'line' if left == 1 else 'lines'}: type  @more)"]
+        narrow = self.linelength < 78
         for line in lines:
-            line = str(line)
-            line = " " + line if line.startswith("#$") else line
-            for part in strings.wrap(line, self.linelength) if self.linelength < 78 and len(line) > self.linelength else [line]:
-                notify(self, part)
+            if not isinstance(line, str):
+                line = str(line)
+            if narrow and len(line) > self.linelength:
+                for part in strings.wrap(line, self.linelength):
+                    notify(self, " " + part if part.startswith("#$") else part)
+            else:
+                notify(self, " " + line if line.startswith("#$") else line)
 
-    def is_deaf(self, player):
-        """Is true if this player hears nothing of who typed the command. In MOO it is a part of `tell`."""
-        at, span = player.muted
-        return player in self.gags or (span and task.now - at >= 0 and task.now - at < span)
-
-    def may_speak(self, who=None, kind=""):
-        at, span = self.muted
+    @staticmethod
+    def muted_for(who):
+        if not isinstance(who, Player):
+            return -1
+        at, span = who.muted
         since = task.now - at
-        if span and since >= 0 and since < span:
-            notify(self, f"You are muted, for {clock.span(span - since)} more.")
-        elif who is not None and self in who.gagged_by:
-            notify(self, who.name + " hears nothing of you.")
-        elif who is not None and ([kind, None] in who.refusals or [kind, self] in who.refusals):
-            notify(self, f"{who.name} refuses {kind}" + ("." if [kind, None] in who.refusals else " of yours."))
-        else:
+        return span - since if span and since >= 0 and since < span else 0
+
+    @staticmethod
+    def lets_speak(who, whom=None, kind=""):
+        if whom is None and type(who) in Player.kinds and not who.muted[1]:
             return 1
-        return 0
+        raise NotImplementedError("refusals aren't in this port")
 
     @typed("l*ook")
     def look(self, command):
         player = command.player
         here = player.location
-        if not command.argstr or command.argstr == "here":
+        if not command.argstr or command.argstr in ("here", "around"):
             if here is None:
-                player.tell("You are nowhere. Type home.")
+                player.tell("You are nowhere. Type home.", perms=keeper)
+                return
+            if not isinstance(here, Root):
+                player.tell(here.name, " isn't a room any more. Type home.", perms=keeper)
                 return
             here.look_self(player)
             here.noticed(player, "look", here)
@@ -301,7 +312,7 @@ class Login(Root):
         n = len(every)
         blanks = "                  "
         for p in every[:100]:
-            name = p.name + (" (wizard)" if p.wizard else "") + blanks
+            name = f"{p.name}{' (wizard)' if p.wizard else ''}{blanks}"
             try:
                 idle = idle_seconds(p)
             except ValueError:
@@ -313,7 +324,7 @@ class Login(Root):
                 since = clock.span(connected_seconds(p)) + blanks
                 idle = clock.span(idle) + blanks
                 place = p.location.name if p.location is not None else "nowhere"
-                notify(who, name[:18] + since[:13] + idle[:13] + place[:60])
+                notify(who, f"{name[:18]}{since[:13]}{idle[:13]}{place[:60]}")
         if people:
             return
         if n > 100:

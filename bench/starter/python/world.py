@@ -92,7 +92,8 @@ class Room(Root):
         return len(self.contents) < 300 or what.number <= login.core_end.number
 
     def announce(self, text, but=(), *, perms):
-        text = str(text)
+        if not isinstance(text, str):
+            text = str(text)
         if perms is not keeper:
             raise NotImplementedError("programs of others don't announce in this port")
         if text.startswith("#$"):
@@ -131,11 +132,11 @@ class Room(Root):
             who.tell_lines(strings.wrap(strings.english(strings.names(people)) + (" is here." if len(people) == 1 else " are here.")), perms=keeper)
 
     def tell_exits(self, who):
-        ways = []
+        names = []
         for e in self.exits:
             if e is not None:
-                ways.append(e)
-        names = strings.names(ways)
+                name = e.name
+                names.append(name[:60] + ".." if len(name) > 60 else name)
         who.tell_lines(strings.flow("Exits:", names) if names else ["There are no exits. (home takes you home.)"], perms=keeper)
 
     @typed("say")

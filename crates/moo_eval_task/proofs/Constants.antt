@@ -28,8 +28,11 @@ first_within t es h = record { weight = omega (arith, h.weight); depth = omega (
 rest_within : (t : Tree) (es : Elements) → AreWithin (element t es) → AreWithin es
 rest_within t es h = record { weight = omega (arith, h.weight); depth = omega (arith, h.depth) }
 
+made : (es : Elements) → IsWithinLimits (list es) → made_list (trees_of es) ≡ Ok (list es)
+made es h = rw (elements_of-trees_of es) (limited_within (list es) h)
+
 made_within : (es : Elements) → IsWithinLimits (list es) → answers (made_list (trees_of es)) ≡ Ok (list es)
-made_within es h = ap (λ fs. answers (made_list (trees_of fs))) refl ∙ ap answers (rw (elements_of-trees_of es) (limited_within (list es) h))
+made_within es h = ap answers (made es h)
 
 leaf_given : {T : Telling} {c : Context} {l : _} (s : State) (left : ℕ) → 1 ≤ s.ticks → left ≡ s.ticks - 1 → Evaluates T c (program.literal l) s (Ok (program.literal_value l)) (record s { ticks = left })
 leaf_given s left h l = rw l (literal_read (omega (arith, h)))
@@ -41,16 +44,17 @@ mutual
   spelled_given (object n) s left w h l = leaf_given s left h l
   spelled_given (error e) s left w h l = leaf_given s left h l
   spelled_given (string b) s left w h l = leaf_given s left h l
-  spelled_given (list es) s left w h l = begins (omega (arith, h)) (list_given es (ticked s) left w (omega (arith, h)) (omega (arith, h, l))) refl
-
-  -- the list itself, whose tick was taken
-  pub list_given : {T : Telling} {c : Context} (es : Elements) (s : State) (left : ℕ) → IsWithinLimits (list es) → nodes_in es ≤ s.ticks → left ≡ s.ticks - nodes_in es → Computes T c (program.list (spelled_items es)) s (Ok (list es)) (record s { ticks = left })
-  list_given es s left w h l = applies (items_given es s left (within_of es w) h l) no_more (list_is (made_within es w))
+  spelled_given (list es) s left w h l =
+      begins (omega (arith, h)) (applies (items_given es (ticked s) left (within_of es w) (omega (arith, h)) (omega (arith, h, l))) no_more (list_is (made_within es w))) refl
 
   items_given : {T : Telling} {c : Context} (es : Elements) (s : State) (left : ℕ) → AreWithin es → nodes_in es ≤ s.ticks → left ≡ s.ticks - nodes_in es → EvaluatesAll T c (spelled_items es) s (Ok (trees_of es)) (record s { ticks = left })
   items_given no_elements s left w h l = let t : left ≡ s.ticks = omega (arith, l) in rw t no_more
   items_given (element t es) s left w h l =
       element_then (spelled_given t s (s.ticks - nodes_of t) (first_within t es w) (omega (arith, h)) refl) (items_given es (record s { ticks = s.ticks - nodes_of t }) left (rest_within t es w) (omega (arith, h)) (omega (arith, h, l))) refl
+
+-- the list itself, whose tick was taken
+pub list_given : {T : Telling} {c : Context} (es : Elements) (s : State) (left : ℕ) → IsWithinLimits (list es) → nodes_in es ≤ s.ticks → left ≡ s.ticks - nodes_in es → Computes T c (program.list (spelled_items es)) s (Ok (list es)) (record s { ticks = left })
+list_given es s left w h l = applies (items_given es s left (within_of es w) h l) no_more (list_is (made_within es w))
 
 less_or_not : (a b : ℕ) → (a < b) ⊎ (b ≤ a)
 less_or_not a zero = inr (omega arith)
@@ -68,10 +72,7 @@ mutual
   spelled_ends (error e) s n w z h = no_tick s (omega (arith, z, h))
   spelled_ends (string b) s n w z h = no_tick s (omega (arith, z, h))
   spelled_ends (list es) s zero w z h = no_tick s z
-  spelled_ends (list es) s (suc n) w z h = begins (omega (arith, z)) (list_ends es (ticked s) w (omega (arith, z, h))) refl
-
-  pub list_ends : {T : Telling} {c : Context} (es : Elements) (s : State) → IsWithinLimits (list es) → s.ticks < nodes_in es → Computes T c (program.list (spelled_items es)) s (Err (stops (out_of_ticks (trace c s)))) (record s { ticks = 0 })
-  list_ends es s w h = operands_end (items_end es s (within_of es w) h)
+  spelled_ends (list es) s (suc n) w z h = begins (omega (arith, z)) (operands_end (items_end es (ticked s) (within_of es w) (omega (arith, z, h)))) refl
 
   items_end : {T : Telling} {c : Context} (es : Elements) (s : State) → AreWithin es → s.ticks < nodes_in es → EvaluatesAll T c (spelled_items es) s (Err (stops (out_of_ticks (trace c s)))) (record s { ticks = 0 })
   items_end no_elements s w h = absurd (omega (arith, h))
@@ -80,3 +81,6 @@ mutual
       (λ few. element_stops (spelled_ends t s s.ticks (first_within t es w) refl few))
       (λ (many : nodes_of t ≤ s.ticks). element_then (spelled_given t s (s.ticks - nodes_of t) (first_within t es w) many refl) (items_end es (record s { ticks = s.ticks - nodes_of t }) (rest_within t es w) (omega (arith, h, many))) refl)
       (less_or_not s.ticks (nodes_of t))
+
+pub list_ends : {T : Telling} {c : Context} (es : Elements) (s : State) → IsWithinLimits (list es) → s.ticks < nodes_in es → Computes T c (program.list (spelled_items es)) s (Err (stops (out_of_ticks (trace c s)))) (record s { ticks = 0 })
+list_ends es s w h = operands_end (items_end es s (within_of es w) h)

@@ -21,7 +21,7 @@ use crate::task::Task;
 use moo_eval_access::{Step, rebuilt};
 use moo_eval_frame::{Activation, CallStack, Failure};
 use moo_syntax_lower::Constant;
-use moo_value::{ErrorCode, MooList, Value};
+use moo_value::{ErrorCode, MooList, Value, WEIGHT_LIMIT};
 
 impl Task {
     /// Returns a list of literals, and takes its ticks: one for the list and one for each literal in it. `None` if ticks or
@@ -36,7 +36,9 @@ impl Task {
         if (left as usize) < literals.nodes() {
             return None;
         }
-        let value = copied(literals.list())?;
+        let list = literals.list();
+        prove!(list.weight() <= WEIGHT_LIMIT);
+        let value = copied(list)?;
         self.ticks_left.leave(left - literals.nodes() as u32);
         Some(value)
     }
@@ -68,8 +70,10 @@ impl Task {
         ensures meaning { (indexed : Option (Bor ValueModel)) (w : World) → IsKnownFailure result → Computes Faults (context_of stack.now indexed) (list (spelled_items (elements_of literals.now))) (state_of self.old w active.now) (seen_answer result) (state_of self.new w active.now) }
         ensures ticks { self.new.ticks_left ≤ self.old.ticks_left }
     {
+        let list = literals.list();
+        prove!(list.weight() <= WEIGHT_LIMIT);
         self.take_ticks(active, stack, literals.nodes() - 1)?;
-        Ok(Value::List(literals.list().try_clone()?))
+        Ok(Value::List(list.try_clone()?))
     }
 }
 

@@ -10,7 +10,7 @@ use Rattle.moo_builtin.specs.Telling.{Faults}
 use Rattle.moo_eval_frame.specs.State.{Context}
 use Rattle.moo_eval_access.specs.State.{State}
 use Rattle.moo_eval_hook.specs.VerbCalls.{verb_caller}
-use Rattle.moo_eval_access.specs.ListCall.{MakesList, appends, inserts, adds, sets, deletes, removes}
+use Rattle.moo_eval_access.specs.ListCall.{MakesList, appends, inserts, appends_at, inserts_at, adds, sets, deletes, removes}
 use Rattle.moo_eval_call.specs.Calls.{CallsFunction}
 use Rattle.moo_eval_semantics.specs.Meaning.{EvaluatesAll, Computes, applies, no_more, call_is}
 
@@ -18,6 +18,8 @@ use Rattle.moo_eval_semantics.specs.Meaning.{EvaluatesAll, Computes, applies, no
 calls_none : {f : Function} {args : List Tree} {w : Tree} → MakesList f args w → verb_caller (Some f) ≡ None
 calls_none (appends e) = refl
 calls_none (inserts e) = refl
+calls_none (appends_at e) = refl
+calls_none (inserts_at e) = refl
 calls_none (adds e) = refl
 calls_none (sets e) = refl
 calls_none (deletes e) = refl
@@ -27,6 +29,8 @@ calls_none (removes e) = refl
 list_calls : {f : Function} {args : List Tree} {w : Tree} (name : List ℕ) (c : Context) (s : State) → function_of name ≡ Some f → MakesList f args w → CallsFunction Faults c name args s (Ok w) s
 list_calls {w = w} name c s f (appends e) = rw f (Ok w, s.world, follows f refl (ap (λ o. given (simply (Some o))) (sym e), refl), refl, refl)
 list_calls {w = w} name c s f (inserts e) = rw f (Ok w, s.world, follows f refl (ap (λ o. given (simply (Some o))) (sym e), refl), refl, refl)
+list_calls {w = w} name c s f (appends_at e) = rw f (Ok w, s.world, follows f refl (ap (λ o. given (simply (Some o))) (sym e), refl), refl, refl)
+list_calls {w = w} name c s f (inserts_at e) = rw f (Ok w, s.world, follows f refl (ap (λ o. given (simply (Some o))) (sym e), refl), refl, refl)
 list_calls {w = w} name c s f (adds e) = rw f (Ok w, s.world, follows f refl (ap (λ o. given (simply (Some o))) (sym e), refl), refl, refl)
 list_calls {w = w} name c s f (sets e) = rw f (Ok w, s.world, follows f refl (ap (λ o. given (simply (Some o))) (sym e), refl), refl, refl)
 list_calls {w = w} name c s f (deletes e) = rw f (Ok w, s.world, follows f refl (ap (λ o. given (simply (Some o))) (sym e), refl), refl, refl)

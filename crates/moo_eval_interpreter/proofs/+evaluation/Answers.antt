@@ -571,7 +571,7 @@ assignment::store-returns-in-Property-clause-meaning t c =
 
 pub assignment::store-returns-in-Literals-clause-meaning : goal.assignment::store-returns-in-Literals-clause-meaning
 assignment::store-returns-in-Literals-clause-meaning t c =
-    λ k. rw c.in-Literals.is (rw c.in_ok-value.ensures.value at (c.store_literals.ensures (context_of c.args.stack.now c.args.indexed) _ k))
+    λ k. rw c.in-Literals.is (rw c.in_ok-value.ensures.value at (c.store_literals.ensures (context_of c.args.stack.now c.args.indexed) (state_of c.args.task.now c.args.world.now c.args.active.now) k))
 
 pub assignment::store-returns-in_ok-whole-in-Scatter-clause-meaning : goal.assignment::store-returns-in_ok-whole-in-Scatter-clause-meaning
 assignment::store-returns-in_ok-whole-in-Scatter-clause-meaning t c =

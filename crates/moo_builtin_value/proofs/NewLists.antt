@@ -40,13 +40,6 @@ made_gives (Ok us) a ts is limits err follows = rw (follows, is, within (list_of
 made_gives (Err TooLarge) a ts is limits err follows = rw (follows, beyond (list_of ts) err) refl
 made_gives (Err ListMemory) a ts is limits err follows = rw follows (limited_made (list_of ts) tt)
 
--- the trees of values with one put in, and with one taken out
-pub trees_insert : (vs : List Value) (k : ℕ) (v : Value) → trees (insert vs k v) ≡ insert (trees vs) k (tree v)
-trees_insert vs k v = map-append tree (take k vs) (v ∷ drop k vs) ∙ ap (λ us. us ++ tree v ∷ trees (drop k vs)) (sym (take-map tree k vs)) ∙ ap (λ us. take k (trees vs) ++ tree v ∷ us) (sym (drop-map tree k vs))
-
-pub trees_remove : (vs : List Value) (k : ℕ) → trees (remove vs k) ≡ remove (trees vs) k
-trees_remove vs k = map-append tree (take k vs) (drop (suc k) vs) ∙ ap (λ us. us ++ trees (drop (suc k) vs)) (sym (take-map tree k vs)) ∙ ap (λ us. take k (trees vs) ++ us) (sym (drop-map tree (suc k) vs))
-
 pub place_below : (found : Option ℕ) (n m : ℕ) → n < m → IfSome found (λ k. k < n) → IfSome found (λ k. k < m)
 place_below None n m bound below = tt
 place_below (Some k) n m bound below = omega (arith, below)

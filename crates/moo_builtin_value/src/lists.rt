@@ -281,7 +281,6 @@ fn brought_to(place: i32, count: usize) -> usize
     (place as usize).min(count)
 }
 
-#[tactic(auto, using(crate::proofs::Making::limited_made))]
 fn put_in(
     alloc: Global,
     list: MooList,
@@ -291,22 +290,7 @@ fn put_in(
     requires { before ≤ length list }
     ensures { Gives result (put_in list before (tree value)) }
 {
-    if before == list.len() {
-        return list_answer(list.pushed(alloc, value));
-    }
-    match elements_with(list, before, value) {
-        Ok(elements) => list_answer(MooList::try_from_vec(alloc, elements)),
-        Err(AllocError) => Err(OperationFault::Memory),
-    }
-}
-
-fn elements_with(list: MooList, before: usize, value: Value) -> Result<Vec<Value>, AllocError>
-    requires { before ≤ length list }
-    ensures { IfOk result (λ v. trees v.items ≡ insert list before (tree value)) }
-{
-    let mut elements = list.into_vec()?;
-    elements.insert(before, value)?;
-    Ok(elements)
+    list_answer(list.inserted(alloc, before, value))
 }
 
 #[tactic(auto, using(crate::proofs::Making::limited_made))]
@@ -314,17 +298,8 @@ fn taken_out(alloc: Global, list: MooList, before: usize) -> Result<Value, Opera
     requires { before < length list }
     ensures { Gives result (taken_out list before) }
 {
-    match elements_without(list, before) {
-        Ok(elements) => list_answer(MooList::try_from_vec(alloc, elements)),
+    match list.removed(alloc, before) {
+        Ok(shorter) => Ok(Value::List(shorter)),
         Err(AllocError) => Err(OperationFault::Memory),
     }
-}
-
-fn elements_without(list: MooList, before: usize) -> Result<Vec<Value>, AllocError>
-    requires { before < length list }
-    ensures { IfOk result (λ v. trees v.items ≡ remove list before) }
-{
-    let mut elements = list.into_vec()?;
-    elements.remove(before);
-    Ok(elements)
 }

@@ -1,5 +1,5 @@
 //! The elements of lists, which are copied only if another list shares them.
-ghost use Rattle.std.specs.Prelude.{◌≡◌, ◌<◌, ◌++◌, ◌∷◌, [], length, vec_len, slice_set, ℕ, IsTrue, IsFalse, IfOk, OnOk};
+ghost use Rattle.std.specs.Prelude.{◌≡◌, ◌<◌, ◌++◌, ◌∷◌, [], ◌≤◌, length, vec_len, insert, remove, slice_set, ℕ, IsTrue, IsFalse, IfOk, OnOk};
 ghost use Rattle.moo_value.specs.Inner.{IsMeasuredList};
 ghost use Rattle.moo_value.specs.Held.{IsAlike};
 ghost use Rattle.moo_value.specs.View.{trees};
@@ -32,25 +32,51 @@ pub(crate) fn with_last(
     Ok(Rc::new(alloc, (copies, measure))?)
 }
 
-// Puts a value before the elements, which then have this measure. Copies them only if another list shares them.
-pub(crate) fn with_first(
+// Puts a value before the element at `index`, or after the last one, so that the elements have this measure. Copies them
+// only if another list shares them.
+pub(crate) fn with_inserted(
     alloc: Global,
     block: Rc<(Vec<Value>, Measure)>,
+    index: usize,
     value: Value,
     measure: Measure,
 ) -> Result<Rc<(Vec<Value>, Measure)>, AllocError>
-    ensures elements { IfOk result (λ all. all.value.0.items ≡ value ∷ block.value.0.items) }
+    requires { index ≤ vec_len block.value.0 }
+    ensures elements { IfOk result (λ all. all.value.0.items ≡ insert block.value.0.items index value) }
     ensures measure { IfOk result (λ all. all.value.1 ≡ measure) }
 {
     let mut block = block;
     if let Some(own) = Rc::get_mut(&mut block) {
-        own.0.insert(0, value)?;
+        own.0.insert(index, value)?;
         own.1 = measure;
         return Ok(block);
     }
     let mut copies = Vec::with_capacity(alloc, block.0.len().saturating_add(1))?;
+    push_copies(&mut copies, &block.0[..index])?;
     copies.push(value)?;
-    push_copies(&mut copies, &block.0)?;
+    push_copies(&mut copies, &block.0[index..])?;
+    Ok(Rc::new(alloc, (copies, measure))?)
+}
+
+// Removes the element at `index`, so that the elements have this measure. Copies the others only if another list shares
+// them.
+pub(crate) fn without(
+    alloc: Global,
+    block: Rc<(Vec<Value>, Measure)>,
+    index: usize,
+    measure: Measure,
+) -> Result<Rc<(Vec<Value>, Measure)>, AllocError>
+    requires { index < vec_len block.value.0 }
+    ensures elements { IfOk result (λ all. all.value.0.items ≡ remove block.value.0.items index) }
+    ensures measure { IfOk result (λ all. all.value.1 ≡ measure) }
+{
+    let mut block = block;
+    if let Some(own) = Rc::get_mut(&mut block) {
+        own.0.remove(index);
+        own.1 = measure;
+        return Ok(block);
+    }
+    let copies = copied_in_a_row(alloc, &block.0[..index], &[], &block.0[index + 1..])?;
     Ok(Rc::new(alloc, (copies, measure))?)
 }
 

@@ -36,13 +36,17 @@ pub(crate) fn measured(elements: &[Value]) -> Option<Measure>
     Some(Measure { weight, depth })
 }
 
-// Returns the depth of the list of these values.
-pub(crate) fn list_depth(elements: &[Value]) -> u32
-    ensures depth { result ≡ list_depth (trees elements.now) }
-    ensures limit { result ≤ 1 + depth_limit }
+// Returns the depth of the list of these values, which is at most this one. Reads no further than a value that makes the
+// list so deep.
+pub(crate) fn list_depth(elements: &[Value], most: u32) -> u32
+    requires { list_depth (trees elements.now) ≤ most }
+    ensures { result ≡ list_depth (trees elements.now) }
 {
     let mut depth: u32 = 1;
     for element in elements {
+        if depth == most {
+            return depth;
+        }
         depth = depth.max(element.depth() + 1);
     }
     depth
@@ -64,9 +68,9 @@ pub(crate) fn measured_in_a_row(
     if weight > WEIGHT_LIMIT {
         return None;
     }
-    let depth = list_depth(front)
-        .max(list_depth(middle))
-        .max(list_depth(back));
+    let depth = list_depth(front, DEPTH_LIMIT)
+        .max(list_depth(middle, DEPTH_LIMIT))
+        .max(list_depth(back, DEPTH_LIMIT));
     Some(Measure { weight, depth })
 }
 

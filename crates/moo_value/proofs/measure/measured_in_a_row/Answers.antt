@@ -11,5 +11,5 @@ returns-clause-some c =
     rw (c.max-depth.ensures, c.max.ensures)
     (measured-row _ _ _ _ _ _ _ _ _ c.requires.front c.requires.middle c.requires.back
     c.list_weight.ensures.weight c.list_weight-2.ensures.weight c.list_weight-3.ensures.weight
-    c.list_depth.ensures.depth c.list_depth-2.ensures.depth c.list_depth-3.ensures.depth
+    c.list_depth.ensures c.list_depth-2.ensures c.list_depth-3.ensures
     c.if-weight-gt-WEIGHT_LIMIT.false)

@@ -93,7 +93,7 @@ fn first_variables(
     ensures { IfOk result (λ v. variables_of v ≡ slot_value given_names (given_values given) (value_of_name [])) }
 {
     let program = stack.running.program.try_clone()?;
-    Variables::begun(alloc, program, given, FrameMemory::new(alloc))
+    Variables::begun(program, given, FrameMemory::new(alloc))
 }
 
 fn end_of_task(alloc: Global, outcome: Result<Flow, Stop>) -> Ended

@@ -2,6 +2,7 @@
 use Rattle.std.specs.Prelude.{ℕ, Bool, IsTrue, List, [], Option, Some, None, Result, Ok, Err, map, option_map, reverse}
 use Rattle.std.specs.Borrow.{Bor}
 use Rattle.std.specs.declared.vec.Vec.{Vec}
+use Rattle.std.specs.declared.boxed.Box.{Box}
 use Rattle.std.specs.declared.alloc.Global.{Global}
 use Rattle.moo_value.specs.declared.value.Value.{Value}
 use Rattle.moo_value.specs.Tree.{Tree}
@@ -34,9 +35,14 @@ binding_of v = record { name = v.name; value = tree v.value }
 abbrev pub value_among : List Variable → List ℕ → Option Tree
 value_among others = value_of_name (map binding_of (reverse others))
 
+-- the variables that the program doesn't have
+abbrev pub others_of : Option (Box (Vec Variable Global) Global) → List Variable
+others_of None = []
+others_of (Some all) = all.value.items
+
 -- the variables that not every frame has
 abbrev pub own_variables : Variables → List ℕ → Option Tree
-own_variables variables = slot_value variables.own.names variables.own.values (value_among variables.others.items)
+own_variables variables = slot_value variables.own.names variables.own.values (value_among (others_of variables.others))
 
 -- the value that a folded name has
 unfoldable pub variables_of : Variables → List ℕ → Option Tree

@@ -105,6 +105,11 @@ impl GivenValues {
         Ok(Rc::new(self.alloc, self.shared.with_types()?)?)
     }
 
+    /// Returns the allocator.
+    pub(crate) fn alloc(&self) -> Global {
+        self.alloc
+    }
+
     /// Returns the value of a name.
     #[inline(always)]
     pub(crate) fn get(&self, given: Given) -> &Value

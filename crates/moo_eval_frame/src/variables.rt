@@ -10,7 +10,7 @@ ghost use Rattle.moo_eval_frame.specs.Variables.{called_variables};
 ghost use Rattle.moo_eval_slot.specs.Bindings.{bind, with_variable, value_of_name};
 ghost use Rattle.moo_eval_frame.specs.GivenValues.{given_values};
 ghost use Rattle.moo_eval_slot.specs.InnerPut.{IsInnerPut};
-ghost use Rattle.moo_eval_frame.specs.Seen.{value_among, own_variables, variables_of};
+ghost use Rattle.moo_eval_frame.specs.Seen.{others_of, value_among, own_variables, variables_of};
 ghost use Rattle.moo_eval_slot.specs.Held.{slot_value};
 ghost use Rattle.moo_eval_slot.specs.InnerPush.{IsInnerPush};
 ghost use Rattle.moo_syntax_ast.specs.declared.given.Given.TheVariants.{Player};
@@ -33,7 +33,7 @@ pub struct Variables {
     given: GivenValues,
     own: Slots,
     /// The newest last; it hides older ones of its name.
-    others: Vec<Variable>,
+    others: Option<Box<Vec<Variable>>>,
 }
 
 /// A variable that no statement of the program reads or sets.
@@ -48,7 +48,6 @@ impl Variables {
     /// and no others. The slots take the memory of a frame that has ended.
     #[inline(always)]
     pub fn begun(
-        alloc: Global,
         program: Program,
         given: GivenValues,
         memory: FrameMemory,
@@ -59,7 +58,7 @@ impl Variables {
         Ok(Variables {
             given,
             own,
-            others: Vec::new(alloc),
+            others: None,
         })
     }
 
@@ -236,10 +235,11 @@ impl Variables {
     {
         match self.own.slot_of(name) {
             Some(slot) => self.own.set(slot, value),
-            None => self.others.push(Variable {
-                name: name.text().try_clone()?,
-                value,
-            })?,
+            None => {
+                let name = name.text().try_clone()?;
+                let alloc = self.given.alloc();
+                push_other(alloc, &mut self.others, Variable { name, value })?;
+            }
         }
         Ok(())
     }
@@ -307,15 +307,43 @@ impl Variables {
 
     // Returns the value of a name that the program doesn't have.
     fn other(&self, name: &[u8]) -> Option<&Value>
-        ensures { option_map (λ v. tree v.now) result ≡ value_among self.now.others.items (folded name.now) }
+        ensures { option_map (λ v. tree v.now) result ≡ value_among (others_of self.now.others) (folded name.now) }
     {
-        let mut rest = self.others.as_slice();
-        while let Some((newest, older)) = rest.split_last() {
-            if is_named(&newest.name, name) {
-                return Some(&newest.value);
-            }
-            rest = older;
+        match &self.others {
+            Some(others) => newest(others, name),
+            None => None,
         }
-        None
     }
+}
+
+// Appends a variable to these, the newest last. Err is out of memory; then nothing has changed.
+fn push_other(
+    alloc: Global,
+    others: &mut Option<Box<Vec<Variable>>>,
+    variable: Variable,
+) -> Result<(), AllocError>
+    ensures { OnOk result (others_of others.new ≡ others_of others.old ++ variable ∷ []) }
+{
+    if let Some(others) = others {
+        others.push(variable)?;
+        return Ok(());
+    }
+    let mut first = Vec::new(alloc);
+    first.push(variable)?;
+    *others = Some(Box::new(alloc, first)?);
+    Ok(())
+}
+
+// Returns the value of the newest of these variables that has this name.
+fn newest<'a>(others: &'a [Variable], name: &[u8]) -> Option<&'a Value>
+    ensures { option_map (λ v. tree v.now) result ≡ value_among others.now (folded name.now) }
+{
+    let mut rest = others;
+    while let Some((newest, older)) = rest.split_last() {
+        if is_named(&newest.name, name) {
+            return Some(&newest.value);
+        }
+        rest = older;
+    }
+    None
 }

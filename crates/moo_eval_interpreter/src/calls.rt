@@ -205,7 +205,7 @@ fn run_called(
     } = called;
     let program = callee.running.program.try_clone()?;
     let mut running = Activation {
-        variables: Variables::begun(task.alloc(), program, given, memory)?,
+        variables: Variables::begun(program, given, memory)?,
         programmer: callee.running.programmer,
     };
     let statements = callee.running.program.code();

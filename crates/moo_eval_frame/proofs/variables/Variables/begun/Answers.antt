@@ -7,4 +7,4 @@ use Rattle.moo_eval_frame.proofs.variables.Variables.begun.Goals as goal
 
 pub returns : goal.returns
 unfolding variables_of
-returns c = rw c.new.ensures.items (ap (slot_value given_names (given_values c.args.given)) c.in_ok-own.ensures)
+returns c = ap (slot_value given_names (given_values c.args.given)) c.in_ok-own.ensures

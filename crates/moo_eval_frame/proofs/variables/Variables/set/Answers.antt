@@ -2,7 +2,7 @@ use Rattle.std.proofs.Common.{ap, ◌∙◌}
 use Rattle.moo_value.specs.View.{tree}
 use Rattle.moo_syntax_ast.specs.Given.{given_names}
 use Rattle.moo_eval_frame.specs.GivenValues.{given_values}
-use Rattle.moo_eval_frame.specs.Seen.{value_among, own_variables, variables_of}
+use Rattle.moo_eval_frame.specs.Seen.{others_of, value_among, own_variables, variables_of}
 use Rattle.moo_eval_slot.specs.Held.{slot_value}
 use Rattle.moo_eval_frame.proofs.GivenNames.{other_set}
 use Rattle.moo_eval_frame.proofs.Stored.{set_slot}
@@ -14,6 +14,6 @@ returns-in-Some c =
     let found = c.in-Some.ensures in
     let old = c.args.self.now in
     ap (slot_value given_names (given_values old.given))
-    (ap (λ own. slot_value own.names own.values (value_among old.others.items)) c.set.ensures
-    ∙ set_slot c.args.name.now c.args.value old.own.names old.own.values (value_among old.others.items) c.in-Some.slot found.there found.within)
+    (ap (λ own. slot_value own.names own.values (value_among (others_of old.others))) c.set.ensures
+    ∙ set_slot c.args.name.now c.args.value old.own.names old.own.values (value_among (others_of old.others)) c.in-Some.slot found.there found.within)
     ∙ other_set old.given (own_variables old) c.args.name.now found.own (tree c.args.value)

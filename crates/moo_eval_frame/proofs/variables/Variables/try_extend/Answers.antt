@@ -6,7 +6,7 @@ use Rattle.moo_value.specs.Tree.{string}
 use Rattle.moo_value.specs.declared.value.Value.TheVariants.{Str}
 use Rattle.moo_syntax_ast.specs.Given.{given_names}
 use Rattle.moo_eval_frame.specs.GivenValues.{given_values}
-use Rattle.moo_eval_frame.specs.Seen.{value_among, own_variables, variables_of}
+use Rattle.moo_eval_frame.specs.Seen.{others_of, value_among, own_variables, variables_of}
 use Rattle.moo_eval_slot.specs.Held.{slot_value}
 use Rattle.moo_eval_frame.proofs.GivenNames.{other_at, other_set}
 use Rattle.moo_eval_slot.proofs.Names.{slot_at}
@@ -20,7 +20,7 @@ returns-in-Some-clause-extended c =
     let old = c.args.self.now in
     let name = c.args.name.now in
     let slot = c.in-Some.slot in
-    let elsewhere = value_among old.others.items in
+    let elsewhere = value_among (others_of old.others) in
     IfOk-weaker c.try_extend.result _ _ (λ done h t.
     let p = h t in
     let new = p.0 ++ c.args.last.now in (
@@ -35,4 +35,4 @@ pub returns-in-Some-clause-kept : goal.returns-in-Some-clause-kept
 unfolding variables_of
 returns-in-Some-clause-kept c =
     let old = c.args.self.now in
-    IfOk-weaker c.try_extend.result _ _ (λ done h f. ap (λ own. slot_value given_names (given_values old.given) (slot_value own.names own.values (value_among old.others.items))) (h f)) c.try_extend.ensures.kept
+    IfOk-weaker c.try_extend.result _ _ (λ done h f. ap (λ own. slot_value given_names (given_values old.given) (slot_value own.names own.values (value_among (others_of old.others)))) (h f)) c.try_extend.ensures.kept

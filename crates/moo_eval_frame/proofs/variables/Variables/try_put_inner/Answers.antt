@@ -6,7 +6,7 @@ use Rattle.moo_value.specs.Tree.{list_of}
 use Rattle.moo_value.specs.declared.value.Value.TheVariants.{List as ListOf}
 use Rattle.moo_syntax_ast.specs.Given.{given_names}
 use Rattle.moo_eval_frame.specs.GivenValues.{given_values}
-use Rattle.moo_eval_frame.specs.Seen.{value_among, own_variables, variables_of}
+use Rattle.moo_eval_frame.specs.Seen.{others_of, value_among, own_variables, variables_of}
 use Rattle.moo_eval_slot.specs.Held.{slot_value}
 use Rattle.moo_eval_frame.proofs.GivenNames.{other_at, other_set}
 use Rattle.moo_eval_slot.proofs.InnerPuts.{if_ok_map}
@@ -21,7 +21,7 @@ returns-in-Some-clause-put c =
     let old = c.args.self.now in
     let name = c.args.name.now in
     let slot = c.in-Some.slot in
-    let elsewhere = value_among old.others.items in
+    let elsewhere = value_among (others_of old.others) in
     let n = to_z-of_z w32 c.args.number c.ranges.number in
     if_ok_map c.try_put_inner.result (λ done h. λ t.
     let p = h t in (
@@ -37,4 +37,4 @@ pub returns-in-Some-clause-kept : goal.returns-in-Some-clause-kept
 unfolding variables_of
 returns-in-Some-clause-kept c =
     let old = c.args.self.now in
-    if_ok_map c.try_put_inner.result (λ done h. λ f. ap (λ own. slot_value given_names (given_values old.given) (slot_value own.names own.values (value_among old.others.items))) (h f)) c.try_put_inner.ensures.kept
+    if_ok_map c.try_put_inner.result (λ done h. λ f. ap (λ own. slot_value given_names (given_values old.given) (slot_value own.names own.values (value_among (others_of old.others)))) (h f)) c.try_put_inner.ensures.kept

@@ -4,7 +4,7 @@ use Rattle.moo_value.specs.Tree.{integer}
 use Rattle.moo_value.specs.declared.value.Value.TheVariants.{Int}
 use Rattle.moo_syntax_ast.specs.Given.{given_names}
 use Rattle.moo_eval_frame.specs.GivenValues.{given_values}
-use Rattle.moo_eval_frame.specs.Seen.{value_among, own_variables, variables_of}
+use Rattle.moo_eval_frame.specs.Seen.{others_of, value_among, own_variables, variables_of}
 use Rattle.moo_eval_slot.specs.Held.{slot_value}
 use Rattle.moo_eval_frame.proofs.GivenNames.{other_set}
 use Rattle.moo_eval_frame.proofs.Stored.{set_slot}
@@ -17,6 +17,6 @@ returns-in-Some-clause-put c = λ t.
     let old = c.args.self.now in
     let n = to_z-of_z w32 c.args.number c.ranges.number in
     ap (slot_value given_names (given_values old.given))
-    (ap (λ own. slot_value own.names own.values (value_among old.others.items)) (simp n at c.set_integer.ensures)
-    ∙ set_slot c.args.name.now (Int c.args.number) old.own.names old.own.values (value_among old.others.items) c.in-Some.slot found.there found.within)
+    (ap (λ own. slot_value own.names own.values (value_among (others_of old.others))) (simp n at c.set_integer.ensures)
+    ∙ set_slot c.args.name.now (Int c.args.number) old.own.names old.own.values (value_among (others_of old.others)) c.in-Some.slot found.there found.within)
     ∙ other_set old.given (own_variables old) c.args.name.now found.own (integer c.args.number)

@@ -1,5 +1,5 @@
 -- Places in lists.
-use Rattle.std.proofs.Common.{◌≡◌, ℕ, zero, suc, ◌+◌, ◌-◌, ◌<◌, ◌≤◌, ℤ, pos, negsuc, List, [], ◌∷◌, length, add-one, take, drop, get_or, map, Bool, true, false, cond, Some, None, refl, sym, ap, ◌∙◌, arith, ltb, Ok, Err}
+use Rattle.std.proofs.Common.{◌≡◌, ℕ, zero, suc, ◌+◌, ◌-◌, ◌<◌, ◌≤◌, ℤ, pos, negsuc, Option, IfSome, List, [], ◌∷◌, length, add-one, take, drop, get_or, map, Bool, true, false, cond, Some, None, refl, sym, ap, ◌∙◌, arith, ltb, Ok, Err}
 use Rattle.std.specs.Prelude.{slice_get, slice_range, position, int_lt, int_le, unsigned_abs, ◌&&◌, option_map, not}
 use Rattle.std.specs.List.{prefix_len}
 use Rattle.std.proofs.lemmas.Option.{cond_some, slice_get_past, slice_get-map, slice_get_read, slice_get-get_or}
@@ -111,3 +111,7 @@ range_in_list ts low high n a b e p =
     ap (λ us. or_range (part us low high) (λ us. Ok (list_of us))) (trees_of-elements_of ts)
     ∙ ap (λ x. or_range x (λ us. Ok (list_of us))) (part-bounds ts low high)
     ∙ ap (λ x. or_range (option_map (λ (b : ℕ × ℕ). slice_range ts b.0 b.1) x) (λ us. Ok (list_of us))) (sym (p ∙ ap (bounds low high) e))
+
+pub list_part_bounds : (ts : List Tree) (low high : ℤ) (n : ℕ) (found : Option (ℕ × ℕ)) → n ≡ length ts → found ≡ bounds low high n → IfSome found (λ b. range_of (list_of ts) (integer low) (integer high) ≡ Ok (list_of (slice_range ts b.0 b.1)))
+list_part_bounds ts low high n None e p = tt
+list_part_bounds ts low high n (Some (a, b)) e p = range_in_list ts low high n a b e p

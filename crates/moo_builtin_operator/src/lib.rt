@@ -15,4 +15,4 @@ pub use comparison::{is_decided, is_equal, is_true};
 pub use fault::OperationFault;
 pub use made::list;
 pub use operator::{binary, unary};
-pub use place::{index, length_of, range, spliced};
+pub use place::{index, length_of, list_bounds, range, spliced};

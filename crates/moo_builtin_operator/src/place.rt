@@ -61,6 +61,19 @@ pub fn range(
     }
 }
 
+/// Returns the part of a list that `list[low..high]` is: how many elements come before it, and how many up to its end.
+/// Returns `None` if the places aren't numbers, or aren't those of a part.
+pub fn list_bounds(list: &MooList, low: &Value, high: &Value) -> Option<(usize, usize)>
+    ensures part { IfSome result (λ b. range_of (list_of list.now) (tree low.now) (tree high.now) ≡ Ok (list_of (slice_range list.now b.0 b.1))) }
+    ensures order { IfSome result (λ b. b.0 ≤ b.1) }
+    ensures within { IfSome result (λ b. b.1 ≤ length list.now) }
+{
+    match (low, high) {
+        (Value::Int(low), Value::Int(high)) => bounds(*low, *high, list.len()),
+        _ => None,
+    }
+}
+
 /// Returns the length of a string or a list, the value of `$` inside its index.
 pub fn length_of(base: &Value) -> Result<Value, OperationFault>
     ensures { Gives result (length_of (tree base.now)) }

@@ -1,7 +1,7 @@
 -- Bounds of containers that are rebuilt.
 use Rattle.std.proofs.Common.{◌≡◌, ℕ, zero, suc, ◌+◌, ◌-◌, ◌≤◌, ◌<◌, max, ℤ, List, [], ◌∷◌, ◌++◌, length, take, drop, set, get_or, Bool, true, false, cond, Some, None, Option, IfSome, Ok, Err, IsTrue, refl, sym, ap, subst, ◌∙◌, arith, length-append}
-use Rattle.std.specs.Prelude.{is_ok, is_some}
-use Rattle.std.proofs.lemmas.List.{length-take, length-drop}
+use Rattle.std.specs.Prelude.{is_ok, is_some, slice_range}
+use Rattle.std.proofs.lemmas.List.{length-take, length-drop, drop-take}
 use Rattle.moo_value.specs.declared.error_code.ErrorCode.TheVariants.{Quota, InvalidArgument}
 use Rattle.moo_value.specs.declared.value.Value.{Value}
 use Rattle.moo_value.specs.Tree.{Tree, integer, string, list, list_of, trees_of}
@@ -10,6 +10,7 @@ use Rattle.moo_value.specs.Size.{weight, depth, list_weight, list_depth, IsWithi
 use Rattle.moo_value.specs.Splice.{spliced}
 use Rattle.moo_value.specs.View.{tree, trees}
 use Rattle.moo_value.proofs.Lists.{list_weight-push, list_depth-push}
+use Rattle.moo_value.proofs.Parts.{list_weight-take, list_weight-drop, list_depth-take, list_depth-drop, trees_part}
 use Rattle.moo_value.proofs.Replaced.{tree_in, list_weight-set, weight-le-list_weight, list_depth-set, list_depth-around}
 use Rattle.moo_builtin_operator.specs.Answer.{limited}
 use Rattle.moo_builtin_operator.specs.Places.{or_range}
@@ -46,13 +47,13 @@ pub chosen : {A E : Type 0} (b : Bool) (t w : A) (e : E) → cond b (Ok t) (Err 
 chosen true t w e h = cc
 chosen false t w e h = absurd cc
 
-set_weight : (ts : List Tree) (k : ℕ) (v : Tree) → list_weight (set ts k v) ≤ list_weight ts + weight v
+pub set_weight : (ts : List Tree) (k : ℕ) (v : Tree) → list_weight (set ts k v) ≤ list_weight ts + weight v
 set_weight [] zero v = omega arith
 set_weight [] (suc k) v = omega arith
 set_weight (t ∷ ts) zero v = omega arith
 set_weight (t ∷ ts) (suc k) v = omega (arith, set_weight ts k v)
 
-set_depth : (ts : List Tree) (k : ℕ) (v : Tree) → list_depth (set ts k v) ≤ max (list_depth ts) (depth v + 1)
+pub set_depth : (ts : List Tree) (k : ℕ) (v : Tree) → list_depth (set ts k v) ≤ max (list_depth ts) (depth v + 1)
 set_depth [] zero v = omega arith
 set_depth [] (suc k) v = omega arith
 set_depth (t ∷ ts) zero v = omega arith
@@ -104,3 +105,16 @@ longer_within ts t w d e f = record { weighs = omega (arith, e, list_weight-push
 pub given : {A : Type 0} {P : A → Type 0} (o : Option A) → IfSome o P → true ≡ is_some o → (a : A) × P a
 given None h e = absurd cc
 given (Some a) h e = (a, h)
+
+-- a part of a list is no heavier and no deeper than the list
+pub part_bounds : (ts : List Tree) (low high w d : ℕ) → w ≡ list_weight ts → d ≡ list_depth ts → IsWithin w d (list_of (slice_range ts low high))
+part_bounds ts low high w d e f = record {
+  weighs = omega (arith, e, list_weight-take (high - low) (drop low ts), list_weight-drop low ts);
+  nests = omega (arith, f, list_depth-take (high - low) (drop low ts), list_depth-drop low ts);
+}
+
+-- the first elements without some at the front
+pub moved_trees : (vs : List Value) (low high : ℕ) → low ≤ high → trees (drop low (take high vs)) ≡ slice_range (trees vs) low high
+moved_trees vs low high h =
+    let whole : high ≡ low + (high - low) = omega (arith, h) in
+    ap (λ k. trees (drop low (take k vs))) whole ∙ ap trees (drop-take low (high - low) vs) ∙ trees_part vs (trees vs) low high refl

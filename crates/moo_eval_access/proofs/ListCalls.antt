@@ -1,11 +1,17 @@
 -- Lists that functions on lists make.
-use Rattle.std.proofs.Common.{◌≡◌, ℕ, ℤ, zero, suc, ◌+◌, ◌-◌, ◌≤◌, List, [], ◌∷◌, ◌++◌, length, Option, Some, None, Result, Ok, Err, refl, ap, sym, arith}
+use Rattle.std.proofs.Common.{◌≡◌, ℕ, ℤ, zero, suc, ◌+◌, ◌-◌, ◌≤◌, max, List, [], ◌∷◌, ◌++◌, length, Option, Some, None, Result, Ok, Err, IfSome, true, refl, ap, sym, arith}
 use Rattle.std.specs.Prelude.{insert, remove, slice_set, position, is_some, IsTrue}
 use Rattle.moo_value.specs.declared.value.Value.{Value}
-use Rattle.moo_value.specs.Tree.{Tree, integer, list_of, elements_of, trees_of}
-use Rattle.moo_value.specs.TreeCode.{trees_of-elements_of}
+use Rattle.moo_value.specs.Tree.{Tree, Elements, integer, list, list_of, elements_of, trees_of}
+use Rattle.moo_value.specs.TreeCode.{trees_of-elements_of, elements_of-trees_of}
 use Rattle.moo_value.specs.View.{tree}
-use Rattle.moo_value.specs.Size.{IsWithinLimits, weight, total_weight, greatest_depth}
+use Rattle.moo_value.specs.Size.{IsWithinLimits, weight, depth, total_weight, greatest_depth}
+use Rattle.moo_value.specs.declared.error_code.ErrorCode.TheVariants.{Quota}
+use Rattle.moo_builtin_operator.specs.Assignment.{before_place}
+use Rattle.moo_builtin_operator.specs.Answer.{limited}
+use Rattle.moo_builtin_operator.specs.Places.{or_range}
+use Rattle.moo_eval_access.specs.Bounds.{IsWithin}
+use Rattle.moo_eval_access.proofs.Bounded.{chosen, set_weight, set_depth}
 use Rattle.moo_syntax_function.specs.declared.function.Function.{Function}
 use Rattle.moo_syntax_function.specs.declared.function.Function.TheVariants.{ListAppend, ListInsert, ListSet, ListDelete, SetAdd, SetRemove}
 use Rattle.moo_builtin_operator.specs.declared.fault.OperationFault.{OperationFault}
@@ -119,3 +125,58 @@ value_is h = rw (answer_is h) refl
 
 pub call_makes : (f : Function) (args : List Tree) → HasList f args → MakesList f args (value_of_call f args)
 call_makes f args (w, h) = rw (value_is h) h
+
+-- the list that is made is no heavier than its two arguments together, and no deeper than one with the second as an element more
+limited_is : (t w : Tree) → limited t ≡ Ok w → t ≡ w
+limited_is t w h = chosen _ t w _ h
+
+module _ (es : Elements) (t w : Tree) where
+  back : elements_of (trees_of es) ≡ es
+  back = elements_of-trees_of es
+
+  inserted_bounds : (k : ℕ) → put_in (trees_of es) k t ≡ Ok w → IsWithin (weight (list es) + weight t) (max (depth (list es)) (depth t + 1)) w
+  inserted_bounds k h = rw (← limited_is (list_of (insert (trees_of es) k t)) w h)
+      (record { weighs = omega (arith, insert_lighter (trees_of es) k t, ap total_weight back); nests = omega (arith, insert_shallower (trees_of es) k t, ap greatest_depth back) })
+
+  removed_bounds : (k : ℕ) → taken_out (trees_of es) k ≡ Ok w → IsWithin (weight (list es) + weight t) (max (depth (list es)) (depth t + 1)) w
+  removed_bounds k h = rw (← limited_is (list_of (remove (trees_of es) k)) w h)
+      (record { weighs = omega (arith, remove_lighter (trees_of es) k, ap total_weight back); nests = omega (arith, remove_shallower (trees_of es) k, ap greatest_depth back) })
+
+  same_bounds : list_of (trees_of es) ≡ w → IsWithin (weight (list es) + weight t) (max (depth (list es)) (depth t + 1)) w
+  same_bounds h = rw (← h) (record { weighs = omega (arith, ap total_weight back); nests = omega (arith, ap greatest_depth back) })
+
+  set_bounds : (found : Option ℕ) → or_range found (λ k. limited (list_of (slice_set (trees_of es) k t))) ≡ Ok w → IsWithin (weight (list es) + weight t) (max (depth (list es)) (depth t + 1)) w
+  set_bounds None h = absurd cc
+  set_bounds (Some k) h = rw (← limited_is (list_of (slice_set (trees_of es) k t)) w h)
+      (record { weighs = omega (arith, set_weight (trees_of es) k t, ap total_weight back); nests = omega (arith, set_depth (trees_of es) k t, ap greatest_depth back) })
+
+  deleted_bounds : (found : Option ℕ) → or_range found (taken_out (trees_of es)) ≡ Ok w → IsWithin (weight (list es) + weight t) (max (depth (list es)) (depth t + 1)) w
+  deleted_bounds None h = absurd cc
+  deleted_bounds (Some k) h = removed_bounds k h
+
+  without_bounds : (found : Option ℕ) → without_found (trees_of es) found ≡ Ok w → IsWithin (weight (list es) + weight t) (max (depth (list es)) (depth t + 1)) w
+  without_bounds None h = same_bounds (chosen true (list_of (trees_of es)) w Quota h)
+  without_bounds (Some k) h = removed_bounds k h
+
+  added_bounds : (found : Option ℕ) → position (equal t) (trees_of es) ≡ found → with_member (trees_of es) t ≡ Ok w → IsWithin (weight (list es) + weight t) (max (depth (list es)) (depth t + 1)) w
+  added_bounds None e h = inserted_bounds (length (trees_of es)) (rw e at h)
+  added_bounds (Some k) e h = same_bounds (chosen true (list_of (trees_of es)) w Quota (rw e at h))
+
+makes_within : {f : Function} {es : Elements} {t w : Tree} {rest : List Tree} → MakesList f (list es ∷ t ∷ rest) w → IsWithin (weight (list es) + weight t) (max (depth (list es)) (depth t + 1)) w
+makes_within {es = es} {t = t} {w = w} (appends e) = inserted_bounds es t w (length (trees_of es)) e
+makes_within {es = es} {t = t} {w = w} (inserts e) = inserted_bounds es t w 0 e
+makes_within {es = es} {t = t} {w = w} (appends_at {i = i} e) = inserted_bounds es t w (brought_to i (length (trees_of es))) e
+makes_within {es = es} {t = t} {w = w} (inserts_at {i = i} e) = inserted_bounds es t w (brought_to i (length (trees_of es) + 1) - 1) e
+makes_within {es = es} {t = t} {w = w} (adds e) = added_bounds es t w (position (equal t) (trees_of es)) refl e
+makes_within {es = es} {t = t} {w = w} (sets {i = i} e) = set_bounds es t w (before_place i (length (trees_of es))) e
+makes_within {es = es} {w = w} (deletes {i = i} e) = deleted_bounds es (integer i) w (before_place i (length (trees_of es))) e
+makes_within {es = es} {t = t} {w = w} (removes e) = without_bounds es t w (position (equal t) (trees_of es)) e
+
+-- so are bounds that are as great
+pub made_within : (f : Function) (ts : List Tree) (t w : Tree) (rest : List Tree) (heaviest deepest : ℕ) → heaviest ≡ weight (list_of ts) + weight t → deepest ≡ max (depth (list_of ts)) (depth t + 1) → MakesList f (list_of ts ∷ t ∷ rest) w → IsWithin heaviest deepest w
+made_within f ts t w rest heaviest deepest e d h = let b = makes_within h in record { weighs = omega (arith, e, b.weighs); nests = omega (arith, d, b.nests) }
+
+-- and those of a call
+pub call_within : (found : Option (ℕ × ℕ)) (f : Function) (args : List Tree) (v : Tree) → v ≡ value_of_call f args → HasList f args → IfSome found (λ b. (g : Function) (w : Tree) → MakesList g args w → IsWithin b.0 b.1 w) → IfSome found (λ b. IsWithin b.0 b.1 v)
+call_within None f args v is has h = tt
+call_within (Some b) f args v is has h = rw is (h f (value_of_call f args) (call_makes f args has))

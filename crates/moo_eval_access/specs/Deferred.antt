@@ -9,3 +9,4 @@ abbrev pub deferred_tree : Deferred → Tree
 deferred_tree (deferred_case.Value v) = tree v
 deferred_tree (deferred_case.Longer elements) = list_of elements
 deferred_tree (deferred_case.Called value) = value
+deferred_tree (deferred_case.Part elements) = list_of elements

@@ -1,6 +1,6 @@
 //! Values that are stored in a place whose old value is let go of first, as `l[i] = {@l[i], x};` and `o.p = setadd(o.p, x);`
 //! do. So a list that nothing else holds is changed in place.
-ghost use Rattle.std.specs.Prelude.{◌≡◌, Ok, Err, IsTrue, IfOk, IfErr, OnOk};
+ghost use Rattle.std.specs.Prelude.{◌≡◌, Ok, Err, IsTrue, IfOk, IfErr, IfSome, OnOk};
 ghost use Rattle.moo_value.specs.Tree.{Tree, string};
 ghost use Rattle.moo_value.specs.View.{tree};
 ghost use Rattle.moo_builtin_operator.specs.Assignment.{with_index_of};
@@ -8,10 +8,12 @@ ghost use Rattle.moo_eval_frame.specs.Outcome.{answers};
 ghost use Rattle.moo_eval_slot.specs.Bindings.{bind, with_variable};
 ghost use Rattle.moo_eval_frame.specs.Seen.{variables_of, failure_of, seen_answer, seen_by, HadMemoryIn, IsKnownFailure};
 ghost use Rattle.moo_eval_access.specs.Calls.{write_property, write_result};
+ghost use Rattle.moo_eval_access.specs.Bounds.{IsWithin};
 ghost use Rattle.moo_eval_access.specs.Deferred.{deferred_tree};
 
 use crate::bounds::element_bounds;
 use crate::list_call::ListCall;
+use crate::list_part::ListPart;
 use crate::longer_list::LongerList;
 use crate::object::{drop_property, drop_written, write_property, write_written};
 use crate::place::{set_at, set_property_at};
@@ -28,6 +30,7 @@ pub enum Deferred {
     Value(Value),
     Longer(LongerList),
     Called(ListCall),
+    Part(ListPart),
 }
 
 impl Deferred {
@@ -44,18 +47,19 @@ impl Deferred {
             Deferred::Value(value) => Ok(value),
             Deferred::Longer(longer) => Ok(Value::List(longer.into_list(alloc)?)),
             Deferred::Called(call) => call.into_value(alloc),
+            Deferred::Part(part) => Ok(Value::List(part.into_list(alloc)?)),
         }
     }
 
-    // Returns whether a list surely takes the longer list at a place. False if the longer list may get it past the limits,
+    // Returns whether a list surely takes the changed list at a place. False if the changed list may get it past the limits,
     // and for other values.
     fn is_taken_at(&self, container: &Value, place: &Value) -> bool
         ensures { IsTrue result → (w : Tree) × (with_index_of (tree container.now) (tree place.now) (deferred_tree self.now) ≡ Ok w) }
     {
-        let (Deferred::Longer(longer), Value::List(outer)) = (self, container) else {
+        let Value::List(outer) = container else {
             return false;
         };
-        match longer.bounds() {
+        match self.bounds() {
             Some((heaviest, deepest)) => {
                 element_bounds(outer, place, heaviest, deepest).is_some()
             }
@@ -63,10 +67,25 @@ impl Deferred {
         }
     }
 
+    // Returns bounds of the weight and the depth of a list that is still to be changed, or `None` for other values.
+    fn bounds(&self) -> Option<(u32, u32)>
+        ensures { IfSome result (λ b. IsWithin b.0 b.1 (deferred_tree self.now)) }
+    {
+        match self {
+            Deferred::Value(_) => None,
+            Deferred::Longer(longer) => longer.bounds(),
+            Deferred::Called(call) => call.bounds(),
+            Deferred::Part(part) => Some(part.bounds()),
+        }
+    }
+
+    // Returns the depth of the list that is still to be changed, or 0 for other values.
     fn depth(&self) -> u32 {
         match self {
+            Deferred::Value(_) => 0,
             Deferred::Longer(longer) => longer.depth(),
-            _ => 0,
+            Deferred::Called(call) => call.depth(),
+            Deferred::Part(part) => part.depth(),
         }
     }
 

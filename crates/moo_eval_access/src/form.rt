@@ -1,6 +1,6 @@
 //! Forms of expressions that the evaluator runs in place, as `{@x, e}` and `o.p = e`.
 ghost use Rattle.std.specs.Prelude.{◌≡◌, None, IfSome, ◌<◌, ◌-◌, Some, ◌∷◌, []};
-ghost use Rattle.moo_syntax_ast.specs.Tree.{variable, assign, list, splice, element, no_items, literal, property, Items, call};
+ghost use Rattle.moo_syntax_ast.specs.Tree.{variable, assign, list, splice, element, no_items, literal, property, Items, call, range};
 ghost use Rattle.moo_syntax_lower.specs.Source.{source, source_items, with_source};
 ghost use Rattle.moo_eval_access.specs.Form.{form_source};
 ghost use Rattle.moo_syntax_ast.specs.declared.tree.Literal.TheVariants.{Str};
@@ -21,6 +21,8 @@ pub enum ListForm<'a> {
     Extended(&'a Node, &'a [NodeItem]),
     /// `f(list, ..)` for a built-in function that makes a list of a list, as `listappend`.
     Called(&'a FunctionName, &'a [NodeItem]),
+    /// `list[low..high]`
+    Part(&'a Node, &'a Node, &'a Node),
 }
 
 /// Returns the parts, if a node has one of these forms.
@@ -31,6 +33,7 @@ pub fn list_form(node: &Node) -> Option<ListForm<'_>>
     match node {
         Node::List(items) => items_form(items),
         Node::Call(called, items) if makes_list(called) => Some(ListForm::Called(called, items)),
+        Node::Range(base, low, high) => Some(ListForm::Part(base, low, high)),
         _ => None,
     }
 }
@@ -52,14 +55,32 @@ fn items_form(items: &[NodeItem]) -> Option<ListForm<'_>>
     }
 }
 
-/// Is true for an expression of a `ListForm`, and for a conditional expression one of whose two results is one. Picks
-/// the way of an assignment; each way has the same meaning.
+/// Is true for an expression of a `ListForm`, and for a conditional expression one of whose two results is one. Of ranges
+/// only those of a property count, as in `o.l = o.l[2..$]`. Picks the way of an assignment; each way has the same meaning.
 #[inline(always)]
 pub fn is_list_change(node: &Node) -> bool {
     match node {
         Node::List(items) => has_splice_at_end(items),
         Node::Call(called, _) => makes_list(called),
         Node::Conditional(_, first, second) => is_changed_list(first) || is_changed_list(second),
+        Node::Range(base, _, _) => matches!(&**base, Node::Property(_, _)),
+        _ => false,
+    }
+}
+
+/// Is true for a range of the variable with this name, as in `l[2..$]`. Picks the way of an assignment, as
+/// `is_list_change` does.
+#[inline(always)]
+pub fn is_part_of(name: &Name, node: &Node) -> bool {
+    match node {
+        Node::Range(base, _, _) => is_known_variable(name, base),
+        _ => false,
+    }
+}
+
+fn is_known_variable(name: &Name, node: &Node) -> bool {
+    match node {
+        Node::Variable(own) => own.is_known_as(name),
         _ => false,
     }
 }

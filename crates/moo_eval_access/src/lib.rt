@@ -13,6 +13,7 @@ mod growth;
 mod holding;
 mod integers;
 mod list_call;
+mod list_part;
 mod longer_list;
 mod object;
 mod place;
@@ -29,10 +30,13 @@ pub use entering::{
     enter_written, has_frame_left, verb_frame, verb_there,
 };
 pub use fault::failed;
-pub use form::{ListForm, as_appended, as_set_property, as_text, is_list_change, list_form};
+pub use form::{
+    ListForm, as_appended, as_set_property, as_text, is_list_change, is_part_of, list_form,
+};
 pub use growth::set_sum;
 pub use integers::{binary, binary_in_place, number_of};
 pub use list_call::{ListCall, set_called};
+pub use list_part::{ListPart, deferred_range};
 pub use longer_list::LongerList;
 pub use object::{
     drop_property, drop_written, read_known, read_property, read_written, write_property,

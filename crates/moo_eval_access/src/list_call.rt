@@ -1,13 +1,15 @@
 //! Calls of a built-in function that change a list, as `listappend(l, x)`.
-ghost use Rattle.std.specs.Prelude.{◌≡◌, [], ◌∷◌, Some, IsTrue, IfOk, IfErr};
-ghost use Rattle.moo_value.specs.Tree.{integer, list_of};
+ghost use Rattle.std.specs.Prelude.{◌≡◌, [], ◌∷◌, Some, IsTrue, IfOk, IfErr, IfSome};
+ghost use Rattle.moo_value.specs.Tree.{Tree, integer, list_of};
 ghost use Rattle.moo_value.specs.View.{tree, trees};
 ghost use Rattle.moo_builtin_operator.specs.declared.fault.OperationFault.TheVariants.{Memory};
 ghost use Rattle.moo_syntax_function.specs.declared.function.Function.{Function};
 ghost use Rattle.moo_eval_slot.specs.Bindings.{bind, with_variable};
 ghost use Rattle.moo_eval_frame.specs.Seen.{variables_of};
+ghost use Rattle.moo_eval_access.specs.Bounds.{IsWithin};
 ghost use Rattle.moo_eval_access.specs.ListCall.{MakesList, HasList, HasPlace, Takes, value_of_call};
 
+use crate::longer_list::bounds_with;
 use moo_builtin_operator::{OperationFault, before_place};
 use moo_builtin_value::plain_answer;
 use moo_eval_frame::Variables;
@@ -60,6 +62,32 @@ impl ListCall {
         let ListCall { function, args } = self;
         let mut args = args;
         make_list(alloc, function, &mut args)
+    }
+
+    // Returns bounds of the weight and the depth of the list that the call makes.
+    pub(crate) fn bounds(&self) -> Option<(u32, u32)>
+        ensures { IfSome result (λ b. IsWithin b.0 b.1 self.now) }
+    {
+        bounds_of(&self.args)
+    }
+
+    // Returns the depth of the list that the call changes.
+    pub(crate) fn depth(&self) -> u32 {
+        match self.args.as_slice() {
+            [Value::List(list), ..] => list.depth(),
+            _ => 0,
+        }
+    }
+}
+
+// Returns bounds of the weight and the depth of any list that a function makes of these arguments.
+fn bounds_of(args: &[Value]) -> Option<(u32, u32)>
+    ensures { IfSome result (λ b. (f : Function) (w : Tree) → MakesList f (trees args.now) w → IsWithin b.0 b.1 w) }
+{
+    match args {
+        [Value::List(list), value] => Some(bounds_with(list, value)),
+        [Value::List(list), value, _] => Some(bounds_with(list, value)),
+        _ => None,
     }
 }
 

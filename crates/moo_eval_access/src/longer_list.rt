@@ -1,11 +1,13 @@
 //! Lists that become longer.
-ghost use Rattle.std.specs.Prelude.{◌≡◌, ◌++◌, ◌∷◌, [], Ok, Err, IfOk, IfSome, IfNone};
+ghost use Rattle.std.specs.Prelude.{◌≡◌, ◌++◌, ◌∷◌, [], List, Ok, Err, IfOk, IfSome, IfNone};
 ghost use Rattle.moo_value.specs.declared.error_code.ErrorCode.TheVariants.{Quota};
-ghost use Rattle.moo_value.specs.Tree.{list_of};
+ghost use Rattle.moo_value.specs.Tree.{Tree, list_of};
 ghost use Rattle.moo_value.specs.Size.{IsWithinLimits};
 ghost use Rattle.moo_value.specs.View.{tree, trees};
 ghost use Rattle.moo_builtin_operator.specs.Places.{made_list};
+ghost use Rattle.moo_syntax_function.specs.declared.function.Function.{Function};
 ghost use Rattle.moo_eval_access.specs.Bounds.{IsWithin};
+ghost use Rattle.moo_eval_access.specs.ListCall.{MakesList};
 
 use moo_eval_slot::{has_room_for, prepended, pushed};
 use moo_value::{DEPTH_LIMIT, ListLimit, MooList, Value, WEIGHT_LIMIT};
@@ -102,16 +104,18 @@ impl LongerList {
         }
     }
 
-    /// Returns the depth of the list that becomes longer.
+    // Returns the depth of the list that becomes longer.
     pub(crate) fn depth(&self) -> u32 {
         self.list.depth()
     }
 }
 
-// Returns the weight and the depth of a list with one value more.
-fn bounds_with(list: &MooList, value: &Value) -> (u32, u32)
+// Returns the weight and the depth of a list with one value more. They are bounds of any list that a function makes of the
+// list and the value.
+pub(crate) fn bounds_with(list: &MooList, value: &Value) -> (u32, u32)
     ensures first { IsWithin result.0 result.1 (list_of (tree value.now ∷ list.now)) }
     ensures last { IsWithin result.0 result.1 (list_of (list.now ++ tree value.now ∷ [])) }
+    ensures made { (f : Function) (rest : List Tree) (w : Tree) → MakesList f (list_of list.now ∷ tree value.now ∷ rest) w → IsWithin result.0 result.1 w }
 {
     let weight = list.weight() + value.weight();
     let depth = list.depth().max(value.depth() + 1);

@@ -40,7 +40,7 @@ pub(crate) fn assign(
     ensures ticks { task.new.ticks_left ≤ task.old.ticks_left }
 {
     match target {
-        Node::Variable(name) if is_list_change(value) => {
+        Node::Variable(name) if is_own_change(name, value) => {
             assign_changed(task, world, active, stack, indexed, name, value)
         }
         Node::Variable(name) => {
@@ -50,6 +50,23 @@ pub(crate) fn assign(
             Ok(value)
         }
         _ => assign_path(task, world, active, stack, indexed, target, value),
+    }
+}
+
+// Is true if the value of a node is a list that may be changed in place once the variable with this name lets go of its
+// value. Picks the way of an assignment; each way has the same meaning.
+#[inline(always)]
+fn is_own_change(name: &Name, value: &Node) -> bool {
+    match value {
+        Node::Range(base, _, _) => is_variable(name, base),
+        _ => is_list_change(value),
+    }
+}
+
+fn is_variable(name: &Name, node: &Node) -> bool {
+    match node {
+        Node::Variable(own) => own.is_spelled_as(name),
+        _ => false,
     }
 }
 
@@ -111,7 +128,7 @@ pub(crate) fn assign_value(
     ensures ticks { task.new.ticks_left ≤ task.old.ticks_left }
 {
     task.take_tick(active, stack)?;
-    if is_list_change(value) {
+    if is_own_change(name, value) {
         let value = evaluate_deferred(task, world, active, stack, None, value)?;
         set_deferred(task.alloc(), &mut active.variables, name, value)?;
         return Ok(Flow::Next);

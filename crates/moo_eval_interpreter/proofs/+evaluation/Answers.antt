@@ -1446,8 +1446,8 @@ pub assignment::assign_changed-returns-in_err-value-clause-meaning : goal.assign
 assignment::assign_changed-returns-in_err-value-clause-meaning t c =
     let p = err_from_is_err_and c.from_residual.result c.from_residual.ensures.1 in rw (p.1, p.2) (λ k. unassigned (c.in_err-value.ensures.err k))
 
-pub assignment::assign_value-returns-then-is_list_change-clause-meaning : goal.assignment::assign_value-returns-then-is_list_change-clause-meaning
-assignment::assign_value-returns-then-is_list_change-clause-meaning t c =
+pub assignment::assign_value-returns-then-is_own_change-clause-meaning : goal.assignment::assign_value-returns-then-is_own_change-clause-meaning
+assignment::assign_value-returns-then-is_own_change-clause-meaning t c =
     λ k. performed c.in_ok-take_tick.ensures.taken (assigned (rw c.in_ok-take_tick.ensures.left at c.in_ok-value.ensures.ok) (same_state (sym c.in_ok-set_deferred.ensures) refl))
 
 pub assignment::assign_value-returns-in_err-value-clause-meaning : goal.assignment::assign_value-returns-in_err-value-clause-meaning
@@ -1489,6 +1489,26 @@ deferred::defer-returns-in-Extended-clause-meaning t c =
 pub deferred::defer-returns-in-Called-clause-meaning : goal.deferred::defer-returns-in-Called-clause-meaning
 deferred::defer-returns-in-Called-clause-meaning t c =
     λ k. rw c.in-Called.is (c.defer_call.ensures.meaning k)
+
+pub deferred::defer-returns-in-Part-clause-meaning : goal.deferred::defer-returns-in-Part-clause-meaning
+deferred::defer-returns-in-Part-clause-meaning t c =
+    λ k. rw c.in-Part.is (c.defer_range.ensures.meaning k)
+
+pub deferred::defer_range-returns-clause-meaning : goal.deferred::defer_range-returns-clause-meaning
+deferred::defer_range-returns-clause-meaning t c =
+    λ k. applies (element_then (c.in_ok-base.ensures.meaning tt) no_more refl) (element_then (c.in_ok-low.ensures.meaning tt) (element_then (c.in_ok-high.ensures.meaning tt) no_more refl) refl) (range_is (c.computed_range.ensures k))
+
+pub deferred::defer_range-returns-in_err-base-clause-meaning : goal.deferred::defer_range-returns-in_err-base-clause-meaning
+deferred::defer_range-returns-in_err-base-clause-meaning t c =
+    let p = err_from_is_err_and c.from_residual.result c.from_residual.ensures.1 in rw (p.1, p.2) (λ k. operands_end (element_stops (c.in_err-base.ensures.meaning k)))
+
+pub deferred::defer_range-returns-in_err-low-clause-meaning : goal.deferred::defer_range-returns-in_err-low-clause-meaning
+deferred::defer_range-returns-in_err-low-clause-meaning t c =
+    let p = err_from_is_err_and c.from_residual-in_err-low.result c.from_residual-in_err-low.ensures.1 in rw (p.1, p.2) (λ k. places_end (element_then (c.in_ok-base.ensures.meaning tt) no_more refl) (element_stops (c.in_err-low.ensures.meaning k)))
+
+pub deferred::defer_range-returns-in_err-high-clause-meaning : goal.deferred::defer_range-returns-in_err-high-clause-meaning
+deferred::defer_range-returns-in_err-high-clause-meaning t c =
+    let p = err_from_is_err_and c.from_residual-in_err-high.result c.from_residual-in_err-high.ensures.1 in rw (p.1, p.2) (λ k. places_end (element_then (c.in_ok-base.ensures.meaning tt) no_more refl) (element_then (c.in_ok-low.ensures.meaning tt) (element_stops (c.in_err-high.ensures.meaning k)) refl))
 
 pub deferred::defer_appended-returns-in_err-found-clause-meaning : goal.deferred::defer_appended-returns-in_err-found-clause-meaning
 deferred::defer_appended-returns-in_err-found-clause-meaning t c =

@@ -390,6 +390,9 @@ decreases-deferred::evaluate_stored l = 16 * l.task.now.ticks_left + 6
 abbrev pub decreases-deferred::defer : goal.decreases-deferred::defer
 decreases-deferred::defer l = 16 * l.task.now.ticks_left + 12
 
+abbrev pub decreases-deferred::defer_range : goal.decreases-deferred::defer_range
+decreases-deferred::defer_range l = 16 * l.task.now.ticks_left + 4
+
 abbrev pub decreases-deferred::defer_appended : goal.decreases-deferred::defer_appended
 decreases-deferred::defer_appended l = 16 * l.task.now.ticks_left + 4
 

@@ -7,4 +7,4 @@ returns-in-Some c =
     λ taken.
     let bounds = given c.element_bounds.result c.element_bounds.ensures (sym taken ∙ c.is_some.ensures) in
     let w = bounds.1 _ c.in-Some.ensures in
-    rw (c.in-Longer-List.is-0, c.in-Longer-List.is-1) (w.0, w.1)
+    rw c.in-List.is (w.0, w.1)

@@ -30,7 +30,7 @@ pub fn listen<R: Net + Log>(
 ) -> Result<Sockets, SocketsFault>
     ensures none { IfOk result (λ sockets. (c : ℕ) → held sockets.sockets c ≡ None) }
     ensures filter { IfOk result (λ sockets. sockets.telnet ≡ telnet) }
-    ensures browsers { IfOk result (λ sockets. MatchOption web.entry (sockets.web ≡ None) (λ web. ServesWeb (map (λ origin. origin.now) web.origins.now) sockets)) }
+    ensures browsers { IfOk result (λ sockets. MatchOption web.entry (sockets.web ≡ None) (λ web. ServesWeb host (map (λ origin. origin.now) web.origins.now) sockets)) }
 {
     let mut sockets = Sockets::open(rt, alloc, host, port, telnet)?;
     let Some(web) = web else {

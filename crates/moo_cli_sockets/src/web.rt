@@ -32,7 +32,7 @@ impl Sockets {
         origins: &[&str],
     ) -> Result<SocketAddr, SocketsFault>
         ensures held { (c : ℕ) → held self.new.sockets c ≡ held self.old.sockets c }
-        ensures web { OnOk result (ServesWeb (map (λ origin. origin.now) origins.now) self.new) }
+        ensures web { OnOk result (ServesWeb host (map (λ origin. origin.now) origins.now) self.new) }
         ensures filter { self.new.telnet ≡ self.old.telnet }
     {
         let registry = self.poll.registry();

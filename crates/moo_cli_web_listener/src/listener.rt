@@ -1,9 +1,8 @@
 //! The listener for browsers.
 ghost use Rattle.std.specs.Prelude.{◌≡◌, ◌≤◌, ◌+◌, ℕ, map, None, IfOk, IfSome, OnOk};
-ghost use Rattle.std.specs.declared.net.socket_addr.SocketAddr.{SocketAddr as SocketAddrModel};
 ghost use Rattle.slab.specs.Slab.{get, slab_len};
 ghost use Rattle.moo_cli_web_listener.specs.Callers.{Accepts, AreCallers, IsFirst, IsStepped, IsTimely, MakesRoom, Serves, Takes};
-ghost use Rattle.moo_cli_web_listener.specs.Names.{AllowsNames};
+ghost use Rattle.moo_cli_web_listener.specs.Names.{AllowsNamesAt};
 
 use crate::caller::{Caller, Progress, Upgrade};
 use crate::names::allowed_names;
@@ -50,11 +49,11 @@ impl WebListener {
         origins: &[&str],
     ) -> io::Result<WebListener>
         ensures callers { IfOk result (λ web. AreCallers web.allowed web.callers) }
-        ensures names { IfOk result (λ web. (address : SocketAddrModel) × AllowsNames address (map (λ origin. origin.now) origins.now) web.allowed) }
+        ensures names { IfOk result (λ web. AllowsNamesAt host (map (λ origin. origin.now) origins.now) web.allowed) }
     {
         let mut listener = TcpListener::bind(rt, SocketAddr::from((host, port)))?;
         registry.register(&mut listener, LISTENER, Interest::READABLE)?;
-        let address = listener.local_addr()?;
+        let address = SocketAddr::from((host, listener.local_addr()?.port()));
         let allowed = allowed_names(alloc, address, origins)?;
         Ok(WebListener {
             alloc,

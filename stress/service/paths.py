@@ -94,4 +94,19 @@ server.kill()
 server = Server(moo, "--log-times", "local")
 checks.check("--log-times local", re.match(r"\d{4}-\d\d-\d\dT\d\d:\d\d:\d\d[+-]\d\d(:\d\d)? \[", server.log()) is not None, server.log())
 server.kill()
+
+
+def in_zone(zone):
+    """Returns what a server does before it starts, so that it runs in this time zone."""
+    return lambda: os.environ.update(TZ=zone)
+
+
+for zone, offset in (("CET-1", r"\+01:00"), ("Europe/Berlin", r"\+0[12]:00"), ("EST5EDT", "-0[45]:00")):
+    if zone != "CET-1" and not os.path.isfile(os.path.join("/usr/share/zoneinfo", zone)):
+        checks.skip(f"TZ={zone}", "this machine doesn't have the zone")
+        continue
+    server = Server(moo, "--log-times", "local", before=in_zone(zone))
+    checks.check(f"TZ={zone}", re.match(r"\d{4}-\d\d-\d\dT\d\d:\d\d:\d\d" + offset + r" \[", server.log()) is not None, server.log())
+    server.kill()
+refused("TZ=Nowhere/Here", database("world.db"), "the time zone of the machine: ", "--log-times", "local", before=in_zone("Nowhere/Here"))
 checks.end()

@@ -14,12 +14,20 @@ pub struct LocalTime {
 }
 
 impl LocalTime {
-    /// Reads `TZ` of the environment, and `/etc/localtime` if it isn't set. Reads no other zone's file.
-    pub fn read<R: Env + Files + AllocGlobal>(rt: &R) -> Result<LocalTime, Error> {
-        Ok(LocalTime {
-            zone: SystemTimeZone::read(rt)?,
-            names: TimeZoneDatabase::new(rt.alloc()),
-        })
+    /// Reads `TZ` of the environment, and `/etc/localtime` if it isn't set. If `TZ` is the name of a zone, reads the Time Zone
+    /// Database of the machine. Fails if the zone is unknown.
+    pub fn read<R: Env + Files + AllocGlobal + Clone + Drop>(rt: &R) -> Result<LocalTime, Error> {
+        let zone = SystemTimeZone::read(rt)?;
+        let no_names = TimeZoneDatabase::new(rt.alloc());
+        if zone.time_zone(&no_names).is_ok() {
+            return Ok(LocalTime {
+                zone,
+                names: no_names,
+            });
+        }
+        let names = TimeZoneDatabase::from_env(rt)?;
+        let _ = zone.time_zone(&names)?;
+        Ok(LocalTime { zone, names })
     }
 
     // Returns the zone.

@@ -101,8 +101,8 @@ def in_zone(zone):
     return lambda: os.environ.update(TZ=zone)
 
 
-for zone, offset in (("CET-1", r"\+01:00"), ("Europe/Berlin", r"\+0[12]:00"), ("EST5EDT", "-0[45]:00")):
-    if zone != "CET-1" and not os.path.isfile(os.path.join("/usr/share/zoneinfo", zone)):
+for zone, offset in (("", r"\+00:00"), ("CET-1", r"\+01:00"), ("Europe/Berlin", r"\+0[12]:00"), (":Europe/Berlin", r"\+0[12]:00"), ("EST5EDT", "-0[45]:00")):
+    if zone not in ("", "CET-1") and not os.path.isfile(os.path.join("/usr/share/zoneinfo", zone.lstrip(":"))):
         checks.skip(f"TZ={zone}", "this machine doesn't have the zone")
         continue
     server = Server(moo, "--log-times", "local", before=in_zone(zone))

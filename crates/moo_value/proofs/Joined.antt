@@ -1,13 +1,13 @@
 -- Concatenated lists: their weight, their depth and their elements.
-use Rattle.std.proofs.Common.{◌≡◌, ℕ, zero, suc, ◌+◌, ◌-◌, ◌≤◌, ◌<◌, max, List, [], ◌∷◌, ◌++◌, take, drop, length, arith, refl, ap, sym, ◌∙◌}
-use Rattle.std.proofs.lemmas.List.{take-map, drop-map, take_rest}
+use Rattle.std.proofs.Common.{slice_range, ◌≡◌, ℕ, zero, suc, ◌+◌, ◌-◌, ◌≤◌, ◌<◌, max, List, [], ◌∷◌, ◌++◌, take, drop, length, arith, refl, ap, sym, ◌∙◌}
+use Rattle.std.proofs.lemmas.List.{map-append, take-map, drop-map, take_rest, drop-take}
 use Rattle.moo_value.specs.declared.value.Value.{Value}
 use Rattle.moo_value.specs.Tree.{Tree, list_of, IsValue}
 use Rattle.moo_value.specs.Size.{list_weight, list_depth, weight_limit, IsWithinLimits, IsStored}
 use Rattle.moo_value.specs.Inner.{IsMeasuredList}
 use Rattle.moo_value.specs.Splice.{spliced}
 use Rattle.moo_value.specs.View.{tree, trees}
-use Rattle.moo_value.proofs.Parts.{list_weight-take, list_weight-drop, list_depth-take, list_depth-drop}
+use Rattle.moo_value.proofs.Parts.{list_depth-drop, list_depth-take, list_weight-drop, list_weight-take, part_within, trees_part}
 
 list_weight-joined : (ts us : List Tree) → list_weight (ts ++ us) + 1 ≡ list_weight ts + list_weight us
 list_weight-joined [] us = omega arith
@@ -87,3 +87,137 @@ trees_spliced vs ws ts us low high is mid =
 
 pub front_weighs : (vs : List Value) (n : ℕ) → list_weight (trees (take n vs)) ≤ list_weight (trees vs)
 front_weighs vs n = rw (← take-map tree n vs) (list_weight-take n (trees vs))
+
+take_nil : (n : ℕ) → take {A = Tree} n [] ≡ []
+take_nil zero = refl
+take_nil (suc n) = refl
+
+drop_nil : (n : ℕ) → drop {A = Tree} n [] ≡ []
+drop_nil zero = refl
+drop_nil (suc n) = refl
+
+-- the weights of the elements before a part, of the part, and of those after it
+weight_of_sides : (ts : List Tree) (low high : ℕ) → low ≤ high → list_weight (take low ts) + list_weight (take (high - low) (drop low ts)) + list_weight (drop high ts) ≡ list_weight ts + 2
+weight_of_sides [] low high h = omega (arith, ap list_weight (take_nil low), ap list_weight (ap (take (high - low)) (drop_nil low) ∙ take_nil (high - low)), ap list_weight (drop_nil high))
+weight_of_sides (t ∷ ts) zero zero h = omega arith
+weight_of_sides (t ∷ ts) zero (suc high) h =
+    let same : suc high - 0 ≡ suc high = omega arith in
+    let less : high - 0 ≡ high = omega arith in
+    omega (arith, ap (λ k. list_weight (take k (t ∷ ts))) same, ap (λ k. list_weight (take k ts)) less, weight_of_sides ts zero high (omega arith))
+weight_of_sides (t ∷ ts) (suc low) zero h = absurd (omega (arith, h))
+weight_of_sides (t ∷ ts) (suc low) (suc high) h =
+    let same : suc high - suc low ≡ high - low = omega arith in
+    omega (arith, ap (λ k. list_weight (take k (drop low ts))) same, weight_of_sides ts low high (omega (arith, h)))
+
+-- a part is measured by what the others weigh
+pub measured-part : (vs : List Value) (low high w d front back deep : ℕ) → IsMeasuredList w d (trees vs) → low ≤ high
+    → front ≡ list_weight (trees (take low vs)) → back ≡ list_weight (trees (take (length vs - high) (drop high vs))) → deep ≡ list_depth (trees (take (high - low) (drop low vs)))
+    → IsMeasuredList (w + 2 - front - back) deep (slice_range (trees vs) low high)
+measured-part vs low high w d front back deep m h f b e =
+    let ts = trees vs in
+    let before : list_weight (trees (take low vs)) ≡ list_weight (take low ts) = ap list_weight (sym (take-map tree low vs)) in
+    let after : list_weight (trees (take (length vs - high) (drop high vs))) ≡ list_weight (drop high ts) = ap list_weight (ap trees (take_rest vs high) ∙ sym (drop-map tree high vs)) in
+    let part : list_depth (trees (take (high - low) (drop low vs))) ≡ list_depth (slice_range ts low high) = ap list_depth (trees_part vs ts low high refl) in
+    let within = part_within ts low high m.limits in
+    record {
+      weight_is = omega (arith, weight_of_sides ts low high h, m.weight_is, f, b, before, after);
+      depth_is = e ∙ part;
+      is_value = is_value-take (high - low) (drop low ts) (is_value-drop low ts m.is_value);
+      limits = within;
+    }
+
+-- what the others weigh is no more than the whole
+pub sides_weigh : (vs : List Value) (low high w d front back : ℕ) → IsMeasuredList w d (trees vs) → low ≤ high
+    → front ≡ list_weight (trees (take low vs)) → back ≡ list_weight (trees (take (length vs - high) (drop high vs))) → front + back ≤ w + 2
+sides_weigh vs low high w d front back m h f b =
+    let ts = trees vs in
+    let before : list_weight (trees (take low vs)) ≡ list_weight (take low ts) = ap list_weight (sym (take-map tree low vs)) in
+    let after : list_weight (trees (take (length vs - high) (drop high vs))) ≡ list_weight (drop high ts) = ap list_weight (ap trees (take_rest vs high) ∙ sym (drop-map tree high vs)) in
+    omega (arith, weight_of_sides ts low high h, m.weight_is, f, b, before, after)
+
+-- a part is no deeper
+pub part_nests : (vs : List Value) (low high d : ℕ) → d ≡ list_depth (trees vs) → list_depth (trees (take (high - low) (drop low vs))) ≤ d
+part_nests vs low high d e =
+    let part : list_depth (trees (take (high - low) (drop low vs))) ≡ list_depth (slice_range (trees vs) low high) = ap list_depth (trees_part vs (trees vs) low high refl) in
+    omega (arith, e, part, list_depth-take (high - low) (drop low (trees vs)), list_depth-drop low (trees vs))
+
+-- the elements of a part
+pub trees_narrowed : (vs : List Value) (low high : ℕ) → low ≤ high → trees (drop low (take high vs)) ≡ slice_range (trees vs) low high
+trees_narrowed vs low high h =
+    let whole : high ≡ low + (high - low) = omega (arith, h) in
+    ap (λ k. trees (drop low (take k vs))) whole ∙ ap trees (drop-take low (high - low) vs) ∙ trees_part vs (trees vs) low high refl
+
+-- the weight of a list with a part replaced, by what the list, the part and the other list weigh
+pub splice_weighs : (vs : List Value) (us : List Tree) (low high w d part mid : ℕ) → IsMeasuredList w d (trees vs) → low ≤ high
+    → part ≡ list_weight (trees (take (high - low) (drop low vs))) → mid ≡ list_weight us → (part ≤ w + mid) × ((w + mid) - part ≡ list_weight (spliced (trees vs) low high us))
+splice_weighs vs us low high w d part mid m h part_is mid_is =
+    let ts = trees vs in
+    let own : list_weight (trees (take (high - low) (drop low vs))) ≡ list_weight (take (high - low) (drop low ts)) = ap list_weight (trees_part vs ts low high refl) in
+    let sides = weight_of_sides ts low high h in
+    let front = list_weight-joined (take low ts) us in
+    let whole = list_weight-joined (take low ts ++ us) (drop high ts) in
+    (omega (arith, sides, m.weight_is, part_is, own, mid_is), omega (arith, sides, m.weight_is, part_is, own, mid_is, front, whole))
+
+-- a list with a part replaced is measured if it is not too heavy
+pub measured-splice : (vs : List Value) (us : List Tree) (low high w d part mid p q r : ℕ) → IsMeasuredList w d (trees vs) → IsStored (list_of us) → low ≤ high
+    → part ≡ list_weight (trees (take (high - low) (drop low vs))) → mid ≡ list_weight us
+    → p ≡ list_depth (trees (take low vs)) → q ≡ list_depth us → r ≡ list_depth (trees (take (length vs - high) (drop high vs)))
+    → (w + mid) - part ≤ weight_limit → IsMeasuredList ((w + mid) - part) (max (max p q) r) (spliced (trees vs) low high us)
+measured-splice vs us low high w d part mid p q r m s h part_is mid_is p_is q_is r_is fits =
+    let ts = trees vs in
+    let heavy = (splice_weighs vs us low high w d part mid m h part_is mid_is).1 in
+    let before : list_depth (trees (take low vs)) ≡ list_depth (take low ts) = ap list_depth (sym (take-map tree low vs)) in
+    let after : list_depth (trees (take (length vs - high) (drop high vs))) ≡ list_depth (drop high ts) = ap list_depth (ap trees (take_rest vs high) ∙ sym (drop-map tree high vs)) in
+    let deep : max (max p q) r ≡ list_depth (spliced ts low high us) =
+    omega (arith, p_is, q_is, r_is, before, after, list_depth-joined (take low ts) us, list_depth-joined (take low ts ++ us) (drop high ts)) in
+    record {
+      weight_is = heavy;
+      depth_is = deep;
+      is_value = is_value-joined (take low ts ++ us) (drop high ts) (is_value-joined (take low ts) us (is_value-take low ts m.is_value) s.0) (is_value-drop high ts m.is_value);
+      limits = record {
+        weight = omega (arith, heavy, fits);
+        depth = omega (arith, deep, p_is, before, q_is, r_is, after, list_depth-take low ts, list_depth-drop high ts, m.limits.depth, s.1.depth);
+      };
+    }
+
+pub too_heavy-splice : (vs : List Value) (us : List Tree) (low high w d part mid : ℕ) → IsMeasuredList w d (trees vs) → low ≤ high
+    → part ≡ list_weight (trees (take (high - low) (drop low vs))) → mid ≡ list_weight us
+    → weight_limit < (w + mid) - part → IsWithinLimits (list_of (spliced (trees vs) low high us)) → ⊥
+too_heavy-splice vs us low high w d part mid m h part_is mid_is heavy limits =
+    omega (arith, (splice_weighs vs us low high w d part mid m h part_is mid_is).1, heavy, limits.weight)
+
+-- the elements that are replaced make a list that may be stored
+pub part_stored : (vs : List Value) (low high w d : ℕ) → IsMeasuredList w d (trees vs) → IsStored (list_of (trees (take (high - low) (drop low vs))))
+part_stored vs low high w d m =
+    let ts = trees vs in
+    let e : trees (take (high - low) (drop low vs)) ≡ slice_range ts low high = trees_part vs ts low high refl in
+    rw e (is_value-take (high - low) (drop low ts) (is_value-drop low ts m.is_value), part_within ts low high m.limits)
+
+-- the elements before a part, and those after it, are no deeper
+pub front_nests : (vs : List Value) (low d : ℕ) → d ≡ list_depth (trees vs) → list_depth (trees (take low vs)) ≤ d
+front_nests vs low d e =
+    let before : list_depth (trees (take low vs)) ≡ list_depth (take low (trees vs)) = ap list_depth (sym (take-map tree low vs)) in
+    omega (arith, e, before, list_depth-take low (trees vs))
+
+pub back_nests : (vs : List Value) (high d : ℕ) → d ≡ list_depth (trees vs) → list_depth (trees (take (length vs - high) (drop high vs))) ≤ d
+back_nests vs high d e =
+    let after : list_depth (trees (take (length vs - high) (drop high vs))) ≡ list_depth (drop high (trees vs)) = ap list_depth (ap trees (take_rest vs high) ∙ sym (drop-map tree high vs)) in
+    omega (arith, e, after, list_depth-drop high (trees vs))
+
+-- the trees of values of which a part is replaced
+pub trees_splice : (vs ws : List Value) (low high : ℕ) → trees (spliced vs low high ws) ≡ spliced (trees vs) low high (trees ws)
+trees_splice vs ws low high =
+    map-append tree (take low vs ++ ws) (drop high vs)
+    ∙ ap (λ us. us ++ trees (drop high vs)) (map-append tree (take low vs) ws)
+    ∙ ap (λ us. us ++ trees ws ++ trees (drop high vs)) (sym (take-map tree low vs))
+    ∙ ap (λ us. take low (trees vs) ++ trees ws ++ us) (sym (drop-map tree high vs))
+
+-- a list with a part replaced is no heavier than both lists together, and no deeper than the deeper one
+pub spliced_within : (ts us : List Tree) (low high : ℕ) → low ≤ high → (list_weight (spliced ts low high us) ≤ list_weight ts + list_weight us) × (list_depth (spliced ts low high us) ≤ max (list_depth ts) (list_depth us))
+spliced_within ts us low high h =
+    let sides = weight_of_sides ts low high h in
+    let front = list_weight-joined (take low ts) us in
+    let whole = list_weight-joined (take low ts ++ us) (drop high ts) in (
+      omega (arith, sides, front, whole),
+      omega (arith, list_depth-joined (take low ts) us, list_depth-joined (take low ts ++ us) (drop high ts), list_depth-take low ts, list_depth-drop high ts),
+    )

@@ -7,6 +7,7 @@ use Rattle.moo_value.specs.Tree.{Tree, list_of, IsValue}
 use Rattle.moo_value.specs.Size.{weight, depth, list_weight, list_depth, weight_limit, depth_limit, IsWithinLimits}
 use Rattle.moo_value.specs.Inner.{IsMeasuredList}
 use Rattle.moo_value.specs.View.{tree, trees}
+use Rattle.moo_value.proofs.Parts.{list_depth-drop}
 use Rattle.moo_value.proofs.Replaced.{depth_around, list_depth-set}
 
 list_weight-insert : (ts : List Tree) (i : ℕ) (t : Tree) → list_weight (insert ts i t) ≡ list_weight ts + weight t
@@ -89,6 +90,12 @@ depth_of_sides vs ts i a b is before after =
   where
     add_one_is : i + 1 ≡ suc i
     add_one_is = omega arith
+
+-- if the elements before a place make the list as deep as it is, so they do without the element there
+pub depth_of_front : (vs : List Value) (ts : List Tree) (i a : ℕ) → trees vs ≡ ts → a ≡ list_depth (trees (take i vs)) → a ≡ list_depth ts → a ≡ list_depth (remove ts i)
+depth_of_front vs ts i a is before whole =
+    let left : list_depth (trees (take i vs)) ≡ list_depth (take i ts) = ap list_depth (sym (take-map tree i vs) ∙ ap (take i) is) in
+    omega (arith, list_depth-remove ts i, left, before, whole, list_depth-drop (suc i) ts)
 
 -- the depth with a new element, from that without the old one
 pub depth_anew : (ts : List Tree) (i : ℕ) (t : Tree) → i < length ts → max (list_depth (remove ts i)) (depth t + 1) ≡ list_depth (set ts i t)

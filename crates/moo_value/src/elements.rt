@@ -1,7 +1,8 @@
 //! The elements of lists, which are copied only if another list shares them.
-ghost use Rattle.std.specs.Prelude.{◌≡◌, ◌<◌, ◌++◌, ◌∷◌, [], ◌≤◌, length, vec_len, insert, remove, slice_set, ℕ, IsTrue, IsFalse, IfOk, OnOk};
+ghost use Rattle.std.specs.Prelude.{◌≡◌, ◌<◌, ◌++◌, ◌∷◌, [], ◌≤◌, length, vec_len, drop, take, insert, remove, slice_set, ℕ, IsTrue, IsFalse, IfOk, OnOk};
 ghost use Rattle.moo_value.specs.Inner.{IsMeasuredList};
 ghost use Rattle.moo_value.specs.Held.{IsAlike};
+ghost use Rattle.moo_value.specs.Splice.{spliced};
 ghost use Rattle.moo_value.specs.View.{trees};
 ghost use Rattle.moo_value.specs.declared.value.Value.TheVariants.{Int};
 
@@ -80,6 +81,22 @@ pub(crate) fn without(
     Ok(Rc::new(alloc, (copies, measure))?)
 }
 
+// Keeps the elements from `low` up to but not including `high`.
+pub(crate) fn narrow(elements: &mut Vec<Value>, low: usize, high: usize)
+    requires order { low ≤ high }
+    requires within { high ≤ vec_len elements.old }
+    ensures { elements.new.items ≡ drop low (take high elements.old.items) }
+{
+    elements.truncate(high);
+    match low {
+        0 => {}
+        1 => {
+            elements.remove(0);
+        }
+        _ => drop(elements.drain(..low)),
+    }
+}
+
 // Replaces the element at `index` by a value, so that the elements have this measure. Copies them only if another list
 // shares them.
 pub(crate) fn with_put(
@@ -132,6 +149,49 @@ fn replaces_integer(place: &mut Value, number: i32) -> bool
         }
         _ => false,
     }
+}
+
+// Replaces the elements from `low` up to but not including `high` by copies of these, so that the elements have this
+// measure. Copies the others only if another list shares them.
+pub(crate) fn with_spliced(
+    alloc: Global,
+    block: Rc<(Vec<Value>, Measure)>,
+    low: usize,
+    high: usize,
+    middle: &[Value],
+    measure: Measure,
+) -> Result<Rc<(Vec<Value>, Measure)>, AllocError>
+    requires order { low ≤ high }
+    requires within { high ≤ vec_len block.value.0 }
+    ensures elements { IfOk result (λ all. all.value.0.items ≡ spliced block.value.0.items low high middle.now) }
+    ensures measure { IfOk result (λ all. all.value.1 ≡ measure) }
+{
+    let mut block = block;
+    if let Some(own) = Rc::get_mut(&mut block) {
+        splice(&mut own.0, low, high, middle)?;
+        own.1 = measure;
+        return Ok(block);
+    }
+    let copies = copied_in_a_row(alloc, &block.0[..low], middle, &block.0[high..])?;
+    Ok(Rc::new(alloc, (copies, measure))?)
+}
+
+// Replaces the elements from `low` up to but not including `high` by copies of these. Err is out of memory.
+fn splice(
+    elements: &mut Vec<Value>,
+    low: usize,
+    high: usize,
+    middle: &[Value],
+) -> Result<(), AllocError>
+    requires order { low ≤ high }
+    requires within { high ≤ vec_len elements.old }
+    ensures { OnOk result (elements.new.items ≡ spliced elements.old.items low high middle.now) }
+{
+    let mut after = elements.split_off(high)?;
+    elements.truncate(low);
+    push_copies(elements, middle)?;
+    elements.append(&mut after)?;
+    Ok(())
 }
 
 fn put(elements: &mut Vec<Value>, index: usize, value: Value)

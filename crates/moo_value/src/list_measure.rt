@@ -81,8 +81,7 @@ impl MooList {
         self.depth_around(index).max(new + 1)
     }
 
-    // Returns the depth without the element at `index`. Reads the other elements up to one that is as deep as the list
-    // can hold.
+    // Returns the depth without the element at `index`. Reads no further than an element that makes the list as deep as it is.
     fn depth_around(&self, index: usize) -> u32
         requires { index < length self.now }
         ensures depth { result ≡ list_depth (remove self.now index) }
@@ -91,6 +90,9 @@ impl MooList {
         let elements = self.elements();
         let most = self.depth();
         let before = list_depth(&elements[..index], most);
+        if before == most {
+            return most;
+        }
         let after = list_depth(&elements[index + 1..], most);
         before.max(after)
     }

@@ -27,8 +27,8 @@ impl MooList {
         MooList::from_measured(alloc, elements, measure)
     }
 
-    /// Returns the elements before `low`, then those of `middle`, then those from `high` on. `low` may be above `high`.
-    pub fn spliced(
+    // Returns what `spliced` does, with copies of all elements.
+    pub(crate) fn spliced_copy(
         &self,
         alloc: Global,
         low: usize,

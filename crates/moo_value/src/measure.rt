@@ -1,11 +1,13 @@
 //! The weight and the depth of the list of some values.
-ghost use Rattle.std.specs.Prelude.{◌≡◌, ◌≤◌, ◌+◌, ◌++◌, IfSome, IfNone};
+ghost use Rattle.std.specs.Prelude.{◌≡◌, ◌≤◌, ◌+◌, ◌++◌, length, slice_range, IfSome, IfNone};
 ghost use Rattle.moo_value.specs.Tree.{list_of};
 ghost use Rattle.moo_value.specs.Size.{list_weight, list_depth, IsWithinLimits, IsStored, weight_limit, depth_limit};
 ghost use Rattle.moo_value.specs.Inner.{IsMeasuredList};
+ghost use Rattle.moo_value.specs.Splice.{spliced};
 ghost use Rattle.moo_value.specs.View.{trees};
 
 use crate::limits::{DEPTH_LIMIT, WEIGHT_LIMIT};
+use crate::list::MooList;
 use crate::value::Value;
 
 /// The weight and the depth of a list.
@@ -36,8 +38,8 @@ pub(crate) fn measured(elements: &[Value]) -> Option<Measure>
     Some(Measure { weight, depth })
 }
 
-// Returns the depth of the list of these values, which is at most this one. Reads no further than a value that makes the
-// list so deep.
+// Returns the depth of the list of these values, which is at most `most`. Reads no further than a value that makes the list
+// so deep.
 pub(crate) fn list_depth(elements: &[Value], most: u32) -> u32
     requires { list_depth (trees elements.now) ≤ most }
     ensures { result ≡ list_depth (trees elements.now) }
@@ -50,6 +52,21 @@ pub(crate) fn list_depth(elements: &[Value], most: u32) -> u32
         depth = depth.max(element.depth() + 1);
     }
     depth
+}
+
+// Measures the list of the values from `low` up to but not including `high`. The list of all has this measure. Adds up the
+// weights of the other values.
+pub(crate) fn measured_part(elements: &[Value], whole: Measure, low: usize, high: usize) -> Measure
+    requires whole { IsMeasuredList whole.weight whole.depth (trees elements.now) }
+    requires order { low ≤ high }
+    requires within { high ≤ length elements.now }
+    ensures { IsMeasuredList result.weight result.depth (slice_range (trees elements.now) low high) }
+{
+    let front = list_weight(&elements[..low]);
+    let back = list_weight(&elements[high..]);
+    let weight = whole.weight + 2 - front - back;
+    let depth = list_depth(&elements[low..high], whole.depth);
+    Measure { weight, depth }
 }
 
 // Measures the list of these values in a row. Returns `None` if it is too heavy; it is never too deep.
@@ -71,6 +88,33 @@ pub(crate) fn measured_in_a_row(
     let depth = list_depth(front, DEPTH_LIMIT)
         .max(list_depth(middle, DEPTH_LIMIT))
         .max(list_depth(back, DEPTH_LIMIT));
+    Some(Measure { weight, depth })
+}
+
+// Measures the list of these values, which has this measure, with the elements of another list in place of those from
+// `low` up to but not including `high`. Returns `None` if it is too heavy; it is never too deep.
+pub(crate) fn measured_splice(
+    elements: &[Value],
+    whole: Measure,
+    low: usize,
+    high: usize,
+    middle: &MooList,
+) -> Option<Measure>
+    requires order { low ≤ high }
+    requires within { high ≤ length elements.now }
+    requires whole { IsMeasuredList whole.weight whole.depth (trees elements.now) }
+    ensures some { IfSome result (λ m. IsMeasuredList m.weight m.depth (spliced (trees elements.now) low high middle.now)) }
+    ensures none { IfNone result (¬ IsWithinLimits (list_of (spliced (trees elements.now) low high middle.now))) }
+{
+    let inner = middle.measure();
+    let removed = list_weight(&elements[low..high]);
+    let weight = whole.weight + inner.weight - removed;
+    if weight > WEIGHT_LIMIT {
+        return None;
+    }
+    let before = list_depth(&elements[..low], whole.depth);
+    let after = list_depth(&elements[high..], whole.depth);
+    let depth = before.max(inner.depth).max(after);
     Some(Measure { weight, depth })
 }
 

@@ -3,7 +3,7 @@ use Rattle.moo_value.specs.Tree.{Tree, list_of}
 use Rattle.moo_value.specs.Size.{IsWithinLimits}
 use Rattle.moo_value.specs.Faults.{IsRefusedList}
 use Rattle.moo_value.proofs.Joined.{front_stored, back_stored, trees_spliced}
-use Rattle.moo_value.proofs.list.MooList.spliced.Goals as goal
+use Rattle.moo_value.proofs.list.MooList.spliced_copy.Goals as goal
 
 pub in_a_row-requires-clause-front : goal.in_a_row-requires-clause-front
 in_a_row-requires-clause-front c =

@@ -1,16 +1,16 @@
 //! Strings and lists with a part replaced.
-ghost use Rattle.std.specs.Prelude.{◌≡◌, ◌≤◌, ◌<◌, ◌+◌, length, slice_set, Ok, Err, IfOk, IfErr, IfSome, OnOk};
+ghost use Rattle.std.specs.Prelude.{◌≡◌, ◌≤◌, ◌<◌, ◌+◌, length, max, slice_set, Ok, Err, IfOk, IfErr, IfSome, OnOk, IsTrue};
 ghost use Rattle.std.specs.Result.{result_err};
-ghost use Rattle.moo_value.specs.Tree.{Tree, list_of};
+ghost use Rattle.moo_value.specs.Tree.{Tree, integer, list_of};
 ghost use Rattle.moo_value.specs.Tree as values;
-ghost use Rattle.moo_value.specs.Size.{IsString};
+ghost use Rattle.moo_value.specs.Size.{weight, depth, list_weight, list_depth, IsString};
 ghost use Rattle.moo_value.specs.Splice.{spliced};
 ghost use Rattle.moo_value.specs.View.{tree};
 ghost use Rattle.moo_builtin_operator.specs.Answer.{Gives, limited};
 ghost use Rattle.moo_builtin_operator.specs.Assignment.{before_place, ends, at_least_zero, with_index_of, with_range_of};
 
 use crate::fault::{OperationFault, QUOTA, RANGE, TYPE_MISMATCH};
-use moo_value::{ErrorCode, ListLimit, MooList, MooStr, Value, ValueFault};
+use moo_value::{ErrorCode, ListLimit, MooList, MooStr, Value, ValueFault, WEIGHT_LIMIT};
 use std::alloc::Global;
 
 /// Returns what `base` is after `base[index] = value`. An element of a list that nothing else shares is replaced in
@@ -45,15 +45,16 @@ pub fn index_refusal(base: &Value, index: &Value, value: &Value) -> Option<Error
     }
 }
 
-/// Returns what `base` is after `base[low..high] = value`.
+/// Returns what `base` is after `base[low..high] = value`. A list that nothing else shares is changed in place, unless
+/// the part ends before it begins.
 pub fn with_range(
     alloc: Global,
-    base: &Value,
+    base: Value,
     low: &Value,
     high: &Value,
     value: &Value,
 ) -> Result<Value, OperationFault>
-    ensures { Gives result (with_range_of (tree base.now) (tree low.now) (tree high.now) (tree value.now)) }
+    ensures { Gives result (with_range_of (tree base) (tree low.now) (tree high.now) (tree value.now)) }
 {
     match (base, low, high, value) {
         (Value::Str(base), Value::Int(low), Value::Int(high), Value::Str(value)) => match ends(
@@ -61,7 +62,7 @@ pub fn with_range(
             *high,
             base.len(),
         ) {
-            Some((front, back)) => spliced_text(alloc, base, front, back, value),
+            Some((front, back)) => spliced_text(alloc, &base, front, back, value),
             None => Err(RANGE),
         },
         (Value::List(base), Value::Int(low), Value::Int(high), Value::List(value)) => match ends(
@@ -74,6 +75,36 @@ pub fn with_range(
         },
         _ => Err(TYPE_MISMATCH),
     }
+}
+
+/// Is true only if `with_range` of these arguments raises nothing, and makes a list that is no heavier than both lists
+/// together and no deeper than the deeper one. It is false for strings, if the part ends before it begins, and if both
+/// lists together are too heavy.
+pub fn takes_range(base: &Value, low: &Value, high: &Value, value: &Value) -> bool
+    ensures { IsTrue result → (w : Tree) × (with_range_of (tree base.now) (tree low.now) (tree high.now) (tree value.now) ≡ Ok w) × (weight w ≤ weight (tree base.now) + weight (tree value.now)) × (depth w ≤ max (depth (tree base.now)) (depth (tree value.now))) }
+{
+    match (base, low, high, value) {
+        (Value::List(base), Value::Int(low), Value::Int(high), Value::List(value)) => {
+            takes_part(base, *low, *high, value)
+        }
+        _ => false,
+    }
+}
+
+// Is true only if the list takes the elements of the other one in place of a part.
+fn takes_part(base: &MooList, low: i32, high: i32, value: &MooList) -> bool
+    ensures { IsTrue result → (w : Tree) × (with_range_of (list_of base.now) (integer low) (integer high) (list_of value.now) ≡ Ok w) × (weight w ≤ list_weight base.now + list_weight value.now) × (depth w ≤ max (list_depth base.now) (list_depth value.now)) }
+{
+    let Some((front, back)) = ends(low, high, base.len()) else {
+        return false;
+    };
+    if front > back {
+        return false;
+    }
+    if base.weight() + value.weight() > WEIGHT_LIMIT {
+        return false;
+    }
+    true
 }
 
 /// Returns how many of `length` elements come before the one at a place, which counts from 1, if there is one.
@@ -214,14 +245,14 @@ fn spliced_text(
 
 fn spliced_list(
     alloc: Global,
-    base: &MooList,
+    base: MooList,
     front: usize,
     back: usize,
     value: &MooList,
 ) -> Result<Value, OperationFault>
-    requires front { front ≤ length base.now }
-    requires back { back ≤ length base.now }
-    ensures { Gives result (limited (list_of (spliced base.now front back value.now))) }
+    requires front { front ≤ length base }
+    requires back { back ≤ length base }
+    ensures { Gives result (limited (list_of (spliced base front back value.now))) }
 {
     match base.spliced(alloc, front, back, value) {
         Ok(list) => Ok(Value::List(list)),

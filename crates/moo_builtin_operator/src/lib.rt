@@ -10,7 +10,7 @@ mod made;
 mod operator;
 mod place;
 
-pub use assignment::{before_place, index_refusal, with_index, with_range};
+pub use assignment::{before_place, index_refusal, takes_range, with_index, with_range};
 pub use comparison::{is_decided, is_equal, is_true};
 pub use fault::OperationFault;
 pub use made::list;

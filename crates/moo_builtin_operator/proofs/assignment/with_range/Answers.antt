@@ -15,8 +15,8 @@ returns-in-Some-ends c =
     rw (arm.is-0, arm.is-1, arm.is-2, arm.is-3)
     (rw (range_set arm.base arm.value arm.low arm.high n.result c.in-Some-ends.front c.in-Some-ends.back n.ensures found) c.spliced_list.ensures)
 
-pub returns-in-None-ends : goal.returns-in-None-ends
-returns-in-None-ends c =
+pub returns-in-List-Int-Int-List : goal.returns-in-List-Int-Int-List
+returns-in-List-Int-Int-List c =
     let arm = c.in-List-Int-Int-List in
     let n = c.len-in-List-Int-Int-List in
     let low_fits : FitsSigned w32 c.in-List-Int-Int-List.low = search rules in

@@ -1,7 +1,7 @@
 -- Bounds of containers that are rebuilt.
-use Rattle.std.proofs.Common.{◌≡◌, ℕ, zero, suc, ◌+◌, ◌-◌, ◌≤◌, ◌<◌, max, ℤ, List, [], ◌∷◌, ◌++◌, length, take, drop, set, get_or, Bool, true, false, cond, Some, None, Option, IfSome, Ok, Err, IsTrue, refl, sym, ap, subst, ◌∙◌, arith, length-append}
+use Rattle.std.proofs.Common.{◌≡◌, ℕ, zero, suc, ◌+◌, ◌-◌, ◌≤◌, ◌<◌, max, ℤ, List, [], ◌∷◌, ◌++◌, length, take, drop, set, get_or, Bool, true, false, cond, Some, None, Option, IfSome, Ok, Err, IsTrue, sym, ap, subst, ◌∙◌, arith, length-append}
 use Rattle.std.specs.Prelude.{is_ok, is_some, slice_range}
-use Rattle.std.proofs.lemmas.List.{length-take, length-drop, drop-take}
+use Rattle.std.proofs.lemmas.List.{length-take, length-drop}
 use Rattle.moo_value.specs.declared.error_code.ErrorCode.TheVariants.{Quota, InvalidArgument}
 use Rattle.moo_value.specs.declared.value.Value.{Value}
 use Rattle.moo_value.specs.Tree.{Tree, integer, string, list, list_of, trees_of}
@@ -10,7 +10,7 @@ use Rattle.moo_value.specs.Size.{weight, depth, list_weight, list_depth, IsWithi
 use Rattle.moo_value.specs.Splice.{spliced}
 use Rattle.moo_value.specs.View.{tree, trees}
 use Rattle.moo_value.proofs.Lists.{list_weight-push, list_depth-push}
-use Rattle.moo_value.proofs.Parts.{list_weight-take, list_weight-drop, list_depth-take, list_depth-drop, trees_part}
+use Rattle.moo_value.proofs.Parts.{list_weight-take, list_weight-drop, list_depth-take, list_depth-drop}
 use Rattle.moo_value.proofs.Replaced.{tree_in, list_weight-set, weight-le-list_weight, list_depth-set, list_depth-around}
 use Rattle.moo_builtin_operator.specs.Answer.{limited}
 use Rattle.moo_builtin_operator.specs.Places.{or_range}
@@ -93,10 +93,6 @@ pub on_some : {A : Type 0} {P Q : A → Type 0} (o : Option A) → IfSome o P �
 on_some None h f = tt
 on_some (Some a) h f = f a h
 
-pub none_given : {A : Type 0} (o : Option A) → false ≡ is_some o → o ≡ None
-none_given None h = refl
-none_given (Some x) h = absurd cc
-
 -- the bounds of a list with one more element
 pub longer_within : (ts : List Tree) (t : Tree) (w d : ℕ) → w ≡ list_weight ts + weight t → d ≡ max (list_depth ts) (depth t + 1) → IsWithin w d (list_of (ts ++ t ∷ []))
 longer_within ts t w d e f = record { weighs = omega (arith, e, list_weight-push ts t); nests = omega (arith, f, list_depth-push ts t) }
@@ -112,9 +108,3 @@ part_bounds ts low high w d e f = record {
   weighs = omega (arith, e, list_weight-take (high - low) (drop low ts), list_weight-drop low ts);
   nests = omega (arith, f, list_depth-take (high - low) (drop low ts), list_depth-drop low ts);
 }
-
--- the first elements without some at the front
-pub moved_trees : (vs : List Value) (low high : ℕ) → low ≤ high → trees (drop low (take high vs)) ≡ slice_range (trees vs) low high
-moved_trees vs low high h =
-    let whole : high ≡ low + (high - low) = omega (arith, h) in
-    ap (λ k. trees (drop low (take k vs))) whole ∙ ap trees (drop-take low (high - low) vs) ∙ trees_part vs (trees vs) low high refl

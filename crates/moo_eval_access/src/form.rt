@@ -56,7 +56,8 @@ fn items_form(items: &[NodeItem]) -> Option<ListForm<'_>>
 }
 
 /// Is true for an expression of a `ListForm`, and for a conditional expression one of whose two results is one. Of ranges
-/// only those of a property count, as in `o.l = o.l[2..$]`. Picks the way of an assignment; each way has the same meaning.
+/// that are no such result, only those of a property count, as in `o.l = o.l[2..$]`. Picks the way of an assignment; each
+/// way has the same meaning.
 #[inline(always)]
 pub fn is_list_change(node: &Node) -> bool {
     match node {
@@ -64,23 +65,6 @@ pub fn is_list_change(node: &Node) -> bool {
         Node::Call(called, _) => makes_list(called),
         Node::Conditional(_, first, second) => is_changed_list(first) || is_changed_list(second),
         Node::Range(base, _, _) => matches!(&**base, Node::Property(_, _)),
-        _ => false,
-    }
-}
-
-/// Is true for a range of the variable with this name, as in `l[2..$]`. Picks the way of an assignment, as
-/// `is_list_change` does.
-#[inline(always)]
-pub fn is_part_of(name: &Name, node: &Node) -> bool {
-    match node {
-        Node::Range(base, _, _) => is_known_variable(name, base),
-        _ => false,
-    }
-}
-
-fn is_known_variable(name: &Name, node: &Node) -> bool {
-    match node {
-        Node::Variable(own) => own.is_known_as(name),
         _ => false,
     }
 }

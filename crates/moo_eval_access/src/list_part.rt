@@ -39,20 +39,12 @@ impl Model for ListPart {
 }
 
 impl ListPart {
-    /// Takes the part. The elements of a list that nothing else holds are moved. Err is out of memory.
+    // Takes the part. A list that nothing else holds is changed in place. Err is out of memory.
     pub(crate) fn into_list(self, alloc: Global) -> Result<MooList, AllocError>
         ensures { IfOk result (λ list. list ≡ self) }
     {
         let ListPart { list, from, to } = self;
-        let mut list = list;
-        prove!(list.weight() <= WEIGHT_LIMIT);
-        let mut elements = list.take_elements(alloc);
-        if elements.is_empty() {
-            return list.part(alloc, from, to);
-        }
-        let mut others = list.into_vec()?;
-        elements.append(&mut others)?;
-        moved_part(alloc, elements, from, to)
+        list.narrowed(alloc, from, to)
     }
 
     // Returns bounds of the weight and the depth of the part.
@@ -66,40 +58,6 @@ impl ListPart {
     pub(crate) fn depth(&self) -> u32 {
         self.list.depth()
     }
-}
-
-// Returns the list of a part of these elements, without the others. Err is out of memory.
-fn moved_part(
-    alloc: Global,
-    elements: Vec<Value>,
-    from: usize,
-    to: usize,
-) -> Result<MooList, AllocError>
-    requires order { from ≤ to }
-    requires within { to ≤ length elements.items }
-    requires limits { IsWithinLimits (list_of (trees elements.items)) }
-    ensures { IfOk result (λ list. list ≡ slice_range (trees elements.items) from to) }
-{
-    let mut elements = elements;
-    elements.truncate(to);
-    let part = without_first(elements, from)?;
-    match MooList::try_from_vec(alloc, part) {
-        Ok(list) => Ok(list),
-        Err(ListLimit::Memory) => Err(AllocError),
-        Err(ListLimit::TooLarge) => unreachable!(),
-    }
-}
-
-// Returns these elements without the first `many` of them. Err is out of memory.
-fn without_first(elements: Vec<Value>, many: usize) -> Result<Vec<Value>, AllocError>
-    requires { many ≤ length elements.items }
-    ensures { IfOk result (λ rest. rest.items ≡ drop many elements.items) }
-{
-    if many == 0 {
-        return Ok(elements);
-    }
-    let mut elements = elements;
-    elements.split_off(many)
 }
 
 /// Computes `base[low..high]`, as `range` does. A part of a list isn't taken yet.

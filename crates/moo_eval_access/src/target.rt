@@ -1,7 +1,8 @@
 //! Targets of assignments: 'Assignment' of docs/reference/language.md. In the LambdaMOO Programmer's Manual: 'Replacing
 //! an Element of a List or String' and 'Replacing a Subsequence of a List or String'.
-ghost use Rattle.std.specs.Prelude.{◌≡◌, ◌∷◌, [], Ok, Err, map, is_ok, IsTrue, IfOk, IfErr, IfSome, IfNone, OnOk};
+ghost use Rattle.std.specs.Prelude.{◌≡◌, ◌+◌, ◌∷◌, [], Ok, Err, map, max, is_ok, IsTrue, IfOk, IfErr, IfSome, IfNone, OnOk};
 ghost use Rattle.moo_value.specs.Tree.{Tree};
+ghost use Rattle.moo_value.specs.Size.{weight, depth};
 ghost use Rattle.moo_value.specs.View.{tree};
 ghost use Rattle.moo_syntax_lower.specs.Source.{source};
 ghost use Rattle.moo_syntax_ast.specs.Tree.{property, no_items};
@@ -12,6 +13,7 @@ ghost use Rattle.moo_eval_frame.specs.Seen.{variables_of, seen_answer, seen_by, 
 ghost use Rattle.moo_eval_access.specs.SeenTarget.{root_seen, places_of, step_of, steps_of, spot_of};
 ghost use Rattle.moo_eval_slot.specs.Bindings.{bind, with_variable};
 ghost use Rattle.moo_eval_access.specs.LetGo.{IsLetGo};
+ghost use Rattle.moo_eval_access.specs.Bounds.{IsWithin};
 
 use crate::bounds::are_taken;
 use crate::holding::let_go_inside;
@@ -144,6 +146,21 @@ impl Step {
         }
     }
 
+    // Is true only if the container takes the value at the places, without getting heavier or deeper than both together.
+    fn is_taking(&self, value: &Value) -> bool
+        ensures { IsTrue result → (w : Tree) × (with_part (tree self.now.container) (places_of self.now.places) (tree value.now) ≡ Ok w) × IsWithin (weight (tree self.now.container) + weight (tree value.now)) (max (depth (tree self.now.container)) (depth (tree value.now) + 1)) w }
+    {
+        match &self.places {
+            Places::Element(place) => {
+                match operation::index_refusal(&self.container, place, value) {
+                    Some(_) => false,
+                    None => true,
+                }
+            }
+            Places::Part(low, high) => operation::takes_range(&self.container, low, high, value),
+        }
+    }
+
     /// Returns the container with another value at the places.
     pub(crate) fn with(self, alloc: Global, value: Value) -> Result<Value, OperationFault>
         ensures { Gives result (with_part (tree self.container) (places_of self.places) (tree value)) }
@@ -151,9 +168,7 @@ impl Step {
         let Step { container, places } = self;
         match places {
             Places::Element(place) => operation::with_index(alloc, container, &place, value),
-            Places::Part(low, high) => operation::with_range(
-                alloc, &container, &low, &high, &value,
-            ),
+            Places::Part(low, high) => operation::with_range(alloc, container, &low, &high, &value),
         }
     }
 }
@@ -193,19 +208,15 @@ fn put_back(alloc: Global, steps: Vec<Step>, value: Value) -> Result<Value, Fail
     Ok(whole)
 }
 
-/// Is true only if `rebuilt` raises nothing for the value at the end of these steps. False if there is no step, if one
-/// is to a part, or if one before the last isn't to an element of a list. False too if a container may get past the
-/// limits.
+/// Is true only if `rebuilt` raises nothing for the value at the end of these steps. False if there is no step, or if one
+/// before the last isn't to an element of a list. False too if a container may get past the limits.
 pub fn is_taken(steps: &[Step], value: &Value) -> bool
     ensures { IsTrue result → IsTrue (is_ok (rebuilt (steps_of steps.now) (Ok (tree value.now)))) }
 {
     let Some((inner, outer)) = steps.split_last() else {
         return false;
     };
-    let Places::Element(place) = &inner.places else {
-        return false;
-    };
-    if operation::index_refusal(&inner.container, place, value).is_some() {
+    if !inner.is_taking(value) {
         return false;
     }
     let heaviest = inner.container.weight() + value.weight();

@@ -32,7 +32,7 @@ use std::alloc::{AllocError, Global};
 pub struct Variables {
     given: GivenValues,
     own: Slots,
-    /// The newest last; it hides older ones of its name.
+    /// The newest last; it hides older ones of its name. `None` before the first one.
     others: Option<Box<Vec<Variable>>>,
 }
 
@@ -316,7 +316,7 @@ impl Variables {
     }
 }
 
-// Appends a variable to these, the newest last. Err is out of memory; then nothing has changed.
+// Appends a variable to these, the newest last. Err is out of memory.
 fn push_other(
     alloc: Global,
     others: &mut Option<Box<Vec<Variable>>>,

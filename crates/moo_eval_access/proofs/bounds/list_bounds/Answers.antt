@@ -1,5 +1,4 @@
 use Rattle.std.proofs.Common.{arith}
-use Rattle.moo_value.specs.Size.{weight}
 use Rattle.moo_eval_access.proofs.Bounded.{old_weighs, replaced_within}
 use Rattle.moo_eval_access.proofs.bounds.list_bounds.Goals as goal
 

@@ -40,7 +40,7 @@ pub(crate) fn assign(
     ensures ticks { task.new.ticks_left ≤ task.old.ticks_left }
 {
     match target {
-        Node::Variable(name) if is_own_change(name, value) => {
+        Node::Variable(name) if is_own_change(active, name, value) => {
             assign_changed(task, world, active, stack, indexed, name, value)
         }
         Node::Variable(name) => {
@@ -56,9 +56,9 @@ pub(crate) fn assign(
 // Is true if the value of a node is a list that may be changed in place once the variable with this name lets go of its
 // value. Picks the way of an assignment; each way has the same meaning.
 #[inline(always)]
-fn is_own_change(name: &Name, value: &Node) -> bool {
+fn is_own_change(active: &Activation, name: &Name, value: &Node) -> bool {
     match value {
-        Node::Range(base, _, _) => is_variable(name, base),
+        Node::Range(base, _, _) => is_variable(name, base) && has_list(active, name),
         _ => is_list_change(value),
     }
 }
@@ -68,6 +68,10 @@ fn is_variable(name: &Name, node: &Node) -> bool {
         Node::Variable(own) => own.is_spelled_as(name),
         _ => false,
     }
+}
+
+fn has_list(active: &Activation, name: &Name) -> bool {
+    matches!(active.variables.get(name), Some(Value::List(_)))
 }
 
 // Assigns a list that may be changed in place to a variable. Not inlined, so that other assignments need no stack space
@@ -128,7 +132,7 @@ pub(crate) fn assign_value(
     ensures ticks { task.new.ticks_left ≤ task.old.ticks_left }
 {
     task.take_tick(active, stack)?;
-    if is_own_change(name, value) {
+    if is_own_change(active, name, value) {
         let value = evaluate_deferred(task, world, active, stack, None, value)?;
         set_deferred(task.alloc(), &mut active.variables, name, value)?;
         return Ok(Flow::Next);

@@ -19,7 +19,7 @@ ghost use Rattle.moo_eval_task.specs.Seen.{state_of};
 
 use crate::arguments::evaluate_arguments;
 use crate::interpreter::evaluate;
-use crate::statement::run_all;
+use crate::statement::run_block;
 use moo_eval_access::{Called, as_text, enter_verb, enter_written};
 use moo_eval_frame::{Activation, CallStack, Failure, FrameMemory, Variables};
 use moo_eval_hook::Progress;
@@ -209,7 +209,7 @@ fn run_called(
         programmer: callee.running.programmer,
     };
     let statements = callee.running.program.code();
-    let outcome = run_all(task, world, &mut running, &callee, statements);
+    let outcome = run_block(task, world, &mut running, &callee, statements);
     let (memory, arguments) = running.variables.into_memory(task.alloc());
     task.spare.keep(memory, arguments);
     answered(outcome)

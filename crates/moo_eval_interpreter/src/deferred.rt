@@ -1,9 +1,6 @@
 //! Evaluates values that are stored in a place whose old value is let go of first. So `{@l[i], x}`, `listappend(l[i], x)`
 //! and `l[2..$]` change a list in place.
-ghost use Rattle.std.specs.Prelude.{◌≡◌, ◌≤◌, Ok, Err, IfOk, IfErr};
-ghost use Rattle.moo_value.specs.View.{tree};
-ghost use Rattle.moo_builtin_operator.specs.Places.{range_of};
-ghost use Rattle.moo_eval_frame.specs.Outcome.{answers};
+ghost use Rattle.std.specs.Prelude.{◌≤◌, Ok, Err, IfOk, IfErr};
 ghost use Rattle.moo_syntax_ast.specs.Tree.{list, splice, element, no_items, call, range};
 ghost use Rattle.moo_syntax_lower.specs.Source.{source, source_items};
 ghost use Rattle.moo_eval_frame.specs.Seen.{context_of, stop_of, seen_by, HadMemory, IsKnownFailure};
@@ -16,7 +13,6 @@ ghost use Rattle.moo_eval_task.specs.Seen.{state_of};
 use crate::conditions::passes;
 use crate::functions::call_with;
 use crate::interpreter::{evaluate, evaluate_all};
-use moo_builtin_operator::range;
 use moo_eval_access::{
     Deferred, ListCall, ListForm, LongerList, deferred_range, is_list_change, list_form,
 };
@@ -25,7 +21,6 @@ use moo_eval_task::Task;
 use moo_syntax_lower::{FunctionName, Node, NodeItem};
 use moo_value::{ErrorCode, Value};
 use moo_world::World;
-use std::alloc::Global;
 
 /// Evaluates a node. A list that the node changes may stay as it is until the value is stored.
 #[cycle(evaluation)]
@@ -228,7 +223,7 @@ pub(crate) fn defer_call(
     }
 }
 
-// Computes `base[low..high]`. Not inlined, as `range`.
+// Computes `base[low..high]`. A part of a list isn't taken yet. Not inlined, as `range`.
 #[cycle(evaluation)]
 #[inline(never)]
 fn defer_range(
@@ -247,29 +242,5 @@ fn defer_range(
     let base = evaluate(task, world, active, stack, indexed, base)?;
     let low = evaluate(task, world, active, stack, Some(&base), low)?;
     let high = evaluate(task, world, active, stack, Some(&base), high)?;
-    computed_range(task.alloc(), base, &low, &high)
-}
-
-// Computes `base[low..high]`. A part of a list that leaves out elements at the front isn't taken yet. Other parts are
-// copied: in place they would keep the memory of the elements after them.
-fn computed_range(
-    alloc: Global,
-    base: Value,
-    low: &Value,
-    high: &Value,
-) -> Result<Deferred, Failure>
-    ensures { IsKnownFailure result → answers (range_of (tree base) (tree low.now) (tree high.now)) ≡ seen_by deferred_tree result }
-{
-    if leaves_out_first(low, high) {
-        return deferred_range(alloc, base, low, high);
-    }
-    Ok(Deferred::Value(range(alloc, &base, low, high)?))
-}
-
-// Is true if the places are those of a part that has elements, but not the first one.
-fn leaves_out_first(low: &Value, high: &Value) -> bool {
-    match (low, high) {
-        (Value::Int(low), Value::Int(high)) => 1 < *low && low <= high,
-        _ => false,
-    }
+    deferred_range(task.alloc(), base, &low, &high)
 }

@@ -82,9 +82,10 @@ fn perform(
     }
 }
 
-// Returns the value of the expression as the flow of a `return`, or 0 if there is none.
+// Returns the value of the expression as the flow of a `return`, or 0 if there is none. Inlined, so that a `return`
+// needs no call.
 #[cycle(evaluation)]
-#[inline(never)]
+#[inline(always)]
 fn give(
     task: &mut Task,
     world: &mut World,

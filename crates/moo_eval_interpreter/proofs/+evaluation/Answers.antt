@@ -990,11 +990,11 @@ calls::call_computed-returns-clause-meaning t c =
 pub calls::run_called-returns-clause-meaning : goal.calls::run_called-returns-clause-meaning
 calls::run_called-returns-clause-meaning t c =
     let f : SFits w32 c.args.called.stack.running.programmer = search rules in
-    λ caller k. record { outcome = _; last = _; runs = runs_from (same_state c.in_ok-begun.ensures (to_z-of_z w32 c.args.called.stack.running.programmer f)) c.code-statements.ensures (c.run_all-outcome.ensures.meaning (c.answered.ensures.known k)); leaves = refl; gives = c.answered.ensures.answer }
+    λ caller k. record { outcome = _; last = _; runs = runs_from (same_state c.in_ok-begun.ensures (to_z-of_z w32 c.args.called.stack.running.programmer f)) c.code-statements.ensures (c.run_block-outcome.ensures.meaning (c.answered.ensures.known k)); leaves = refl; gives = c.answered.ensures.answer }
 
 pub calls::run_called-returns-clause-fewer : goal.calls::run_called-returns-clause-fewer
 calls::run_called-returns-clause-fewer t c =
-    λ begins. comes_on _ c.answered.result c.run_all-outcome.result c.answered.ensures.comes (on_ok_weaker c.run_all-outcome.result (λ h. h (λ e. begins (sym c.code-statements.ensures ∙ e))) c.run_all-outcome.ensures.fewer)
+    λ begins. comes_on _ c.answered.result c.run_block-outcome.result c.answered.ensures.comes (on_ok_weaker c.run_block-outcome.result (λ h. h (λ e. begins (sym c.code-statements.ensures ∙ e))) c.run_block-outcome.ensures.fewer)
 
 pub statement::perform-returns-in-Set-clause-meaning : goal.statement::perform-returns-in-Set-clause-meaning
 statement::perform-returns-in-Set-clause-meaning t c =
@@ -1496,7 +1496,7 @@ deferred::defer-returns-in-Part-clause-meaning t c =
 
 pub deferred::defer_range-returns-clause-meaning : goal.deferred::defer_range-returns-clause-meaning
 deferred::defer_range-returns-clause-meaning t c =
-    λ k. applies (element_then (c.in_ok-base.ensures.meaning tt) no_more refl) (element_then (c.in_ok-low.ensures.meaning tt) (element_then (c.in_ok-high.ensures.meaning tt) no_more refl) refl) (range_is (c.computed_range.ensures k))
+    λ k. applies (element_then (c.in_ok-base.ensures.meaning tt) no_more refl) (element_then (c.in_ok-low.ensures.meaning tt) (element_then (c.in_ok-high.ensures.meaning tt) no_more refl) refl) (range_is (c.deferred_range.ensures k))
 
 pub deferred::defer_range-returns-in_err-base-clause-meaning : goal.deferred::defer_range-returns-in_err-base-clause-meaning
 deferred::defer_range-returns-in_err-base-clause-meaning t c =

@@ -55,9 +55,9 @@ fn items_form(items: &[NodeItem]) -> Option<ListForm<'_>>
     }
 }
 
-/// Is true for an expression of a `ListForm`, and for a conditional expression one of whose two results is one. Of ranges
-/// that are no such result, only those of a property count, as in `o.l = o.l[2..$]`. Picks the way of an assignment; each
-/// way has the same meaning.
+/// Is true for an expression of a `ListForm`, and for a conditional expression one of whose two results is one. A range
+/// counts if its base is a property, as in `o.l[2..$]`, or if it is one of the two results. Picks the way of an assignment;
+/// each way has the same meaning.
 #[inline(always)]
 pub fn is_list_change(node: &Node) -> bool {
     match node {

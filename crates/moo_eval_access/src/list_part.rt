@@ -1,8 +1,7 @@
 //! Parts of lists that are still to be taken.
-ghost use Rattle.std.specs.Prelude.{◌≡◌, ◌≤◌, length, drop, slice_range, IfOk};
+ghost use Rattle.std.specs.Prelude.{◌≡◌, ◌≤◌, length, slice_range, IfOk};
 ghost use Rattle.moo_value.specs.Tree.{list_of};
-ghost use Rattle.moo_value.specs.Size.{IsWithinLimits};
-ghost use Rattle.moo_value.specs.View.{tree, trees};
+ghost use Rattle.moo_value.specs.View.{tree};
 ghost use Rattle.moo_builtin_operator.specs.Places.{range_of};
 ghost use Rattle.moo_eval_frame.specs.Outcome.{answers};
 ghost use Rattle.moo_eval_frame.specs.Seen.{seen_by, IsKnownFailure};
@@ -12,7 +11,7 @@ ghost use Rattle.moo_eval_access.specs.Deferred.{deferred_tree};
 use crate::deferred::Deferred;
 use moo_builtin_operator::{list_bounds, range};
 use moo_eval_frame::Failure;
-use moo_value::{ListLimit, MooList, Value, WEIGHT_LIMIT};
+use moo_value::{MooList, Value};
 use std::alloc::{AllocError, Global};
 use std::marker::Model;
 

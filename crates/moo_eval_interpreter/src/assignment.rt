@@ -54,7 +54,8 @@ pub(crate) fn assign(
 }
 
 // Is true if the value of a node is a list that may be changed in place once the variable with this name lets go of its
-// value. Picks the way of an assignment; each way has the same meaning.
+// value. A range counts only while the variable holds a list: that of a string is computed at once. Picks the way of an
+// assignment; each way has the same meaning.
 #[inline(always)]
 fn is_own_change(active: &Activation, name: &Name, value: &Node) -> bool {
     match value {

@@ -147,8 +147,7 @@ impl Step {
     }
 
     // Is true only if the container takes the value at the places. The container is then no heavier than both together, and
-    // no deeper than it was or than a list of the value. False for a part without which less than half of a list is left:
-    // changed in place, the list would keep its memory.
+    // no deeper than it was or than a list of the value.
     fn is_taking(&self, value: &Value) -> bool
         ensures { IsTrue result → (w : Tree) × (with_part (tree self.now.container) (places_of self.now.places) (tree value.now) ≡ Ok w) × IsWithin (weight (tree self.now.container) + weight (tree value.now)) (max (depth (tree self.now.container)) (depth (tree value.now) + 1)) w }
     {
@@ -159,12 +158,7 @@ impl Step {
                     None => true,
                 }
             }
-            Places::Part(low, high) => {
-                if !keeps_half(&self.container, low, high, value) {
-                    return false;
-                }
-                operation::takes_range(&self.container, low, high, value)
-            }
+            Places::Part(low, high) => operation::takes_range(&self.container, low, high, value),
         }
     }
 
@@ -190,18 +184,6 @@ impl<'a> Path<'a> {
             None => self.root.value(alloc, world, active),
             Some((step, _)) => Ok(step.value(alloc)?),
         }
-    }
-}
-
-// Is true for two lists, if the first has at least half of its elements once the second replaces a part of it. False if
-// the part ends past the list.
-fn keeps_half(container: &Value, low: &Value, high: &Value, value: &Value) -> bool {
-    let (Value::List(list), Value::List(new)) = (container, value) else {
-        return false;
-    };
-    match operation::list_bounds(list, low, high) {
-        Some((front, back)) => back - front <= list.len() / 2 || new.len() >= (back - front) / 2,
-        None => matches!(high, Value::Int(last) if last.unsigned_abs() as usize <= list.len()),
     }
 }
 

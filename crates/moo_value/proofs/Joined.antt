@@ -159,24 +159,22 @@ splice_weighs vs us low high w d part mid m h part_is mid_is =
     (omega (arith, sides, m.weight_is, part_is, own, mid_is), omega (arith, sides, m.weight_is, part_is, own, mid_is, front, whole))
 
 -- a list with a part replaced is measured if it is not too heavy
-pub measured-splice : (vs : List Value) (us : List Tree) (low high w d part mid p q r : ℕ) → IsMeasuredList w d (trees vs) → IsStored (list_of us) → low ≤ high
+pub measured-splice : (vs : List Value) (us : List Tree) (low high w d part mid p q : ℕ) → IsMeasuredList w d (trees vs) → IsStored (list_of us) → low ≤ high
     → part ≡ list_weight (trees (take (high - low) (drop low vs))) → mid ≡ list_weight us
-    → p ≡ list_depth (trees (take low vs)) → q ≡ list_depth us → r ≡ list_depth (trees (take (length vs - high) (drop high vs)))
-    → (w + mid) - part ≤ weight_limit → IsMeasuredList ((w + mid) - part) (max (max p q) r) (spliced (trees vs) low high us)
-measured-splice vs us low high w d part mid p q r m s h part_is mid_is p_is q_is r_is fits =
+    → p ≡ max (list_depth (take low (trees vs))) (list_depth (drop high (trees vs))) → q ≡ list_depth us
+    → (w + mid) - part ≤ weight_limit → IsMeasuredList ((w + mid) - part) (max p q) (spliced (trees vs) low high us)
+measured-splice vs us low high w d part mid p q m s h part_is mid_is p_is q_is fits =
     let ts = trees vs in
     let heavy = (splice_weighs vs us low high w d part mid m h part_is mid_is).1 in
-    let before : list_depth (trees (take low vs)) ≡ list_depth (take low ts) = ap list_depth (sym (take-map tree low vs)) in
-    let after : list_depth (trees (take (length vs - high) (drop high vs))) ≡ list_depth (drop high ts) = ap list_depth (ap trees (take_rest vs high) ∙ sym (drop-map tree high vs)) in
-    let deep : max (max p q) r ≡ list_depth (spliced ts low high us) =
-    omega (arith, p_is, q_is, r_is, before, after, list_depth-joined (take low ts) us, list_depth-joined (take low ts ++ us) (drop high ts)) in
+    let deep : max p q ≡ list_depth (spliced ts low high us) =
+    omega (arith, p_is, q_is, list_depth-joined (take low ts) us, list_depth-joined (take low ts ++ us) (drop high ts)) in
     record {
       weight_is = heavy;
       depth_is = deep;
       is_value = is_value-joined (take low ts ++ us) (drop high ts) (is_value-joined (take low ts) us (is_value-take low ts m.is_value) s.0) (is_value-drop high ts m.is_value);
       limits = record {
         weight = omega (arith, heavy, fits);
-        depth = omega (arith, deep, p_is, before, q_is, r_is, after, list_depth-take low ts, list_depth-drop high ts, m.limits.depth, s.1.depth);
+        depth = omega (arith, deep, p_is, q_is, list_depth-take low ts, list_depth-drop high ts, m.limits.depth, s.1.depth);
       };
     }
 
@@ -221,3 +219,34 @@ spliced_within ts us low high h =
       omega (arith, sides, front, whole),
       omega (arith, list_depth-joined (take low ts) us, list_depth-joined (take low ts ++ us) (drop high ts), list_depth-take low ts, list_depth-drop high ts),
     )
+
+-- a list is as deep as the deepest of the elements before a part, of the part, and of those after it
+depth_of_parts : (ts : List Tree) (low high : ℕ) → low ≤ high → list_depth ts ≡ max (max (list_depth (take low ts)) (list_depth (take (high - low) (drop low ts)))) (list_depth (drop high ts))
+depth_of_parts [] low high h = omega (arith, ap list_depth (take_nil low), ap list_depth (ap (take (high - low)) (drop_nil low) ∙ take_nil (high - low)), ap list_depth (drop_nil high))
+depth_of_parts (t ∷ ts) zero zero h = omega arith
+depth_of_parts (t ∷ ts) zero (suc high) h =
+    let same : suc high - 0 ≡ suc high = omega arith in
+    let less : high - 0 ≡ high = omega arith in
+    omega (arith, ap (λ k. list_depth (take k (t ∷ ts))) same, ap (λ k. list_depth (take k ts)) less, depth_of_parts ts zero high (omega arith))
+depth_of_parts (t ∷ ts) (suc low) zero h = absurd (omega (arith, h))
+depth_of_parts (t ∷ ts) (suc low) (suc high) h =
+    let same : suc high - suc low ≡ high - low = omega arith in
+    omega (arith, ap (λ k. list_depth (take k (drop low ts))) same, depth_of_parts ts low high (omega (arith, h)))
+
+-- the depths of the elements before a part, of the part and of those after it, as a slice gives them
+pub front_depth : (vs : List Value) (low : ℕ) → list_depth (trees (take low vs)) ≡ list_depth (take low (trees vs))
+front_depth vs low = ap list_depth (sym (take-map tree low vs))
+
+pub back_depth : (vs : List Value) (high : ℕ) → list_depth (trees (take (length vs - high) (drop high vs))) ≡ list_depth (drop high (trees vs))
+back_depth vs high = ap list_depth (ap trees (take_rest vs high) ∙ sym (drop-map tree high vs))
+
+-- if a part is less deep than the list, so the others make it as deep
+pub others_nest : (vs : List Value) (low high d gone : ℕ) → d ≡ list_depth (trees vs) → low ≤ high → gone ≡ list_depth (trees (take (high - low) (drop low vs))) → gone < d
+    → d ≡ max (list_depth (take low (trees vs))) (list_depth (drop high (trees vs)))
+others_nest vs low high d gone e h gone_is less =
+    let part : list_depth (trees (take (high - low) (drop low vs))) ≡ list_depth (take (high - low) (drop low (trees vs))) = ap list_depth (trees_part vs (trees vs) low high refl) in
+    omega (arith, depth_of_parts (trees vs) low high h, e, gone_is, part, less)
+
+pub front_nests_most : (vs : List Value) (low high d before : ℕ) → d ≡ list_depth (trees vs) → before ≡ list_depth (trees (take low vs)) → before ≡ d
+    → d ≡ max (list_depth (take low (trees vs))) (list_depth (drop high (trees vs)))
+front_nests_most vs low high d before e before_is same = omega (arith, e, before_is, same, front_depth vs low, list_depth-drop high (trees vs))

@@ -152,7 +152,7 @@ fn replaces_integer(place: &mut Value, number: i32) -> bool
 }
 
 // Replaces the elements from `low` up to but not including `high` by copies of these, so that the elements have this
-// measure. Copies the others only if another list shares them.
+// measure. Copies the others if another list shares them, or if all would fill less than a quarter of the memory.
 pub(crate) fn with_spliced(
     alloc: Global,
     block: Rc<(Vec<Value>, Measure)>,
@@ -167,13 +167,23 @@ pub(crate) fn with_spliced(
     ensures measure { IfOk result (λ all. all.value.1 ≡ measure) }
 {
     let mut block = block;
+    let left = (block.0.len() - high)
+        .saturating_add(low)
+        .saturating_add(middle.len());
     if let Some(own) = Rc::get_mut(&mut block) {
-        splice(&mut own.0, low, high, middle)?;
-        own.1 = measure;
-        return Ok(block);
+        if fills_quarter(&own.0, left) {
+            splice(&mut own.0, low, high, middle)?;
+            own.1 = measure;
+            return Ok(block);
+        }
     }
     let copies = copied_in_a_row(alloc, &block.0[..low], middle, &block.0[high..])?;
     Ok(Rc::new(alloc, (copies, measure))?)
+}
+
+// Is true if so many elements fill at least a quarter of the memory of these. Fewer would keep too much of it.
+pub(crate) fn fills_quarter(elements: &Vec<Value>, many: usize) -> bool {
+    many >= elements.capacity() / 4
 }
 
 // Replaces the elements from `low` up to but not including `high` by copies of these. Err is out of memory.

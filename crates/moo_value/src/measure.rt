@@ -1,5 +1,5 @@
 //! The weight and the depth of the list of some values.
-ghost use Rattle.std.specs.Prelude.{◌≡◌, ◌≤◌, ◌+◌, ◌++◌, length, slice_range, IfSome, IfNone};
+ghost use Rattle.std.specs.Prelude.{◌≡◌, ◌≤◌, ◌+◌, ◌++◌, length, max, take, drop, slice_range, IfSome, IfNone};
 ghost use Rattle.moo_value.specs.Tree.{list_of};
 ghost use Rattle.moo_value.specs.Size.{list_weight, list_depth, IsWithinLimits, IsStored, weight_limit, depth_limit};
 ghost use Rattle.moo_value.specs.Inner.{IsMeasuredList};
@@ -112,10 +112,27 @@ pub(crate) fn measured_splice(
     if weight > WEIGHT_LIMIT {
         return None;
     }
-    let before = list_depth(&elements[..low], whole.depth);
-    let after = list_depth(&elements[high..], whole.depth);
-    let depth = before.max(inner.depth).max(after);
+    let depth = depth_beside(elements, whole.depth, low, high).max(inner.depth);
     Some(Measure { weight, depth })
+}
+
+// Returns the depth of the list of these values, of which that of all is so deep, without those from `low` up to but not
+// including `high`. Reads the others only if one of these is the deepest.
+fn depth_beside(elements: &[Value], most: u32, low: usize, high: usize) -> u32
+    requires order { low ≤ high }
+    requires within { high ≤ length elements.now }
+    requires whole { most ≡ list_depth (trees elements.now) }
+    ensures { result ≡ max (list_depth (take low (trees elements.now))) (list_depth (drop high (trees elements.now))) }
+{
+    let gone = list_depth(&elements[low..high], most);
+    if gone < most {
+        return most;
+    }
+    let before = list_depth(&elements[..low], most);
+    if before == most {
+        return most;
+    }
+    before.max(list_depth(&elements[high..], most))
 }
 
 // Returns the weight of the list of these values.

@@ -1,4 +1,4 @@
-use Rattle.moo_value.proofs.Joined.{part_stored, front_nests, back_nests, splice_weighs, measured-splice, too_heavy-splice}
+use Rattle.moo_value.proofs.Joined.{part_stored, splice_weighs, measured-splice, too_heavy-splice}
 use Rattle.moo_value.proofs.measure.measured_splice.Goals as goal
 
 pub list_weight-removed-requires : goal.list_weight-removed-requires
@@ -12,16 +12,13 @@ pub returns-then-weight-gt-WEIGHT_LIMIT-clause-none : goal.returns-then-weight-g
 returns-then-weight-gt-WEIGHT_LIMIT-clause-none c =
     too_heavy-splice c.args.elements.now _ c.args.low c.args.high _ _ _ _ c.requires.whole c.requires.order c.list_weight-removed.ensures.weight c.measure-inner.ensures.weight c.if-weight-gt-WEIGHT_LIMIT.true
 
-pub list_depth-before-requires : goal.list_depth-before-requires
-list_depth-before-requires c = front_nests c.args.elements.now c.args.low _ c.requires.whole.depth_is
-
-pub list_depth-after-requires : goal.list_depth-after-requires
-list_depth-after-requires c = back_nests c.args.elements.now c.args.high _ c.requires.whole.depth_is
+pub depth_beside-requires-clause-whole : goal.depth_beside-requires-clause-whole
+depth_beside-requires-clause-whole c = c.requires.whole.depth_is
 
 pub returns-clause-some : goal.returns-clause-some
 returns-clause-some c =
-    rw (c.max-depth.ensures, c.max.ensures)
-    (measured-splice c.args.elements.now _ c.args.low c.args.high _ _ _ _ _ _ _ c.requires.whole (c.measure-inner.ensures.value, c.measure-inner.ensures.limits) c.requires.order
+    rw c.max-depth.ensures
+    (measured-splice c.args.elements.now _ c.args.low c.args.high _ _ _ _ _ _ c.requires.whole (c.measure-inner.ensures.value, c.measure-inner.ensures.limits) c.requires.order
     c.list_weight-removed.ensures.weight c.measure-inner.ensures.weight
-    c.list_depth-before.ensures c.measure-inner.ensures.depth c.list_depth-after.ensures
+    c.depth_beside.ensures c.measure-inner.ensures.depth
     c.if-weight-gt-WEIGHT_LIMIT.false)

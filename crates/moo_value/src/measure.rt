@@ -54,8 +54,8 @@ pub(crate) fn list_depth(elements: &[Value], most: u32) -> u32
     depth
 }
 
-// Measures the list of the values from `low` up to but not including `high`. The list of all has this measure. Adds up the
-// weights of the other values.
+// Measures the list of the values from `low` up to but not including `high`. The list of all has this measure. Adds up
+// the weights of the other values. Reads these for the depth, up to one that is as deep as all.
 pub(crate) fn measured_part(elements: &[Value], whole: Measure, low: usize, high: usize) -> Measure
     requires whole { IsMeasuredList whole.weight whole.depth (trees elements.now) }
     requires order { low ≤ high }

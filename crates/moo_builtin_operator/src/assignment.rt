@@ -78,8 +78,8 @@ pub fn with_range(
 }
 
 /// Is true only if `with_range` of these arguments raises nothing. Its list is then no heavier than both lists together,
-/// and no deeper than the deeper one. It is false for strings, if the part ends before it begins, and if both lists
-/// together are too heavy.
+/// and no deeper than the deeper one. It is false for strings. It is false if the part ends before it begins, or if both
+/// lists together are too heavy.
 pub fn takes_range(base: &Value, low: &Value, high: &Value, value: &Value) -> bool
     ensures { IsTrue result → (w : Tree) × (with_range_of (tree base.now) (tree low.now) (tree high.now) (tree value.now) ≡ Ok w) × (weight w ≤ weight (tree base.now) + weight (tree value.now)) × (depth w ≤ max (depth (tree base.now)) (depth (tree value.now))) }
 {

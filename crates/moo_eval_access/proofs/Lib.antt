@@ -3,9 +3,6 @@ pub mod Entered
 pub mod LettingGo
 pub mod Written
 pub mod Longer
-pub mod Refused
 pub mod Counted
 pub mod Bounded
 pub mod Held
-pub mod LongerLists
-pub mod ListCalls

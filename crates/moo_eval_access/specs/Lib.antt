@@ -8,7 +8,4 @@ pub mod SeenTarget
 pub mod LetGo
 pub mod Fault
 pub mod Bounds
-pub mod ListCall
-pub mod LongerList
-pub mod Deferred
 pub mod Form

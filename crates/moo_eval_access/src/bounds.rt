@@ -46,7 +46,7 @@ impl Step {
 
 /// Returns bounds of the weight and depth of a list with a value of at most this weight and this depth at a place.
 /// `None` if they are past the limits, or if the list has no such place.
-pub(crate) fn element_bounds(
+pub fn element_bounds(
     list: &MooList,
     place: &Value,
     heaviest: u32,

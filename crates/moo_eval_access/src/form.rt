@@ -6,9 +6,11 @@ ghost use Rattle.moo_eval_access.specs.Form.{form_source};
 ghost use Rattle.moo_syntax_ast.specs.declared.tree.Literal.TheVariants.{Str};
 
 use crate::target::as_property;
+use moo_eval_frame::Variables;
 use moo_syntax_ast::{Name, Text};
 use moo_syntax_function::Function;
 use moo_syntax_lower::{FunctionName, Node, NodeItem};
+use moo_value::Value;
 
 /// Holds the parts of an expression whose value is a changed list.
 #[derive(Clone, Copy)]
@@ -69,6 +71,21 @@ pub fn is_list_change(node: &Node) -> bool {
     }
 }
 
+/// Is true if the value of a node is a list that may be changed in place once the variable with this name lets go of its
+/// value. A range counts only while the variable holds a list: that of a string is computed at once. Picks the way of an
+/// assignment; each way has the same meaning.
+#[inline(always)]
+pub fn is_own_change(variables: &Variables, name: &Name, value: &Node) -> bool {
+    match value {
+        Node::Range(base, _, _) => is_variable(name, base) && has_list(variables, name),
+        _ => is_list_change(value),
+    }
+}
+
+fn has_list(variables: &Variables, name: &Name) -> bool {
+    matches!(variables.get(name), Some(Value::List(_)))
+}
+
 fn is_changed_list(node: &Node) -> bool {
     list_form(node).is_some()
 }
@@ -93,7 +110,7 @@ fn is_repeated(list: &Node, items: &[NodeItem]) -> bool {
 
 fn is_variable(name: &Name, node: &Node) -> bool {
     match node {
-        Node::Variable(own) => own.as_bytes() == name.as_bytes(),
+        Node::Variable(own) => own.is_spelled_as(name),
         _ => false,
     }
 }

@@ -33,7 +33,7 @@ pub(crate) fn let_go_inside(
 
 // Has each container but the innermost let go of the next one. A next one of depth 0, or deeper than `MOST_DEPTH`, stays
 // in its place.
-fn let_go_each(alloc: Global, steps: Vec<Step>) -> Result<Vec<Step>, AllocError>
+pub(crate) fn let_go_each(alloc: Global, steps: Vec<Step>) -> Result<Vec<Step>, AllocError>
     ensures { IfOk result (λ new. (r : Result Tree Error) → rebuilt (steps_of new.items) r ≡ rebuilt (steps_of steps.items) r) }
 {
     let mut steps = steps;
@@ -49,7 +49,7 @@ fn let_go_each(alloc: Global, steps: Vec<Step>) -> Result<Vec<Step>, AllocError>
 impl Step {
     /// Puts another list of this depth into the place, so that the container doesn't hold what was there. The place
     /// takes other values as before. Does nothing if the depth is 0 or over `MOST_DEPTH`. Err is out of memory.
-    pub(crate) fn let_go(&mut self, alloc: Global, depth: u32) -> Result<(), AllocError>
+    pub fn let_go(&mut self, alloc: Global, depth: u32) -> Result<(), AllocError>
         ensures { OnOk result ((v : Tree) → with_part (tree self.new.container) (places_of self.new.places) v ≡ with_part (tree self.old.container) (places_of self.old.places) v) }
     {
         if depth == 0 || depth > MOST_DEPTH {

@@ -161,6 +161,7 @@ pub fn drop_property(world: &mut World, programmer: i32, base: &Value, name: &Va
 }
 
 /// Sets a property whose name is a literal to 0, as `drop_property` does.
+#[inline(always)]
 pub fn drop_written(world: &mut World, programmer: i32, base: &Value, name: &Text)
     ensures { IsSetAlike world.old world.new programmer (tree base.now) (string name.now) }
 {

@@ -16,7 +16,7 @@ ghost use Rattle.moo_eval_access.specs.LetGo.{IsLetGo};
 ghost use Rattle.moo_eval_access.specs.Bounds.{IsWithin};
 
 use crate::bounds::are_taken;
-use crate::holding::let_go_inside;
+use crate::holding::{let_go_each, let_go_inside};
 use crate::object::read_property;
 use moo_builtin_operator as operation;
 use moo_builtin_operator::OperationFault;
@@ -163,7 +163,7 @@ impl Step {
     }
 
     /// Returns the container with another value at the places.
-    pub(crate) fn with(self, alloc: Global, value: Value) -> Result<Value, OperationFault>
+    pub fn with(self, alloc: Global, value: Value) -> Result<Value, OperationFault>
         ensures { Gives result (with_part (tree self.container) (places_of self.places) (tree value)) }
     {
         let Step { container, places } = self;
@@ -273,7 +273,8 @@ fn set_taken(
     ensures err { IfErr result (λ failure. HadMemoryIn failure → answers (rebuilt (steps_of steps.items) (Ok (tree value))) ≡ Err (failure_of failure)) }
 {
     variables.set(name, Value::Int(0))?;
-    let whole = rebuilt(alloc, steps, value)?;
+    let steps = let_go_each(alloc, steps)?;
+    let whole = put_back(alloc, steps, value)?;
     variables.set(name, whole)?;
     Ok(())
 }

@@ -15,5 +15,5 @@ pub use handling::{
     with_values,
 };
 pub use leading::{Span, after_finally, after_turn, copied_name, no_turn, runs_finally};
-pub use scatter::{LeftOut, dealt, missing, set_names, set_shares, try_set_names};
+pub use scatter::{LeftOut, deal, set_names, try_set_names};
 pub use traceback::traceback_lines;

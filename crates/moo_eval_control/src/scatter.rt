@@ -26,16 +26,48 @@ pub struct LeftOut<'a> {
     pub value: &'a Node,
 }
 
-/// Returns the list whose elements are assigned: E_TYPE for a value that is no list, E_ARGS for a wrong number of
-/// elements.
-pub fn dealt<'a>(items: &[NodeItem], value: &'a Value) -> Result<&'a MooList, ErrorCode>
-    ensures ok { IfOk result (λ list. dealt (source_items items.now) (tree value.now) ≡ Ok list.now) }
-    ensures err { IfErr result (λ code. dealt (source_items items.now) (tree value.now) ≡ Err code) }
+// Holds the items of a scatter. Of their names so many have to get a value, and so many may be left out. Another one may
+// take the rest.
+#[derive(Drop)]
+struct Counts<'a> {
+    items: &'a [NodeItem],
+    required: usize,
+    optionals: usize,
+    takes_rest: bool,
+}
+
+/// Sets the names of a scatter that get an element, and returns those with a default that get none. E_TYPE for a value
+/// that is no list, E_ARGS for a wrong number of elements; then no name is set. If memory runs out, some names may be
+/// set.
+pub fn deal<'a>(
+    alloc: Global,
+    active: &mut Activation,
+    items: &'a [NodeItem],
+    value: &Value,
+) -> Result<Vec<LeftOut<'a>>, Failure>
+    ensures ok { IfOk result (λ left. (list : List Tree) × (dealt (source_items items.now) (tree value.now) ≡ Ok list) × (variables_of active.new.variables ≡ with_all (variables_of active.old.variables) (given (source_items items.now) list)) × (map left_out_of left.items ≡ missing (source_items items.now) list) × (active.new.programmer ≡ active.old.programmer)) }
+    ensures err { IfErr result (λ failure. HadMemoryIn failure → (code : ErrorCodeModel) × (dealt (source_items items.now) (tree value.now) ≡ Err code) × (failure_of failure ≡ fails code) × (active.new ≡ active.old)) }
+{
+    let counts = counted(items);
+    let list = dealt(&counts, value)?;
+    set_shares(alloc, active, &counts, list)?;
+    Ok(missing(alloc, &counts, list)?)
+}
+
+// Returns the list whose elements are assigned: E_TYPE for a value that is no list, E_ARGS for a wrong number of
+// elements.
+#[inline(always)]
+fn dealt<'a>(counts: &Counts<'_>, value: &'a Value) -> Result<&'a MooList, ErrorCode>
+    requires required { counts.now.required ≡ required (source_items counts.now.items.now) }
+    requires optionals { counts.now.optionals ≡ optionals (source_items counts.now.items.now) }
+    requires rest { counts.now.takes_rest ≡ takes_rest (source_items counts.now.items.now) }
+    ensures ok { IfOk result (λ list. dealt (source_items counts.now.items.now) (tree value.now) ≡ Ok list.now) }
+    ensures err { IfErr result (λ code. dealt (source_items counts.now.items.now) (tree value.now) ≡ Err code) }
 {
     let Value::List(list) = value else {
         return Err(ErrorCode::TypeMismatch);
     };
-    if fits(items, list.len()) {
+    if fits(counts, list.len()) {
         Ok(list)
     } else {
         Err(ErrorCode::Arguments)
@@ -104,14 +136,16 @@ fn set_copy(variables: &mut Variables, name: &Name, value: &Value) -> Result<(),
     variables.set(name, value.try_clone()?)
 }
 
-fn fits(items: &[NodeItem], count: usize) -> bool
-    ensures { result ≡ fits (source_items items.now) count }
+fn fits(counts: &Counts<'_>, count: usize) -> bool
+    requires required { counts.now.required ≡ required (source_items counts.now.items.now) }
+    requires optionals { counts.now.optionals ≡ optionals (source_items counts.now.items.now) }
+    requires rest { counts.now.takes_rest ≡ takes_rest (source_items counts.now.items.now) }
+    ensures { result ≡ fits (source_items counts.now.items.now) count }
 {
-    let required = required(items);
-    if count < required {
+    if count < counts.required {
         return false;
     }
-    takes_rest(items) || count - required <= optionals(items)
+    counts.takes_rest || count - counts.required <= counts.optionals
 }
 
 fn is_required(item: &NodeItem) -> bool
@@ -132,40 +166,27 @@ fn is_rest(item: &NodeItem) -> bool
     matches!(item, NodeItem::Splice(_))
 }
 
-// Returns how many names have to get a value.
-fn required(items: &[NodeItem]) -> usize
-    ensures count { result ≡ required (source_items items.now) }
-    ensures bound { result ≤ length items.now }
+// Counts the items of a scatter by their kinds.
+fn counted(items: &[NodeItem]) -> Counts<'_>
+    ensures items { result.items ≡ items.entry }
+    ensures required { result.required ≡ required (source_items items.now) }
+    ensures optionals { result.optionals ≡ optionals (source_items items.now) }
+    ensures rest { result.takes_rest ≡ takes_rest (source_items items.now) }
 {
-    let mut count = 0;
+    let mut required = 0;
+    let mut optionals = 0;
+    let mut takes_rest = false;
     for item in items {
-        count += usize::from(is_required(item));
+        required += usize::from(is_required(item));
+        optionals += usize::from(is_optional(item));
+        takes_rest = takes_rest || is_rest(item);
     }
-    count
-}
-
-// Returns how many names may be left out.
-fn optionals(items: &[NodeItem]) -> usize
-    ensures count { result ≡ optionals (source_items items.now) }
-    ensures bound { result ≤ length items.now }
-{
-    let mut count = 0;
-    for item in items {
-        count += usize::from(is_optional(item));
+    Counts {
+        items,
+        required,
+        optionals,
+        takes_rest,
     }
-    count
-}
-
-// Returns whether a name takes all that the others leave.
-fn takes_rest(items: &[NodeItem]) -> bool
-    ensures { result ≡ takes_rest (source_items items.now) }
-{
-    for item in items {
-        if is_rest(item) {
-            return true;
-        }
-    }
-    false
 }
 
 // Holds what is left to be assigned: the values from `next` on. Of them `spare` are left for names that may be left
@@ -178,25 +199,27 @@ struct Dealing<'a> {
     rest: usize,
 }
 
-/// Sets the names of a scatter that get a value of the list, from the left. The name after `@` gets a list. Err is out
-/// of memory; some names may then be set.
-pub fn set_shares(
+// Sets the names of a scatter that get a value of the list, from the left. The name after `@` gets a list. Err is out
+// of memory; some names may then be set.
+fn set_shares(
     alloc: Global,
     active: &mut Activation,
-    items: &[NodeItem],
+    counts: &Counts<'_>,
     list: &MooList,
 ) -> Result<(), AllocError>
-    ensures variables { OnOk result (variables_of active.new.variables ≡ with_all (variables_of active.old.variables) (given (source_items items.now) list.now)) }
+    requires required { counts.now.required ≡ required (source_items counts.now.items.now) }
+    requires optionals { counts.now.optionals ≡ optionals (source_items counts.now.items.now) }
+    ensures variables { OnOk result (variables_of active.new.variables ≡ with_all (variables_of active.old.variables) (given (source_items counts.now.items.now) list.now)) }
     ensures programmer { OnOk result (active.new.programmer ≡ active.old.programmer) }
 {
-    let spare = list.len().saturating_sub(required(items));
+    let spare = list.len().saturating_sub(counts.required);
     let mut dealing = Dealing {
         list,
         next: 0,
         spare,
-        rest: spare.saturating_sub(optionals(items)),
+        rest: spare.saturating_sub(counts.optionals),
     };
-    for item in items {
+    for item in counts.items {
         let share = dealing.share(alloc, item)?;
         set_share(active, share)?;
     }
@@ -295,17 +318,18 @@ fn named(target: &Node, value: Value) -> Option<(&Name, Value)>
     }
 }
 
-/// Returns the names that get no value of the list but have a default, from the left. Err is out of memory.
-pub fn missing<'a>(
+// Returns the names that get no value of the list but have a default, from the left. Err is out of memory.
+fn missing<'a>(
     alloc: Global,
-    items: &'a [NodeItem],
+    counts: &Counts<'a>,
     list: &MooList,
 ) -> Result<Vec<LeftOut<'a>>, AllocError>
-    ensures { IfOk result (λ names. map left_out_of names.items ≡ missing (source_items items.now) list.now) }
+    requires { counts.now.required ≡ required (source_items counts.now.items.now) }
+    ensures { IfOk result (λ names. map left_out_of names.items ≡ missing (source_items counts.now.items.now) list.now) }
 {
-    let mut spare = list.len().saturating_sub(required(items));
+    let mut spare = list.len().saturating_sub(counts.required);
     let mut names = Vec::new(alloc);
-    for item in items {
+    for item in counts.items {
         push_left_out(&mut names, left_out(&mut spare, item))?;
     }
     Ok(names)

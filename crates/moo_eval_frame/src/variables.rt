@@ -275,6 +275,18 @@ impl Variables {
         }
     }
 
+    /// Returns the value of a variable, as `get` does. It compares the name with `this` first, which most calls and
+    /// properties name.
+    #[inline(always)]
+    pub fn get_base(&self, name: &Name) -> Option<&Value>
+        ensures { option_map (λ v. tree v.now) result ≡ variables_of self.now (folded name.now) }
+    {
+        match name.given() {
+            Some(Given::This) => Some(self.given.get(Given::This)),
+            _ => self.get(name),
+        }
+    }
+
     /// Returns the value of a variable, if it is set and its slot is known.
     #[inline(always)]
     pub fn get_known(&self, name: &Name) -> Option<&Value>

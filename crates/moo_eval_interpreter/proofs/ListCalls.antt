@@ -10,7 +10,7 @@ use Rattle.moo_builtin.specs.Telling.{Faults}
 use Rattle.moo_eval_frame.specs.State.{Context}
 use Rattle.moo_eval_access.specs.State.{State}
 use Rattle.moo_eval_hook.specs.VerbCalls.{verb_caller}
-use Rattle.moo_eval_access.specs.ListCall.{MakesList, appends, inserts, appends_at, inserts_at, adds, sets, deletes, removes}
+use Rattle.moo_eval_deferred.specs.ListCall.{MakesList, appends, inserts, appends_at, inserts_at, adds, sets, deletes, removes}
 use Rattle.moo_eval_call.specs.Calls.{CallsFunction}
 use Rattle.moo_eval_semantics.specs.Meaning.{EvaluatesAll, Computes, applies, no_more, call_is}
 

@@ -15,9 +15,10 @@ use crate::deferred::evaluate_deferred;
 use crate::interpreter::evaluate;
 use crate::scattering::scatter;
 use moo_eval_access::{
-    Path, Places, Root, Spot, Step, as_property, assign_deferred, is_list_change, push_step,
-    rebuilt, root_alone, set_deferred, taken_apart,
+    Path, Places, Root, Spot, Step, as_property, is_own_change, push_step, rebuilt, root_alone,
+    taken_apart,
 };
+use moo_eval_deferred::{assign_deferred, set_deferred};
 use moo_eval_frame::{Activation, CallStack, Failure, Flow, Stop};
 use moo_eval_task::Task;
 use moo_syntax_ast::Name;
@@ -40,7 +41,7 @@ pub(crate) fn assign(
     ensures ticks { task.new.ticks_left ≤ task.old.ticks_left }
 {
     match target {
-        Node::Variable(name) if is_own_change(active, name, value) => {
+        Node::Variable(name) if is_own_change(&active.variables, name, value) => {
             assign_changed(task, world, active, stack, indexed, name, value)
         }
         Node::Variable(name) => {
@@ -51,28 +52,6 @@ pub(crate) fn assign(
         }
         _ => assign_path(task, world, active, stack, indexed, target, value),
     }
-}
-
-// Is true if the value of a node is a list that may be changed in place once the variable with this name lets go of its
-// value. A range counts only while the variable holds a list: that of a string is computed at once. Picks the way of an
-// assignment; each way has the same meaning.
-#[inline(always)]
-fn is_own_change(active: &Activation, name: &Name, value: &Node) -> bool {
-    match value {
-        Node::Range(base, _, _) => is_variable(name, base) && has_list(active, name),
-        _ => is_list_change(value),
-    }
-}
-
-fn is_variable(name: &Name, node: &Node) -> bool {
-    match node {
-        Node::Variable(own) => own.is_spelled_as(name),
-        _ => false,
-    }
-}
-
-fn has_list(active: &Activation, name: &Name) -> bool {
-    matches!(active.variables.get(name), Some(Value::List(_)))
 }
 
 // Assigns a list that may be changed in place to a variable. Not inlined, so that other assignments need no stack space
@@ -133,7 +112,7 @@ pub(crate) fn assign_value(
     ensures ticks { task.new.ticks_left ≤ task.old.ticks_left }
 {
     task.take_tick(active, stack)?;
-    if is_own_change(active, name, value) {
+    if is_own_change(&active.variables, name, value) {
         let value = evaluate_deferred(task, world, active, stack, None, value)?;
         set_deferred(task.alloc(), &mut active.variables, name, value)?;
         return Ok(Flow::Next);

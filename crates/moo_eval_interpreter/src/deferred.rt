@@ -5,7 +5,7 @@ ghost use Rattle.moo_syntax_ast.specs.Tree.{list, splice, element, no_items, cal
 ghost use Rattle.moo_syntax_lower.specs.Source.{source, source_items};
 ghost use Rattle.moo_eval_frame.specs.Seen.{context_of, stop_of, seen_by, HadMemory, IsKnownFailure};
 ghost use Rattle.moo_builtin.specs.Telling.{Faults};
-ghost use Rattle.moo_eval_access.specs.Deferred.{deferred_tree};
+ghost use Rattle.moo_eval_deferred.specs.Deferred.{deferred_tree};
 ghost use Rattle.moo_eval_access.specs.Form.{form_source};
 ghost use Rattle.moo_eval_semantics.specs.Meaning.{Computes, Evaluates};
 ghost use Rattle.moo_eval_task.specs.Seen.{state_of};
@@ -13,9 +13,8 @@ ghost use Rattle.moo_eval_task.specs.Seen.{state_of};
 use crate::conditions::passes;
 use crate::functions::call_with;
 use crate::interpreter::{evaluate, evaluate_all};
-use moo_eval_access::{
-    Deferred, ListCall, ListForm, LongerList, deferred_range, is_list_change, list_form,
-};
+use moo_eval_access::{ListForm, is_list_change, list_form};
+use moo_eval_deferred::{Deferred, ListCall, LongerList, deferred_range};
 use moo_eval_frame::{Activation, CallStack, Failure, Gathered, Stop};
 use moo_eval_task::Task;
 use moo_syntax_lower::{FunctionName, Node, NodeItem};

@@ -10,7 +10,7 @@ ghost use Rattle.moo_eval_task.specs.Seen.{state_of};
 
 use crate::deferred::evaluate_stored;
 use crate::interpreter::evaluate;
-use moo_eval_access::set_deferred_at;
+use moo_eval_deferred::set_deferred_at;
 use moo_eval_frame::{Activation, CallStack, Failure, Flow, Stop, read_variable};
 use moo_eval_task::Task;
 use moo_syntax_ast::Name;

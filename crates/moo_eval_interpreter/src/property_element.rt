@@ -11,7 +11,8 @@ ghost use Rattle.moo_eval_task.specs.Seen.{state_of};
 
 use crate::deferred::evaluate_stored;
 use crate::interpreter::evaluate;
-use moo_eval_access::{read_written, set_property_deferred_at};
+use moo_eval_access::read_written;
+use moo_eval_deferred::set_property_deferred_at;
 use moo_eval_frame::{Activation, CallStack, Failure, Flow, Stop};
 use moo_eval_task::Task;
 use moo_syntax_ast::Text;

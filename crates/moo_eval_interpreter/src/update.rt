@@ -9,7 +9,7 @@ ghost use Rattle.moo_builtin.specs.Telling.{Faults};
 ghost use Rattle.moo_eval_task.specs.Seen.{state_of};
 
 use crate::deferred::defer_call;
-use moo_eval_access::{Deferred, set_called, set_deferred};
+use moo_eval_deferred::{Deferred, set_called, set_deferred};
 use moo_eval_frame::{Activation, CallStack, Failure, Flow, Stop};
 use moo_eval_task::Task;
 use moo_syntax_ast::Name;

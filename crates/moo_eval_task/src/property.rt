@@ -85,7 +85,7 @@ pub(crate) fn object_of(active: &Activation, node: &Node) -> Option<i32>
     ensures { IfSome result (λ o. GivesLeaf (variables_of active.now.variables) (source node.now) (object o)) }
 {
     match node {
-        Node::Variable(name) => object_in(active.variables.get(name)),
+        Node::Variable(name) => object_in(active.variables.get_base(name)),
         Node::Object(number) => Some(*number),
         _ => None,
     }

@@ -18,7 +18,7 @@ ghost use Rattle.moo_eval_task.specs.Seen.{state_of};
 ghost use Rattle.moo_eval_control.specs.SeenScatter.{left_out_of};
 
 use crate::task::Task;
-use moo_eval_control::{LeftOut, dealt, missing, set_shares, try_set_names};
+use moo_eval_control::{LeftOut, deal, try_set_names};
 use moo_eval_frame::{Activation, Failure};
 use moo_syntax_ast::Name;
 use moo_syntax_lower::{Node, NodeItem};
@@ -67,9 +67,7 @@ impl Task {
         ensures ok { IfOk result (λ defaults. (c : Context) (w : WorldModel) (o : Result (Unit {0}) Failed) (s : State) → SetsDefaults Faults c (map left_out_of defaults.items) (state_of self.now w active.new) o s → Puts Faults c (scattered (source_items items.now)) (value_tree value.now) (state_of self.now w active.old) o s) }
         ensures err { IfErr result (λ failure. HadMemoryIn failure → (c : Context) (w : WorldModel) → Puts Faults c (scattered (source_items items.now)) (value_tree value.now) (state_of self.now w active.old) (Err (failure_of failure)) (state_of self.now w active.new)) }
     {
-        let list = dealt(items, value)?;
-        set_shares(self.alloc(), active, items, list)?;
-        Ok(missing(self.alloc(), items, list)?)
+        deal(self.alloc(), active, items, value)
     }
 }
 

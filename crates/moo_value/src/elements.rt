@@ -81,7 +81,8 @@ pub(crate) fn without(
     Ok(Rc::new(alloc, (copies, measure))?)
 }
 
-// Keeps the elements from `low` up to but not including `high`.
+// Keeps the elements from `low` up to but not including `high`. A drain takes many steps, so there is none if no element
+// or only the first one is removed.
 pub(crate) fn narrow(elements: &mut Vec<Value>, low: usize, high: usize)
     requires order { low ≤ high }
     requires within { high ≤ vec_len elements.old }

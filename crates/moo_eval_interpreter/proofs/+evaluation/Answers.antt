@@ -37,7 +37,7 @@ use Rattle.moo_eval_interpreter.proofs.ObjectCalls.{named}
 use Rattle.moo_eval_interpreter.proofs.Passing.{undecided, decided, operand_stops, negated, not_stops, truth_of, if_err}
 use Rattle.moo_eval_interpreter.proofs.Choosing.{passed}
 use Rattle.moo_eval_interpreter.proofs.Conditional.{test_stopped, first_chosen, second_chosen}
-use Rattle.moo_eval_access.specs.Deferred.{deferred_tree}
+use Rattle.moo_eval_deferred.specs.Deferred.{deferred_tree}
 use Rattle.moo_eval_interpreter.proofs.Spliced.{plain_rest, not_spliced}
 use Rattle.moo_eval_interpreter.proofs.Known.{codes_given, errors_given, errors_end, seen_listed}
 use Rattle.moo_eval_control.specs.SeenCatching.{code_values}

@@ -10,7 +10,7 @@ use Rattle.moo_eval_task.proofs.property.object_of.Goals as goal
 
 pub returns-in-Variable : goal.returns-in-Variable
 returns-in-Variable c =
-    map_some c.object_in.result (λ o h. λ k s e z. rw c.in-Variable.is (variable_read z (ap (λ o. answers (or_error o VariableNotFound)) (ap (λ f. f (folded c.in-Variable.name)) e ∙ sym c.get.ensures ∙ h)) refl)) c.object_in.ensures
+    map_some c.object_in.result (λ o h. λ k s e z. rw c.in-Variable.is (variable_read z (ap (λ o. answers (or_error o VariableNotFound)) (ap (λ f. f (folded c.in-Variable.name)) e ∙ sym c.get_base.ensures ∙ h)) refl)) c.object_in.ensures
 
 pub returns-in-Object : goal.returns-in-Object
 returns-in-Object c =

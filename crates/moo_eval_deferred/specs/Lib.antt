@@ -1,0 +1,3 @@
+pub mod ListCall
+pub mod LongerList
+pub mod Deferred

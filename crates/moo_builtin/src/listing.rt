@@ -10,7 +10,7 @@ ghost use Rattle.moo_builtin.specs.Listed.{listed, code_of_verb, chosen_code, ve
 use crate::answers::{PERMISSION, QUOTA, TYPE_MISMATCH, VERB_NOT_FOUND, listed};
 use moo_builtin_operator::{OperationFault, is_true};
 use moo_builtin_world::{chosen, numbered_verb};
-use moo_syntax_grammar::Program;
+use moo_syntax_program::Program;
 use moo_unparse::{ListFault, Memory, list_full, list_full_indented, list_short};
 use moo_value::{MooStr, Value};
 use moo_world::{Rights, World};

@@ -12,7 +12,7 @@ ghost use Rattle.moo_dbtext.specs.Texts.{source_of, row_of, row_at};
 
 use moo_dbtext_object::put_line;
 use moo_dbtext_record::put_program_line;
-use moo_syntax_grammar::Program;
+use moo_syntax_program::Program;
 use moo_unparse::write_full;
 use moo_world::{Object, Verb};
 use moo_world_table::verbs::verbs_of;

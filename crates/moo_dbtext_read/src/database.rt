@@ -2,7 +2,7 @@
 
 use moo_dbtext_object::ObjectRecord;
 use moo_dbtext_record::Connection;
-use moo_syntax_grammar::Program;
+use moo_syntax_program::Program;
 
 /// A database text as its lines give it, each program as a tree.
 #[derive(Drop)]

@@ -13,7 +13,7 @@ use crate::{Database, Saved};
 use moo_dbtext_object::ObjectRecord;
 use moo_dbtext_record::{Connection, DbFault, DbFaultKind};
 use moo_dbtext_restore::{RestoreFault, restore_checked};
-use moo_syntax_grammar::Program;
+use moo_syntax_program::Program;
 use moo_world::World;
 use std::alloc::{AllocError, Global};
 use std::mem::forget;

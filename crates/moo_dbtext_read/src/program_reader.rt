@@ -16,7 +16,7 @@ use moo_dbtext_record::{
     DbFault, DbFaultKind, Dump, LineSink, RecordFault, RecordReader, feed_lines,
 };
 use moo_syntax::{Names, parse_with};
-use moo_syntax_grammar::Program;
+use moo_syntax_program::Program;
 use moo_syntax_token::NameInterner;
 use std::alloc::Global;
 

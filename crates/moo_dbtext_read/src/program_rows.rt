@@ -3,7 +3,7 @@ ghost use Rattle.std.specs.Prelude.{◌≡◌, ℕ, Some, None, slice_index_or, 
 ghost use Rattle.moo_dbtext_record.specs.Programs.{entry_at};
 ghost use Rattle.moo_dbtext_read.specs.Says.{programs_of};
 
-use moo_syntax_grammar::Program;
+use moo_syntax_program::Program;
 use std::alloc::{AllocError, Global};
 
 fn put_in(row: &mut Vec<Option<Program>>, verb: usize, program: Program) -> Result<(), AllocError>

@@ -18,7 +18,7 @@ ghost use Rattle.moo_dbtext_restore.specs.Tours.{IsTour};
 use crate::rows::{make_row, make_verbs, share_names};
 use crate::tour::Visit;
 use moo_dbtext_object::ObjectRecord;
-use moo_syntax_grammar::Program;
+use moo_syntax_program::Program;
 use moo_value::MooStr;
 use moo_world_object::Object;
 use std::alloc::{AllocError, Global};

@@ -24,7 +24,7 @@ use crate::objects::make_objects;
 use crate::records::{parent_links, place_links};
 use crate::tour::{Visit, tour_of};
 use moo_dbtext_object::ObjectRecord;
-use moo_syntax_grammar::Program;
+use moo_syntax_program::Program;
 use moo_world::World;
 use moo_world_tree::Forest;
 use std::alloc::{AllocError, Global};

@@ -8,7 +8,7 @@ ghost use Rattle.moo_world_table.specs.Restoring.{rekeyed};
 ghost use Rattle.moo_dbtext_restore.specs.Plain.{plain_verb, plain_verbs, plain_cell, keys_on};
 
 use moo_dbtext_object::{PropertyRecord, VerbRecord};
-use moo_syntax_grammar::Program;
+use moo_syntax_program::Program;
 use moo_value::MooStr;
 use moo_world_object::{PropCell, Row, Verb};
 use std::alloc::{AllocError, Global};

@@ -14,7 +14,7 @@ use Rattle.moo_value.specs.Tree.{Tree}
 use Rattle.moo_syntax_ast.specs.Tree.{Block}
 use Rattle.moo_eval_access.specs.State.{State}
 use Rattle.moo_builtin.specs.Telling.{Faults}
-use Rattle.moo_eval_call.specs.Tasks.{most_ticks}
+use Rattle.moo_eval_semantics.specs.Tasks.{most_ticks}
 use Rattle.moo_eval.specs.declared.task.Ended as code
 use Rattle.moo_eval.specs.declared.task.Ended.TheVariants as ended
 use Rattle.moo_eval_semantics.specs.Meaning.{RunsAll}

@@ -5,13 +5,13 @@ ghost use Rattle.moo_builtin.specs.Telling.{Faults};
 ghost use Rattle.moo_eval_semantics.specs.Task.{End, TaskEnds};
 ghost use Rattle.moo_eval.specs.Ends.{texts};
 ghost use Rattle.moo_eval_frame.specs.declared.notice.Notice.{Notice};
-ghost use Rattle.moo_eval_hook.specs.Evaluating.{typed_frame};
+ghost use Rattle.moo_eval_semantics.specs.Evaluating.{typed_frame};
 ghost use Rattle.moo_eval_semantics.specs.Typed.{nowhere, shown};
 
 use crate::task::{Ended, run_task};
 use moo_eval_frame::{Surroundings, TaskEnv};
 use moo_eval_hook::typed_frame;
-use moo_syntax_grammar::Program;
+use moo_syntax_program::Program;
 use moo_world::World;
 use std::alloc::{AllocError, Global};
 

@@ -1,6 +1,6 @@
 -- Expressions whose value is a changed list.
 use Rattle.moo_syntax_ast.specs.Tree.{Expr, list, splice, element, no_items, call, range}
-use Rattle.moo_syntax_lower.specs.Source.{source, source_items}
+use Rattle.moo_syntax_node.specs.Source.{source, source_items}
 use Rattle.moo_eval_access.specs.declared.form.ListForm.{ListForm}
 use Rattle.moo_eval_access.specs.declared.form.ListForm.TheVariants as form
 

@@ -3,8 +3,8 @@ use Rattle.std.specs.Prelude.{List, [], ◌∷◌, map, reverse}
 use Rattle.moo_value.specs.Tree.{Tree, elements_of}
 use Rattle.moo_value.specs.View.{tree}
 use Rattle.moo_syntax_ast.specs.Tree.{Items, no_items, element}
-use Rattle.moo_syntax_lower.specs.Source.{source, source_items}
-use Rattle.moo_syntax_lower.specs.Spelling.{spelled_items}
+use Rattle.moo_syntax_node.specs.Source.{source, source_items}
+use Rattle.moo_syntax_node.specs.Spelling.{spelled_items}
 use Rattle.moo_eval_access.specs.declared.target.Root as code_root
 use Rattle.moo_eval_access.specs.declared.target.Root.TheVariants as root_case
 use Rattle.moo_eval_access.specs.declared.target.Places.{Places}

@@ -19,7 +19,7 @@ use moo_eval_frame::{
     Activation, CallStack, Failure, Frame, FrameMemory, GivenValues, Running, Stop,
 };
 use moo_syntax_ast::{NameKey, Text};
-use moo_syntax_grammar::Program;
+use moo_syntax_program::Program;
 use moo_value::{ErrorCode, ListLimit, MooList, MooStr, Value};
 use moo_world::{Rights, VerbAt, World};
 use moo_world_object::Verb;

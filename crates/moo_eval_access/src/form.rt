@@ -1,7 +1,7 @@
 //! Forms of expressions that the evaluator runs in place, as `{@x, e}` and `o.p = e`.
 ghost use Rattle.std.specs.Prelude.{◌≡◌, None, IfSome, ◌<◌, ◌-◌, Some, ◌∷◌, []};
 ghost use Rattle.moo_syntax_ast.specs.Tree.{variable, assign, list, splice, element, no_items, literal, property, Items, call, range};
-ghost use Rattle.moo_syntax_lower.specs.Source.{source, source_items, with_source};
+ghost use Rattle.moo_syntax_node.specs.Source.{source, source_items, with_source};
 ghost use Rattle.moo_eval_access.specs.Form.{form_source};
 ghost use Rattle.moo_syntax_ast.specs.declared.tree.Literal.TheVariants.{Str};
 
@@ -9,7 +9,7 @@ use crate::target::as_property;
 use moo_eval_frame::Variables;
 use moo_syntax_ast::{Name, Text};
 use moo_syntax_function::Function;
-use moo_syntax_lower::{FunctionName, Node, NodeItem};
+use moo_syntax_node::{FunctionName, Node, NodeItem};
 use moo_value::Value;
 
 /// Holds the parts of an expression whose value is a changed list.

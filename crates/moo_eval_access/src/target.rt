@@ -4,7 +4,7 @@ ghost use Rattle.std.specs.Prelude.{◌≡◌, ◌+◌, ◌∷◌, [], Ok, Err, 
 ghost use Rattle.moo_value.specs.Tree.{Tree};
 ghost use Rattle.moo_value.specs.Size.{weight, depth};
 ghost use Rattle.moo_value.specs.View.{tree};
-ghost use Rattle.moo_syntax_lower.specs.Source.{source};
+ghost use Rattle.moo_syntax_node.specs.Source.{source};
 ghost use Rattle.moo_syntax_ast.specs.Tree.{property, no_items};
 ghost use Rattle.moo_builtin_operator.specs.Answer.{Gives};
 ghost use Rattle.moo_eval_frame.specs.Outcome.{answers};
@@ -22,7 +22,7 @@ use moo_builtin_operator as operation;
 use moo_builtin_operator::OperationFault;
 use moo_eval_frame::{Activation, Failure, Variables, read_variable};
 use moo_syntax_ast::Name;
-use moo_syntax_lower::{Constant, Node, NodeItem};
+use moo_syntax_node::{Constant, Node, NodeItem};
 use moo_value::{ErrorCode, Value};
 use moo_world::World;
 use std::alloc::{AllocError, Global};

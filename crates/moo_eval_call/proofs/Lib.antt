@@ -1,6 +1,3 @@
-pub mod Unique
-pub mod Onward
-pub mod Wider
 mod Unchanged
 mod Replies
 mod Stretches

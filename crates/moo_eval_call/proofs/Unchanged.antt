@@ -23,9 +23,9 @@ use Rattle.moo_eval_frame.specs.State.{Context}
 use Rattle.moo_eval_access.specs.State.{State, trace}
 use Rattle.moo_builtin.specs.Telling.{Telling, Faults}
 use Rattle.moo_builtin.proofs.Once.{raised}
-use Rattle.moo_eval_call.specs.Tasks.{Reply, set_task_perms, replied}
-use Rattle.moo_eval_call.specs.Asking.{noticed, leaves, is_run_by_wizard, notify, boot_player, dump_database, shutdown, server_log, flagged, set_player_flag}
-use Rattle.moo_eval_call.specs.Calls.{task_reply, unless_refused, caller, task_function, CallsAs}
+use Rattle.moo_eval_semantics.specs.Tasks.{Reply, set_task_perms, replied}
+use Rattle.moo_eval_semantics.specs.Asking.{noticed, leaves, is_run_by_wizard, notify, boot_player, dump_database, shutdown, server_log, flagged, set_player_flag}
+use Rattle.moo_eval_semantics.specs.Calls.{task_reply, unless_refused, caller, task_function, CallsAs}
 use Rattle.moo_eval_call.specs.Laws.{RaisesChangeNothing}
 
 abbrev Keeps : State → Reply → Type 0

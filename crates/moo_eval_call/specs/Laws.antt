@@ -5,7 +5,7 @@ use Rattle.moo_eval_frame.specs.Outcome.{Failure}
 use Rattle.moo_eval_frame.specs.State.{Context}
 use Rattle.moo_eval_access.specs.State.{State}
 use Rattle.moo_builtin.specs.Telling.{Faults, Choice, PassesPrograms, chosen_by}
-use Rattle.moo_eval_call.specs.Calls.{CallsFunction}
+use Rattle.moo_eval_semantics.specs.Calls.{CallsFunction}
 
 -- for one input a call has at most one result, whichever faults are chosen for texts that are no programs
 abbrev pub OneResultOfCalls : Type 0

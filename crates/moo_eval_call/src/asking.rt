@@ -7,7 +7,7 @@ ghost use Rattle.moo_value.specs.View.{trees};
 ghost use Rattle.moo_eval_frame.specs.Seen.{seen_answer, IsKnownFailure};
 ghost use Rattle.moo_eval_frame.specs.declared.frame.Activation.{Activation};
 ghost use Rattle.moo_world_table.specs.World.{World as Objects};
-ghost use Rattle.moo_eval_call.specs.Asking.{leaves, notify, boot_player, dump_database, shutdown, server_log, set_player_flag};
+ghost use Rattle.moo_eval_semantics.specs.Asking.{leaves, notify, boot_player, dump_database, shutdown, server_log, set_player_flag};
 ghost use Rattle.moo_eval_access.specs.SeenState.{state_at};
 
 use moo_builtin_operator::is_true;

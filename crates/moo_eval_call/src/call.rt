@@ -7,7 +7,7 @@ ghost use Rattle.moo_syntax_function.specs.Table.{row};
 ghost use Rattle.moo_syntax_function.specs.Check.{refusal};
 ghost use Rattle.moo_builtin_world.specs.Objects.{is_valid};
 ghost use Rattle.moo_eval_frame.specs.Seen.{context_of, seen_answer, IsKnownFailure};
-ghost use Rattle.moo_eval_call.specs.Calls.{unless_refused, task_reply, task_function, caller, ComesTo, CallsFunction};
+ghost use Rattle.moo_eval_semantics.specs.Calls.{unless_refused, task_reply, task_function, caller, ComesTo, CallsFunction};
 ghost use Rattle.moo_eval_access.specs.SeenState.{state_at};
 ghost use Rattle.moo_builtin.specs.Telling.{Faults};
 ghost use Rattle.moo_builtin.specs.Calls.{CallsPlain};

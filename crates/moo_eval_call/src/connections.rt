@@ -4,7 +4,7 @@ ghost use Rattle.std.specs.Prelude.{◌≡◌, ◌++◌, OnOk};
 ghost use Rattle.moo_value.specs.View.{tree, trees};
 ghost use Rattle.moo_eval_frame.specs.Outcome.{answers};
 ghost use Rattle.moo_eval_frame.specs.Seen.{surroundings_of, seen_answer, IsKnownFailure};
-ghost use Rattle.moo_eval_call.specs.Connections.{who, is_asked, connected_players, connected, elapsed, elapsed_since, last_heard, last_login};
+ghost use Rattle.moo_eval_semantics.specs.Connections.{who, is_asked, connected_players, connected, elapsed, elapsed_since, last_heard, last_login};
 
 use moo_builtin_operator::{self as operation, is_true};
 use moo_eval_frame::{Connection, Failure, Login, Surroundings, own_number, push};

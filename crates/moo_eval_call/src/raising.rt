@@ -3,7 +3,7 @@ ghost use Rattle.std.specs.Prelude.{◌≡◌};
 ghost use Rattle.moo_value.specs.View.{tree};
 ghost use Rattle.moo_builtin_value.specs.Calls.{plainly};
 ghost use Rattle.moo_eval_frame.specs.Seen.{trace_of, seen_answer, IsKnownFailure};
-ghost use Rattle.moo_eval_call.specs.Tasks.{raised_here};
+ghost use Rattle.moo_eval_semantics.specs.Tasks.{raised_here};
 
 use moo_eval_frame::{Activation, CallStack, Failure, Raise, Stop};
 use moo_value::{ErrorCode, MooStr, Value};

@@ -5,8 +5,8 @@ ghost use Rattle.moo_eval_frame.specs.declared.notice.Notice.{Notice};
 ghost use Rattle.moo_eval_control.specs.Handling.{frame_lists, listed};
 ghost use Rattle.moo_eval_frame.specs.Outcome.{answers};
 ghost use Rattle.moo_eval_frame.specs.Seen.{context_of, seen_answer, IsKnownFailure};
-ghost use Rattle.moo_eval_call.specs.Tasks.{set_task_perms};
-ghost use Rattle.moo_eval_call.specs.Calls.{is_of_task, task_reply};
+ghost use Rattle.moo_eval_semantics.specs.Tasks.{set_task_perms};
+ghost use Rattle.moo_eval_semantics.specs.Calls.{is_of_task, task_reply};
 ghost use Rattle.moo_eval_access.specs.SeenState.{state_at};
 
 use crate::asking::{boot_player, dump_database, notify, server_log, set_player_flag, shutdown};

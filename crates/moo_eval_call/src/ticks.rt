@@ -1,6 +1,6 @@
 //! The ticks of a task.
 ghost use Rattle.std.specs.Prelude.{◌≡◌, ◌-◌, ◌<◌, ◌≤◌, ℕ, pos, IsTrue, IsFalse};
-ghost use Rattle.moo_eval_call.specs.Tasks.{most_ticks};
+ghost use Rattle.moo_eval_semantics.specs.Tasks.{most_ticks};
 
 use std::marker::Model;
 
@@ -15,7 +15,7 @@ pub struct Ticks {
 
 impl Model for Ticks {
     ghost use Rattle.std.specs.Prelude.{ℕ, ◌≤◌};
-    ghost use Rattle.moo_eval_call.specs.Tasks.{most_ticks};
+    ghost use Rattle.moo_eval_semantics.specs.Tasks.{most_ticks};
 
     ghost Value = { ℕ };
 

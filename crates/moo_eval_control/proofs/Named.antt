@@ -8,7 +8,7 @@ use Rattle.moo_value.specs.declared.value.Value.TheVariants.{Int, Obj, Err as Er
 use Rattle.moo_value.specs.Tree.{Tree, list_of}
 use Rattle.moo_value.specs.View.{tree, trees}
 use Rattle.moo_syntax_ast.specs.Tree.{Items}
-use Rattle.moo_syntax_lower.specs.Blocks.{named_items}
+use Rattle.moo_syntax_node.specs.Blocks.{named_items}
 use Rattle.moo_eval_frame.specs.Variables.{with_all}
 use Rattle.moo_eval_slot.specs.Bindings.{bind, with_variable}
 use Rattle.moo_eval_control.specs.Scatter.{required, optionals, takes_rest, fits, dealt, shares, given}

@@ -6,9 +6,9 @@ use Rattle.moo_value.specs.declared.error_code.ErrorCode.TheVariants.{Arguments}
 use Rattle.moo_value.specs.Tree.{Tree, list_of}
 use Rattle.moo_value.specs.TreeCode.{trees_of-elements_of}
 use Rattle.moo_eval_control.specs.Scatter.{fits, dealt}
-use Rattle.moo_syntax_lower.specs.declared.node.NodeItem.{NodeItem}
+use Rattle.moo_syntax_node.specs.declared.node.NodeItem.{NodeItem}
 use Rattle.moo_syntax_ast.specs.Tree.{Items}
-use Rattle.moo_syntax_lower.specs.Source.{with_source, source_items}
+use Rattle.moo_syntax_node.specs.Source.{with_source, source_items}
 
 -- a fact of the items that are left is one of the next and of those after it
 pub items_next : {X : Type 0} (f : Items → X) (items : List NodeItem) (i : ℕ) (item : NodeItem) → i < length items → item ≡ get_or items i item → f (source_items (drop i items)) ≡ f (with_source item (source_items (drop (i + 1) items)))

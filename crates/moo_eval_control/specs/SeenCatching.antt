@@ -5,10 +5,10 @@ use Rattle.std.specs.declared.alloc.Global.{Global}
 use Rattle.moo_value.specs.declared.value.Value.{Value}
 use Rattle.moo_value.specs.Tree.{Tree, error}
 use Rattle.moo_value.specs.View.{trees}
-use Rattle.moo_syntax_lower.specs.declared.node.Node.{Node}
-use Rattle.moo_syntax_lower.specs.declared.node.NodeCodes.{NodeCodes, Any, Known, Listed'}
+use Rattle.moo_syntax_node.specs.declared.node.Node.{Node}
+use Rattle.moo_syntax_node.specs.declared.node.NodeCodes.{NodeCodes, Any, Known, Listed'}
 use Rattle.moo_syntax_ast.specs.Tree.{Expr, catch, catch_or, Codes}
-use Rattle.moo_syntax_lower.specs.Source.{source}
+use Rattle.moo_syntax_node.specs.Source.{source}
 use Rattle.moo_eval_frame.specs.declared.outcome.Stop as code_stop
 use Rattle.moo_eval_frame.specs.Outcome.{Stop}
 use Rattle.moo_eval_frame.specs.Seen.{stop_of}

@@ -2,8 +2,8 @@
 use Rattle.std.specs.Prelude.{option_copied, List, Result, Ok, Err, map}
 use Rattle.std.specs.declared.vec.Vec.{Vec}
 use Rattle.std.specs.declared.alloc.Global.{Global}
-use Rattle.moo_syntax_lower.specs.Source.{source_codes}
-use Rattle.moo_syntax_lower.specs.Blocks.{source_block}
+use Rattle.moo_syntax_node.specs.Source.{source_codes}
+use Rattle.moo_syntax_node.specs.Blocks.{source_block}
 use Rattle.moo_eval_control.specs.declared.handling.Guarded as code
 use Rattle.moo_eval_frame.specs.declared.outcome.Stop as code_stop
 use Rattle.moo_eval_frame.specs.Outcome.{Stop}

@@ -3,7 +3,7 @@ use Rattle.std.specs.Prelude.{ℕ, List, [], ◌∷◌, Option, Some, None}
 use Rattle.std.specs.Borrow.{Bor}
 use Rattle.moo_value.specs.declared.value.Value.{Value}
 use Rattle.moo_value.specs.View.{tree}
-use Rattle.moo_syntax_lower.specs.Source.{source}
+use Rattle.moo_syntax_node.specs.Source.{source}
 use Rattle.moo_eval_slot.specs.Bindings.{Binding, bind}
 use Rattle.moo_eval_control.specs.declared.scatter.LeftOut as code_left_out
 use Rattle.moo_eval_control.specs.Scatter.{LeftOut}

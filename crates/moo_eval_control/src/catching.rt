@@ -4,13 +4,13 @@ ghost use Rattle.std.specs.List.{list_any};
 ghost use Rattle.moo_value.specs.Tree.{error};
 ghost use Rattle.moo_value.specs.View.{tree};
 ghost use Rattle.moo_builtin_operator.specs.Truth.{same_tree};
-ghost use Rattle.moo_syntax_lower.specs.Source.{source_codes};
+ghost use Rattle.moo_syntax_node.specs.Source.{source_codes};
 ghost use Rattle.moo_eval_control.specs.Catching.{is_caught, caught, coded};
 ghost use Rattle.moo_eval_frame.specs.Seen.{seen_value, seen_answers, trace_of, IsKnown, IsKnownFailure, LacksOnlyWhere, MayLack};
 ghost use Rattle.moo_eval_control.specs.SeenCatching.{seen_codes, code_values};
 
 use moo_eval_frame::{Activation, CallStack, Failure, Stop, raised};
-use moo_syntax_lower::NodeCodes;
+use moo_syntax_node::NodeCodes;
 use moo_value::{ErrorCode, Value};
 use std::alloc::Global;
 

@@ -3,8 +3,8 @@ ghost use Rattle.std.specs.Prelude.{◌≡◌, ◌++◌, ◌∷◌, [], List, Ok
 ghost use Rattle.moo_value.specs.Tree.{Tree};
 ghost use Rattle.moo_value.specs.View.{trees};
 ghost use Rattle.moo_syntax_ast.specs.Tree.{Handlers, handler};
-ghost use Rattle.moo_syntax_lower.specs.Source.{source_codes};
-ghost use Rattle.moo_syntax_lower.specs.Blocks.{source_block, with_source_handler};
+ghost use Rattle.moo_syntax_node.specs.Source.{source_codes};
+ghost use Rattle.moo_syntax_node.specs.Blocks.{source_block, with_source_handler};
 ghost use Rattle.moo_eval_frame.specs.Outcome as meaning;
 ghost use Rattle.moo_eval_frame.specs.Outcome.{answers, raised_by};
 ghost use Rattle.moo_eval_frame.specs.Variables.{with_all};
@@ -21,7 +21,7 @@ use moo_eval_frame::{
     Activation, CallStack, Callers, Failure, Raise, Stop, TraceEntry, TraceFrame, push, raised,
 };
 use moo_syntax_ast::Name;
-use moo_syntax_lower::{NodeCodes, NodeHandler, NodeStmt};
+use moo_syntax_node::{NodeCodes, NodeHandler, NodeStmt};
 use moo_value::{ErrorCode, Value};
 use std::alloc::{AllocError, Global};
 

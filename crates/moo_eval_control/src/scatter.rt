@@ -4,8 +4,8 @@ ghost use Rattle.moo_value.specs.Tree.{Tree, list_of};
 ghost use Rattle.moo_value.specs.View.{tree, trees};
 ghost use Rattle.moo_value.specs.declared.error_code.ErrorCode.{ErrorCode as ErrorCodeModel};
 ghost use Rattle.moo_syntax_ast.specs.Tree.{Items, element, splice, optional};
-ghost use Rattle.moo_syntax_lower.specs.Source.{source, source_items, with_source};
-ghost use Rattle.moo_syntax_lower.specs.Blocks.{named_items};
+ghost use Rattle.moo_syntax_node.specs.Source.{source, source_items, with_source};
+ghost use Rattle.moo_syntax_node.specs.Blocks.{named_items};
 ghost use Rattle.moo_eval_frame.specs.Outcome.{fails};
 ghost use Rattle.moo_eval_frame.specs.Variables.{with_all};
 ghost use Rattle.moo_eval_slot.specs.Bindings.{bind, with_variable};
@@ -15,7 +15,7 @@ ghost use Rattle.moo_eval_control.specs.SeenScatter.{left_out_of, left_out_by, s
 
 use moo_eval_frame::{Activation, Failure, Variables};
 use moo_syntax_ast::Name;
-use moo_syntax_lower::{Node, NodeItem};
+use moo_syntax_node::{Node, NodeItem};
 use moo_value::{ErrorCode, MooList, Value};
 use std::alloc::{AllocError, Global};
 

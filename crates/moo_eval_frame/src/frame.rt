@@ -8,7 +8,7 @@ ghost use Rattle.moo_eval_frame.specs.Seen.{trace_of};
 use crate::callers::Callers;
 use crate::surroundings::Surroundings;
 use crate::variables::Variables;
-use moo_syntax_grammar::Program;
+use moo_syntax_program::Program;
 use moo_value::{MooList, MooStr};
 use std::alloc::{AllocError, Global};
 

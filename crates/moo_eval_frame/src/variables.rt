@@ -21,7 +21,7 @@ use crate::memory::FrameMemory;
 use crate::spelling::is_named;
 use moo_eval_slot::Slots;
 use moo_syntax_ast::{Given, Name};
-use moo_syntax_grammar::Program;
+use moo_syntax_program::Program;
 use moo_value::{MooList, MooStr, Value};
 use std::alloc::{AllocError, Global};
 

@@ -32,10 +32,10 @@ use Rattle.moo_eval_frame.specs.declared.frame.TraceEntry.{TraceEntry}
 use Rattle.moo_eval_frame.specs.declared.frame.TraceEntry.TheVariants.{Verb}
 use Rattle.moo_eval_frame.specs.State.{trace_frame}
 use Rattle.moo_eval_access.specs.Entering.{Entered, has_frame_left}
-use Rattle.moo_eval_hook.specs.declared.progress.Stage.TheVariants.{Evaluated}
-use Rattle.moo_eval_hook.specs.Progressing.{Calling, Progress, done, verb_next, refuses, through}
-use Rattle.moo_eval_hook.specs.Evaluating.{typed_frame, begun_below, typed_below, program_next, no_program, EvaluatesText, faulty, parsed}
-use Rattle.moo_eval_hook.specs.VerbCalls.{first_progress, Begins}
+use Rattle.moo_eval_semantics.specs.declared.stage.Stage.TheVariants.{Evaluated}
+use Rattle.moo_eval_semantics.specs.Progressing.{Calling, Progress, done, verb_next, refuses, through}
+use Rattle.moo_eval_semantics.specs.Evaluating.{typed_frame, begun_below, typed_below, program_next, no_program, EvaluatesText, faulty, parsed}
+use Rattle.moo_eval_semantics.specs.VerbCalls.{first_progress, Begins}
 
 module _ (k : Calling) (w : World) (text copy : List ℕ) (same : copy ≡ text) (may : is_programmer w k.programmer ≡ true) where
   pub runs : (b : Block) (p : Progress) → IsParsed Known (copy ∷ []) b → program_next k b ≡ p → EvaluatesText Faults k w text p

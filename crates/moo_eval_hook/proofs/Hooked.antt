@@ -16,8 +16,8 @@ use Rattle.moo_eval_frame.specs.declared.frame.TraceEntry.TheVariants.{Verb as o
 use Rattle.moo_eval_frame.specs.State.{trace_frame}
 use Rattle.moo_eval_frame.specs.Outcome.{Failure, fails, answers, or_error}
 use Rattle.moo_eval_access.specs.Entering.{Entered, called_verb, found_verb, has_frame_left, player_of_call, called_frame, entered, entered_found}
-use Rattle.moo_eval_hook.specs.declared.progress.Stage.{Stage}
-use Rattle.moo_eval_hook.specs.Progressing.{Calling, done, verb_next, stage_next, through, hooked, hook}
+use Rattle.moo_eval_semantics.specs.declared.stage.Stage.{Stage}
+use Rattle.moo_eval_semantics.specs.Progressing.{Calling, done, verb_next, stage_next, through, hooked, hook}
 use Rattle.moo_eval_hook.specs.SeenByHooks.{arguments_of}
 
 -- an object on which a verb is found is valid

@@ -6,10 +6,10 @@ use Rattle.moo_value.specs.Tree.{integer}
 use Rattle.moo_world_table.specs.World.{World}
 use Rattle.moo_world.specs.Calls.{number_of, place_of, move_raises, world_move}
 use Rattle.moo_world.specs.Rights.{may_own}
-use Rattle.moo_eval_hook.specs.declared.progress.Stage.TheVariants.{Accepting, Leaving, Entering}
-use Rattle.moo_eval_hook.specs.Progressing.{Calling, Progress, gives, refuses, after_raise}
-use Rattle.moo_eval_hook.specs.Objects.{is_place, location}
-use Rattle.moo_eval_hook.specs.Moving.{move_calls, is_to_move, moved, moving, may_enter, accepted, has_come, after_leaving}
+use Rattle.moo_eval_semantics.specs.declared.stage.Stage.TheVariants.{Accepting, Leaving, Entering}
+use Rattle.moo_eval_semantics.specs.Progressing.{Calling, Progress, gives, refuses, after_raise}
+use Rattle.moo_eval_semantics.specs.Objects.{is_place, location}
+use Rattle.moo_eval_semantics.specs.Moving.{move_calls, is_to_move, moved, moving, may_enter, accepted, has_come, after_leaving}
 
 module _ (k : Calling) (w : World) (what to : ℤ) where
   pub stays : is_to_move w what to ≡ false → moved k w what to ≡ (gives (integer (pos 0)), w)

@@ -11,10 +11,10 @@ use Rattle.moo_syntax_function.specs.Check.{is_count, fits, kind_at, names_valid
 use Rattle.moo_world_table.specs.World.{World}
 use Rattle.moo_eval_frame.specs.Outcome.{Failure, answers}
 use Rattle.moo_eval_access.specs.Entering.{Entered, after_list}
-use Rattle.moo_eval_hook.specs.declared.progress.Stage.TheVariants.{Passed}
-use Rattle.moo_eval_hook.specs.Progressing.{Calling, Progress, done}
-use Rattle.moo_eval_hook.specs.Passing.{run_by, passing}
-use Rattle.moo_eval_hook.specs.VerbCalls.{first_progress}
+use Rattle.moo_eval_semantics.specs.declared.stage.Stage.TheVariants.{Passed}
+use Rattle.moo_eval_semantics.specs.Progressing.{Calling, Progress, done}
+use Rattle.moo_eval_semantics.specs.Passing.{run_by, passing}
+use Rattle.moo_eval_semantics.specs.VerbCalls.{first_progress}
 
 abbrev failing : Failure → Result Tree Failure
 failing failure = Err failure

@@ -5,7 +5,7 @@ use Rattle.moo_world_table.specs.World.{World}
 use Rattle.moo_world.specs.declared.fault.WorldFault.{WorldFault}
 use Rattle.moo_world.specs.declared.fault.WorldFault.TheVariants as fault
 use Rattle.moo_world.specs.Calls.{Answers, Changes, TakesNoMemory}
-use Rattle.moo_eval_hook.specs.Quota.{where_allowed, with_quota}
+use Rattle.moo_eval_semantics.specs.Quota.{where_allowed, with_quota}
 
 -- a call that takes no memory has changed the world, or raises and leaves it
 pub set_or_left : {T : Type 0} (r : Result T WorldFault) (w w' : World) (raises : Option ErrorCode) (after : World) → Changes r w w' raises after → TakesNoMemory r → w' ≡ where_allowed raises after w

@@ -9,7 +9,7 @@ use Rattle.moo_eval_frame.specs.Seen.{failure_of, HadMemoryIn}
 use Rattle.moo_world.specs.declared.fault.WorldFault.{WorldFault}
 use Rattle.moo_world.specs.declared.fault.WorldFault.TheVariants as fault
 use Rattle.moo_world.specs.Calls.{Changes, Tests}
-use Rattle.moo_eval_hook.specs.Progressing.{Progress, done, after_raise}
+use Rattle.moo_eval_semantics.specs.Progressing.{Progress, done, after_raise}
 use Rattle.moo_eval_hook.specs.SeenByHooks.{as_outcome}
 
 -- a change that was refused, with memory enough

@@ -13,13 +13,13 @@ use Rattle.moo_eval_frame.specs.declared.outcome.Failure as code_failure
 use Rattle.moo_eval_frame.specs.Outcome.{Failure, fails, stops}
 use Rattle.moo_eval_frame.specs.Seen.{IsKnownFailure}
 use Rattle.moo_eval_access.specs.Entering.{Entered}
-use Rattle.moo_eval_hook.specs.declared.progress.Stage.{Stage}
-use Rattle.moo_eval_hook.specs.declared.progress.Stage.TheVariants as stage
+use Rattle.moo_eval_semantics.specs.declared.stage.Stage.{Stage}
+use Rattle.moo_eval_semantics.specs.declared.stage.Stage.TheVariants as stage
 use Rattle.moo_eval_hook.specs.declared.progress.Progress as code_progress
-use Rattle.moo_eval_hook.specs.Progressing.{Calling, Progress, stage_next, refuses, after_raise, hooked, hook}
-use Rattle.moo_eval_hook.specs.Moving.{is_to_move, moved, may_enter, accepted, has_come, after_leaving}
-use Rattle.moo_eval_hook.specs.Recycling.{recycle_calls, taken_away, moved_out, emptied}
-use Rattle.moo_eval_hook.specs.Stages.{next_progress}
+use Rattle.moo_eval_semantics.specs.Progressing.{Calling, Progress, stage_next, refuses, after_raise, hooked, hook}
+use Rattle.moo_eval_semantics.specs.Moving.{is_to_move, moved, may_enter, accepted, has_come, after_leaving}
+use Rattle.moo_eval_semantics.specs.Recycling.{recycle_calls, taken_away, moved_out, emptied}
+use Rattle.moo_eval_semantics.specs.Stages.{next_progress}
 use Rattle.moo_eval_hook.specs.Turns.{count_inside, stage_turns, progress_turns}
 use Rattle.moo_eval_hook.specs.SeenByHooks.{progress_of, seen_progress}
 use Rattle.moo_eval_hook.proofs.Fewer.{fewer_inside}

@@ -1,12 +1,2 @@
-pub mod Progressing
-pub mod Objects
-pub mod Quota
-pub mod Passing
-pub mod Evaluating
-pub mod Moving
-pub mod Creating
-pub mod Recycling
-pub mod Stages
-pub mod VerbCalls
 pub mod SeenByHooks
 pub mod Turns

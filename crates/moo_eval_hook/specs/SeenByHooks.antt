@@ -11,7 +11,7 @@ use Rattle.moo_eval_access.specs.Fault.{failed}
 use Rattle.moo_eval_access.specs.SeenCalled.{entered_of}
 use Rattle.moo_eval_hook.specs.declared.progress.Progress as code_progress
 use Rattle.moo_eval_hook.specs.declared.progress.Progress.TheVariants as progress_case
-use Rattle.moo_eval_hook.specs.Progressing.{Calling, Progress, done, verb_next, stage_next}
+use Rattle.moo_eval_semantics.specs.Progressing.{Calling, Progress, done, verb_next, stage_next}
 
 abbrev pub calling_of : CallStack → Activation → Calling
 calling_of stack active = record { context = context_of stack None; variables = variables_of active.variables; programmer = active.programmer }

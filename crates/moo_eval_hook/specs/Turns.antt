@@ -4,9 +4,9 @@ use Rattle.std.specs.Option.{unwrap_or, option_map}
 use Rattle.moo_world_tree.specs.Forest.{below_of}
 use Rattle.moo_world_table.specs.World.{World}
 use Rattle.moo_world.specs.Calls.{number_of}
-use Rattle.moo_eval_hook.specs.declared.progress.Stage.{Stage}
-use Rattle.moo_eval_hook.specs.declared.progress.Stage.TheVariants as stage
-use Rattle.moo_eval_hook.specs.Progressing.{Progress, done, verb_next, stage_next}
+use Rattle.moo_eval_semantics.specs.declared.stage.Stage.{Stage}
+use Rattle.moo_eval_semantics.specs.declared.stage.Stage.TheVariants as stage
+use Rattle.moo_eval_semantics.specs.Progressing.{Progress, done, verb_next, stage_next}
 
 -- how many things are in an object
 abbrev pub count_inside : World → ℤ → ℕ

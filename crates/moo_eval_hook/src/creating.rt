@@ -2,13 +2,14 @@
 //! docs/reference/language.md.
 ghost use Rattle.std.specs.Prelude.{◌≡◌};
 ghost use Rattle.moo_eval_frame.specs.Seen.{IsKnownFailure};
-ghost use Rattle.moo_eval_hook.specs.Creating.{may_be_parent, owner_of_new, creating};
+ghost use Rattle.moo_eval_semantics.specs.Creating.{may_be_parent, owner_of_new, creating};
 ghost use Rattle.moo_eval_hook.specs.SeenByHooks.{calling_of, seen_progress};
 
 use crate::hook::hook;
-use crate::progress::{Progress, Stage, as_outcome};
+use crate::progress::{Progress, as_outcome};
 use crate::quota::{change_quota, is_used_up, quota};
 use moo_eval_frame::{Activation, CallStack, Failure};
+use moo_eval_semantics::Stage;
 use moo_value::ErrorCode;
 use moo_world::{Rights, World};
 use std::alloc::Global;

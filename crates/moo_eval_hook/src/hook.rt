@@ -5,13 +5,14 @@ ghost use Rattle.moo_eval_frame.specs.declared.frame.TraceEntry.{TraceEntry};
 ghost use Rattle.moo_eval_frame.specs.declared.frame.TraceEntry.TheVariants.{Verb};
 ghost use Rattle.moo_eval_frame.specs.Seen.{IsKnownFailure};
 ghost use Rattle.moo_eval_access.specs.SeenCalled.{entered_of, found_of};
-ghost use Rattle.moo_eval_hook.specs.Progressing.{hook, through};
+ghost use Rattle.moo_eval_semantics.specs.Progressing.{hook, through};
 ghost use Rattle.moo_eval_hook.specs.SeenByHooks.{calling_of, seen_progress, arguments_of};
 ghost use Rattle.moo_eval_access.specs.Entering.{found_verb};
 
-use crate::progress::{Progress, Stage};
+use crate::progress::Progress;
 use moo_eval_access::{Called, Found, called_verb, enter_found};
 use moo_eval_frame::{Activation, CallStack, Failure};
+use moo_eval_semantics::Stage;
 use moo_value::{MooList, MooStr, Value};
 use moo_world::World;
 use std::alloc::{AllocError, Global};

@@ -15,6 +15,6 @@ mod stages;
 mod verb_call;
 
 pub use evaluating::typed_frame;
-pub use progress::{Progress, Stage};
+pub use progress::Progress;
 pub use stages::resume_call;
 pub use verb_call::{start_call, verb_caller};

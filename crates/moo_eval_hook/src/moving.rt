@@ -3,13 +3,14 @@
 //! stay.
 ghost use Rattle.std.specs.Prelude.{◌≡◌};
 ghost use Rattle.moo_eval_frame.specs.Seen.{IsKnownFailure};
-ghost use Rattle.moo_eval_hook.specs.Moving.{move_calls, is_to_move, moved, moving, may_enter, accepted, has_come, after_leaving};
+ghost use Rattle.moo_eval_semantics.specs.Moving.{move_calls, is_to_move, moved, moving, may_enter, accepted, has_come, after_leaving};
 ghost use Rattle.moo_eval_hook.specs.SeenByHooks.{calling_of, seen_progress};
 
 use crate::hook::hook;
 use crate::objects::{is_nowhere, is_place, location};
-use crate::progress::{Progress, Stage, as_outcome};
+use crate::progress::{Progress, as_outcome};
 use moo_eval_frame::{Activation, CallStack, Failure};
+use moo_eval_semantics::Stage;
 use moo_value::{ErrorCode, Value};
 use moo_world::{Rights, World};
 use std::alloc::Global;

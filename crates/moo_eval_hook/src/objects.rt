@@ -1,7 +1,7 @@
 //! Numbers of objects, and their places in the trees.
 ghost use Rattle.std.specs.Prelude.{◌≡◌, negsuc};
 ghost use Rattle.std.specs.Ordering.{int_eq};
-ghost use Rattle.moo_eval_hook.specs.Objects.{is_place, parent, location, first_inside};
+ghost use Rattle.moo_eval_semantics.specs.Objects.{is_place, parent, location, first_inside};
 
 use moo_world::World;
 

@@ -3,13 +3,14 @@
 ghost use Rattle.std.specs.Prelude.{◌≡◌};
 ghost use Rattle.moo_value.specs.View.{trees};
 ghost use Rattle.moo_eval_frame.specs.Seen.{IsKnownFailure};
-ghost use Rattle.moo_eval_hook.specs.Passing.{passing};
+ghost use Rattle.moo_eval_semantics.specs.Passing.{passing};
 ghost use Rattle.moo_eval_hook.specs.SeenByHooks.{calling_of, seen_progress};
 
 use crate::objects::parent;
-use crate::progress::{Progress, Stage};
+use crate::progress::Progress;
 use moo_eval_access::enter_verb_from;
 use moo_eval_frame::{Activation, CallStack, Failure};
+use moo_eval_semantics::Stage;
 use moo_value::Value;
 use moo_world::World;
 use std::alloc::Global;

@@ -1,35 +1,15 @@
 //! Steps and stages of a function that calls verbs.
 ghost use Rattle.std.specs.Prelude.{◌≡◌, IfOk};
 ghost use Rattle.moo_eval_access.specs.SeenCalled.{entered_of};
-ghost use Rattle.moo_eval_hook.specs.Progressing.{verb_next};
+ghost use Rattle.moo_eval_semantics.specs.Progressing.{verb_next};
 ghost use Rattle.moo_eval_hook.specs.SeenByHooks.{as_outcome, progress_of};
 
 use moo_eval_access::{Called, failed};
 use moo_eval_frame::Failure;
+use moo_eval_semantics::Stage;
 use moo_value::Value;
 use moo_world::WorldFault;
 use std::alloc::{AllocError, Global};
-
-/// Names what a function continues with once a verb that it called has returned.
-#[derive(Clone, Copy)]
-pub enum Stage {
-    /// The verb that `pass` called: its value is that of the function.
-    Passed,
-    /// `initialize` of this object, which was made.
-    Created(i32),
-    /// `accept` of the second object, to which the first is to move.
-    Accepting(i32, i32),
-    /// `exitfunc` of the place that the first object left for the second.
-    Leaving(i32, i32),
-    /// `enterfunc` of the place that the object came to.
-    Entering,
-    /// A verb of this object, which is to be recycled once it has no contents.
-    Emptying(i32),
-    /// No verb: this object was recycled.
-    Recycled(i32),
-    /// The program that `eval` runs: its value comes after a 1.
-    Evaluated,
-}
 
 /// Holds what a function does next.
 #[derive(Drop)]

@@ -2,7 +2,7 @@
 ghost use Rattle.std.specs.Prelude.{◌≡◌, ◌+ℤ◌, Some, IfOk};
 ghost use Rattle.std.specs.Int.{int_wrap, w32};
 ghost use Rattle.moo_value.specs.View.{tree};
-ghost use Rattle.moo_eval_hook.specs.Quota.{integer_in, quota, is_used_up, with_quota};
+ghost use Rattle.moo_eval_semantics.specs.Quota.{integer_in, quota, is_used_up, with_quota};
 
 use moo_value::Value;
 use moo_world::{World, WorldFault};

@@ -3,15 +3,16 @@
 //! stay.
 ghost use Rattle.std.specs.Prelude.{◌≡◌};
 ghost use Rattle.moo_eval_frame.specs.Seen.{IsKnownFailure};
-ghost use Rattle.moo_eval_hook.specs.Objects.{first_inside};
-ghost use Rattle.moo_eval_hook.specs.Recycling.{recycle_calls, recycling, owner_of, taken_away, moved_out, emptied};
+ghost use Rattle.moo_eval_semantics.specs.Objects.{first_inside};
+ghost use Rattle.moo_eval_semantics.specs.Recycling.{recycle_calls, recycling, owner_of, taken_away, moved_out, emptied};
 ghost use Rattle.moo_eval_hook.specs.SeenByHooks.{calling_of, seen_progress, arguments_of};
 
 use crate::hook::hook;
 use crate::objects::first_inside;
-use crate::progress::{Progress, Stage, as_outcome};
+use crate::progress::{Progress, as_outcome};
 use crate::quota::{change_quota, quota};
 use moo_eval_frame::{Activation, CallStack, Failure};
+use moo_eval_semantics::Stage;
 use moo_value::ErrorCode;
 use moo_world::{Rights, World};
 use std::alloc::Global;

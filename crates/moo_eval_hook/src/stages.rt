@@ -3,16 +3,17 @@ ghost use Rattle.std.specs.Prelude.{◌≡◌, ◌≤◌, ℕ, None, IfOk, OnOk}
 ghost use Rattle.moo_value.specs.View.{tree};
 ghost use Rattle.moo_eval_frame.specs.Seen.{context_of, IsKnownFailure};
 ghost use Rattle.moo_eval_access.specs.SeenState.{state_at};
-ghost use Rattle.moo_eval_hook.specs.Stages.{next_progress, noticed, resumed};
+ghost use Rattle.moo_eval_semantics.specs.Stages.{next_progress, noticed, resumed};
 ghost use Rattle.moo_eval_hook.specs.SeenByHooks.{calling_of, progress_of, seen_progress};
 ghost use Rattle.moo_eval_hook.specs.Turns.{stage_turns, progress_turns};
 
 use crate::evaluating::has_given;
 use crate::moving::{accept, leave};
-use crate::progress::{Progress, Stage};
+use crate::progress::Progress;
 use crate::recycling::empty;
 use moo_builtin_operator::is_true;
 use moo_eval_frame::{Activation, CallStack, Failure, Notice};
+use moo_eval_semantics::Stage;
 use moo_value::Value;
 use moo_world::World;
 use std::alloc::{AllocError, Global};

@@ -8,7 +8,7 @@ ghost use Rattle.moo_eval_frame.specs.Seen.{context_of, failure_of, HadMemoryIn,
 ghost use Rattle.moo_eval_frame.specs.declared.notice.Notice.{Notice};
 ghost use Rattle.moo_builtin.specs.Telling.{Faults};
 ghost use Rattle.moo_eval_access.specs.SeenState.{state_at};
-ghost use Rattle.moo_eval_hook.specs.VerbCalls.{calls_verbs, verb_caller, move_begins, create_begins, recycle_begins, first_progress, Begins, Starts};
+ghost use Rattle.moo_eval_semantics.specs.VerbCalls.{calls_verbs, verb_caller, move_begins, create_begins, recycle_begins, first_progress, Begins, Starts};
 ghost use Rattle.moo_eval_hook.specs.SeenByHooks.{calling_of, seen_progress};
 
 use crate::creating::create;

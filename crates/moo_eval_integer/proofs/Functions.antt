@@ -13,7 +13,7 @@ use Rattle.moo_builtin_value.specs.Calls.{simply}
 use Rattle.moo_builtin_value.specs.Looks.{type_number}
 use Rattle.moo_builtin_world.specs.Objects.{is_valid}
 use Rattle.moo_builtin.specs.Calls.{follows, given}
-use Rattle.moo_eval_hook.specs.VerbCalls.{verb_caller}
+use Rattle.moo_eval_semantics.specs.VerbCalls.{verb_caller}
 use Rattle.moo_eval_semantics.specs.Meaning.{begins, applies, no_more, element_then, call_is}
 use Rattle.moo_eval_integer.specs.Functions.{GivesFor}
 use Rattle.moo_eval_integer.specs.Integers.{GivesInteger, GivesValue}

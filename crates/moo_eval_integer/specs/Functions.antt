@@ -6,8 +6,8 @@ use Rattle.moo_syntax_function.specs.Names.{function_of}
 use Rattle.moo_builtin.specs.Telling.{Faults}
 use Rattle.moo_eval_frame.specs.State.{Context}
 use Rattle.moo_eval_access.specs.State.{State}
-use Rattle.moo_eval_call.specs.Calls.{CallsFunction}
-use Rattle.moo_eval_hook.specs.VerbCalls.{caller_of}
+use Rattle.moo_eval_semantics.specs.Calls.{CallsFunction}
+use Rattle.moo_eval_semantics.specs.VerbCalls.{caller_of}
 
 -- the function calls no verb, and gives this integer for this value in every state, which stays
 abbrev pub GivesFor : Function → Tree → ℤ → Type 0

@@ -3,7 +3,7 @@ ghost use Rattle.std.specs.Prelude.{◌≡◌, ◌≤◌, suc, pos, Ok, IsTrue, 
 ghost use Rattle.moo_value.specs.Tree.{integer, list_of, string as string_tree};
 ghost use Rattle.moo_value.specs.View.{tree};
 ghost use Rattle.moo_syntax_ast.specs.Tree.{variable, index};
-ghost use Rattle.moo_syntax_lower.specs.Source.{source};
+ghost use Rattle.moo_syntax_node.specs.Source.{source};
 ghost use Rattle.moo_builtin_operator.specs.Places.{index_of};
 ghost use Rattle.moo_eval_frame.specs.Seen.{variables_of};
 ghost use Rattle.moo_eval_integer.specs.Integers.{GivesInteger, GivesValue};
@@ -14,7 +14,7 @@ use crate::letters::Letters;
 use crate::ticks::{take, take_three};
 use moo_eval_frame::Activation;
 use moo_syntax_ast::Name;
-use moo_syntax_lower::Node;
+use moo_syntax_node::Node;
 use moo_value::{MooList, MooStr, Value};
 use std::alloc::{AllocError, Global};
 

@@ -4,7 +4,7 @@ ghost use Rattle.moo_value.specs.Tree.{integer};
 ghost use Rattle.moo_value.specs.View.{tree};
 ghost use Rattle.moo_syntax_ast.specs.Tree.{call, variable, element, no_items};
 ghost use Rattle.moo_syntax_function.specs.Names.{function_of};
-ghost use Rattle.moo_syntax_lower.specs.Source.{source, source_items};
+ghost use Rattle.moo_syntax_node.specs.Source.{source, source_items};
 ghost use Rattle.moo_builtin_operator.specs.Places.{length_of};
 ghost use Rattle.moo_eval_frame.specs.Seen.{variables_of};
 ghost use Rattle.moo_eval_integer.specs.Functions.{GivesFor};
@@ -16,7 +16,7 @@ use moo_builtin_value::type_number;
 use moo_eval_frame::Activation;
 use moo_syntax_ast::Name;
 use moo_syntax_function::Function;
-use moo_syntax_lower::{FunctionName, Node, NodeItem};
+use moo_syntax_node::{FunctionName, Node, NodeItem};
 use moo_value::Value;
 
 /// Returns the integer of a call of `length` or `typeof` for a variable, and takes its ticks from `left`. `None` for

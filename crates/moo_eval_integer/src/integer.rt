@@ -6,7 +6,7 @@ ghost use Rattle.moo_value.specs.Compare.{folded};
 ghost use Rattle.moo_syntax_ast.specs.declared.operator.BinaryOperator.TheVariants.{Add};
 ghost use Rattle.moo_syntax_ast.specs.declared.tree.Literal.TheVariants.{Integer};
 ghost use Rattle.moo_syntax_ast.specs.Tree.{literal, variable, binary, index};
-ghost use Rattle.moo_syntax_lower.specs.Source.{source};
+ghost use Rattle.moo_syntax_node.specs.Source.{source};
 ghost use Rattle.moo_builtin_operator.specs.Operators.{binary_of};
 ghost use Rattle.moo_builtin_operator.specs.Truth.{is_true};
 ghost use Rattle.moo_eval_slot.specs.Bindings.{bind, with_variable};
@@ -20,7 +20,7 @@ use moo_eval_access::number_of;
 use moo_eval_frame::Activation;
 use moo_syntax_ast::Name;
 use moo_syntax_ast::operator::BinaryOperator;
-use moo_syntax_lower::Node;
+use moo_syntax_node::Node;
 use moo_value::{MooList, Value};
 
 /// Returns the integer of an operator between two nodes, and takes its ticks from `left`. `None` if a node isn't an

@@ -3,7 +3,7 @@ ghost use Rattle.std.specs.Prelude.{◌≡◌, ◌≤◌, Ok, Some, IfSome};
 ghost use Rattle.moo_value.specs.Tree.{integer, string as string_tree};
 ghost use Rattle.moo_value.specs.View.{tree};
 ghost use Rattle.moo_syntax_ast.specs.Tree.{binary, index};
-ghost use Rattle.moo_syntax_lower.specs.Source.{source};
+ghost use Rattle.moo_syntax_node.specs.Source.{source};
 ghost use Rattle.moo_builtin_operator.specs.Operators.{binary_of};
 ghost use Rattle.moo_builtin_operator.specs.Places.{index_of};
 ghost use Rattle.moo_builtin_operator.specs.Truth.{equal, truth_value};
@@ -17,7 +17,7 @@ use crate::ticks::take;
 use moo_builtin_operator::is_equal;
 use moo_eval_frame::Activation;
 use moo_syntax_ast::operator::BinaryOperator;
-use moo_syntax_lower::Node;
+use moo_syntax_node::Node;
 use moo_value::{ErrorCode, MooStr, Value};
 
 /// Holds an operand: an integer, an object, an error, the bytes of a string, or the value that a list is.

@@ -4,7 +4,7 @@ use Rattle.std.specs.Global.{Global}
 use Rattle.moo_value.specs.Tree.{Tree, error}
 use Rattle.moo_value.specs.declared.error_code.ErrorCode.{ErrorCode}
 use Rattle.moo_syntax_ast.specs.Tree.{Expr, Codes, catch, catch_or}
-use Rattle.moo_syntax_lower.specs.declared.node.Node.{Node}
+use Rattle.moo_syntax_node.specs.declared.node.Node.{Node}
 use Rattle.moo_eval_frame.specs.Outcome.{Stop, Failure, passes, out_of_ticks}
 use Rattle.moo_eval_frame.specs.State.{Context}
 use Rattle.moo_eval_access.specs.State.{State, trace}

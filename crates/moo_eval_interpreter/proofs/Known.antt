@@ -2,12 +2,12 @@
 use Rattle.std.proofs.Common.{◌≡◌, Result, ◌≤◌, ◌<◌, ◌-◌, ℕ, zero, suc, List, [], ◌∷◌, length, map, Ok, Err, refl, sym, ap, subst, arith}
 use Rattle.moo_value.specs.declared.error_code.ErrorCode.{ErrorCode}
 use Rattle.moo_value.specs.Tree.{error}
-use Rattle.moo_syntax_lower.specs.Source.{error_items}
+use Rattle.moo_syntax_node.specs.Source.{error_items}
 use Rattle.std.specs.declared.vec.Vec.{Vec}
 use Rattle.std.specs.declared.alloc.Global.{Global}
 use Rattle.moo_value.specs.declared.value.Value.{Value}
 use Rattle.moo_value.specs.View.{trees}
-use Rattle.moo_syntax_lower.specs.declared.node.NodeCodes.{NodeCodes}
+use Rattle.moo_syntax_node.specs.declared.node.NodeCodes.{NodeCodes}
 use Rattle.moo_eval_frame.specs.declared.outcome.Failure as code_failure
 use Rattle.moo_eval_frame.specs.declared.outcome.Stop as code_stop
 use Rattle.moo_eval_frame.specs.Seen.{seen_by, seen_answers}

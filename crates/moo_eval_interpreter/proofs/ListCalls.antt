@@ -9,9 +9,9 @@ use Rattle.moo_builtin.specs.Calls.{follows, given}
 use Rattle.moo_builtin.specs.Telling.{Faults}
 use Rattle.moo_eval_frame.specs.State.{Context}
 use Rattle.moo_eval_access.specs.State.{State}
-use Rattle.moo_eval_hook.specs.VerbCalls.{verb_caller}
+use Rattle.moo_eval_semantics.specs.VerbCalls.{verb_caller}
 use Rattle.moo_eval_deferred.specs.ListCall.{MakesList, appends, inserts, appends_at, inserts_at, adds, sets, deletes, removes}
-use Rattle.moo_eval_call.specs.Calls.{CallsFunction}
+use Rattle.moo_eval_semantics.specs.Calls.{CallsFunction}
 use Rattle.moo_eval_semantics.specs.Meaning.{EvaluatesAll, Computes, applies, no_more, call_is}
 
 -- such a function calls no verb

@@ -1,7 +1,7 @@
 -- Items among which no list is spliced in.
 use Rattle.std.proofs.Common.{◌≡◌, List, ◌∷◌, true, false}
 use Rattle.std.specs.List.{list_any}
-use Rattle.moo_syntax_lower.specs.declared.node.NodeItem.{NodeItem, Element', Splice', Optional, Defaulted'}
+use Rattle.moo_syntax_node.specs.declared.node.NodeItem.{NodeItem, Element', Splice', Optional, Defaulted'}
 use Rattle.moo_eval_task.specs.Arguments.{is_splice}
 
 -- the items after the first one have no splice either

@@ -5,7 +5,7 @@ use Rattle.std.specs.declared.alloc.Global.{Global}
 use Rattle.moo_value.specs.Tree.{Tree}
 use Rattle.moo_value.specs.declared.value.Value.{Value}
 use Rattle.moo_syntax_ast.specs.Tree.{Codes}
-use Rattle.moo_syntax_lower.specs.declared.node.NodeCodes.{NodeCodes}
+use Rattle.moo_syntax_node.specs.declared.node.NodeCodes.{NodeCodes}
 use Rattle.moo_builtin.specs.Telling.{Telling}
 use Rattle.moo_eval_control.specs.Catching.{guards, coded}
 use Rattle.moo_eval_frame.specs.Outcome.{Stop, Failure}

@@ -2,7 +2,7 @@
 ghost use Rattle.std.specs.Prelude.{◌≡◌, ◌≤◌, false};
 ghost use Rattle.std.specs.List.{list_any};
 ghost use Rattle.moo_value.specs.View.{trees};
-ghost use Rattle.moo_syntax_lower.specs.Source.{source_items};
+ghost use Rattle.moo_syntax_node.specs.Source.{source_items};
 ghost use Rattle.moo_builtin.specs.Telling.{Faults};
 ghost use Rattle.moo_eval_semantics.specs.Meaning.{EvaluatesAll};
 ghost use Rattle.moo_eval_frame.specs.Seen.{context_of, seen_by, IsKnownFailure};
@@ -12,7 +12,7 @@ ghost use Rattle.moo_eval_task.specs.Seen.{state_of};
 use crate::interpreter::{evaluate, evaluate_all};
 use moo_eval_frame::{Activation, CallStack, Failure};
 use moo_eval_task::{Task, has_splice, push};
-use moo_syntax_lower::NodeItem;
+use moo_syntax_node::NodeItem;
 use moo_value::{ErrorCode, Value};
 use moo_world::World;
 

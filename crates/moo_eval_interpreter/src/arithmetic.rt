@@ -2,7 +2,7 @@
 //! computed from integers alone if that can be, and else node by node.
 ghost use Rattle.std.specs.Prelude.{◌≤◌, Ok};
 ghost use Rattle.moo_syntax_ast.specs.Tree.{binary};
-ghost use Rattle.moo_syntax_lower.specs.Source.{source};
+ghost use Rattle.moo_syntax_node.specs.Source.{source};
 ghost use Rattle.moo_eval_frame.specs.Seen.{context_of, seen_answer, seen_value, IsKnown, IsKnownFailure};
 ghost use Rattle.moo_builtin.specs.Telling.{Faults};
 ghost use Rattle.moo_eval_semantics.specs.Meaning.{Evaluates, Computes};
@@ -14,7 +14,7 @@ use moo_eval_access::binary_in_place;
 use moo_eval_frame::{Activation, CallStack, Failure, Stop};
 use moo_eval_task::Task;
 use moo_syntax_ast::operator::BinaryOperator;
-use moo_syntax_lower::Node;
+use moo_syntax_node::Node;
 use moo_value::Value;
 use moo_world::World;
 

@@ -1,7 +1,7 @@
 //! Runs assignments.
 ghost use Rattle.std.specs.Prelude.{◌≤◌, None, Ok};
 ghost use Rattle.moo_syntax_ast.specs.Tree.{variable, assign, performs};
-ghost use Rattle.moo_syntax_lower.specs.Source.{source};
+ghost use Rattle.moo_syntax_node.specs.Source.{source};
 ghost use Rattle.moo_value.specs.View.{tree as value_tree};
 ghost use Rattle.moo_eval_access.specs.Target.{Path};
 ghost use Rattle.moo_eval_semantics.specs.Meaning.{Computes, Does, Locates, Finds, Steps, Stores};
@@ -22,7 +22,7 @@ use moo_eval_deferred::{assign_deferred, set_deferred};
 use moo_eval_frame::{Activation, CallStack, Failure, Flow, Stop};
 use moo_eval_task::Task;
 use moo_syntax_ast::Name;
-use moo_syntax_lower::Node;
+use moo_syntax_node::Node;
 use moo_value::Value;
 use moo_world::World;
 

@@ -6,7 +6,7 @@ ghost use Rattle.moo_value.specs.Tree.{string};
 ghost use Rattle.moo_value.specs.View.{tree as tree_of, trees};
 ghost use Rattle.moo_syntax_ast.specs.declared.tree.Literal.TheVariants.{Str};
 ghost use Rattle.moo_syntax_ast.specs.Tree.{Expr, Items, no_statement, literal, verb_call};
-ghost use Rattle.moo_syntax_lower.specs.Source.{source, source_items};
+ghost use Rattle.moo_syntax_node.specs.Source.{source, source_items};
 ghost use Rattle.moo_eval_frame.specs.declared.frame.Activation.{Activation};
 ghost use Rattle.moo_eval_access.specs.SeenCalled.{entered_of};
 ghost use Rattle.moo_eval_hook.specs.SeenByHooks.{progress_of};
@@ -25,7 +25,7 @@ use moo_eval_frame::{Activation, CallStack, Failure, FrameMemory, Variables};
 use moo_eval_hook::Progress;
 use moo_eval_task::{Pending, Task, answered};
 use moo_syntax_ast::Text;
-use moo_syntax_lower::{Node, NodeItem};
+use moo_syntax_node::{Node, NodeItem};
 use moo_value::Value;
 use moo_world::World;
 

@@ -1,6 +1,6 @@
 //! Evaluates catches.
 ghost use Rattle.std.specs.Prelude.{◌≤◌, Err};
-ghost use Rattle.moo_syntax_lower.specs.Source.{source, source_codes, source_items};
+ghost use Rattle.moo_syntax_node.specs.Source.{source, source_codes, source_items};
 ghost use Rattle.moo_eval_control.specs.Catching.{guards};
 ghost use Rattle.moo_eval_frame.specs.Seen.{context_of, seen_answer, seen_answers, seen_by, IsKnownFailure};
 ghost use Rattle.moo_eval_control.specs.SeenCatching.{code_values, catch_of};
@@ -13,7 +13,7 @@ use crate::interpreter::{evaluate, evaluate_all};
 use crate::nodes::compute;
 use moo_eval_frame::{Activation, CallStack, Failure};
 use moo_eval_task::{Attempt, Task};
-use moo_syntax_lower::{Node, NodeCodes, NodeItem};
+use moo_syntax_node::{Node, NodeCodes, NodeItem};
 use moo_value::Value;
 use moo_world::World;
 

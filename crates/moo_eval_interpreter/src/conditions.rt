@@ -3,7 +3,7 @@ ghost use Rattle.std.specs.Prelude.{◌≡◌, ◌≤◌, Ok, Err, IfOk, IfErr};
 ghost use Rattle.moo_value.specs.Tree.{Tree};
 ghost use Rattle.moo_syntax_ast.specs.declared.operator.UnaryOperator.TheVariants.{Not};
 ghost use Rattle.moo_syntax_ast.specs.Tree.{unary, binary, logic};
-ghost use Rattle.moo_syntax_lower.specs.Source.{source};
+ghost use Rattle.moo_syntax_node.specs.Source.{source};
 ghost use Rattle.moo_builtin_operator.specs.Truth.{is_true};
 ghost use Rattle.moo_eval_frame.specs.Seen.{context_of, stop_of, HadMemory};
 ghost use Rattle.moo_builtin.specs.Telling.{Faults};
@@ -16,7 +16,7 @@ use moo_builtin_operator::is_true;
 use moo_eval_frame::{Activation, CallStack, Stop};
 use moo_eval_task::{Task, decides};
 use moo_syntax_ast::operator::{BinaryOperator, LogicOperator, UnaryOperator};
-use moo_syntax_lower::Node;
+use moo_syntax_node::Node;
 use moo_value::Value;
 use moo_world::World;
 

@@ -1,7 +1,7 @@
 //! Evaluates operators and conditionals of which only some parts are evaluated.
 ghost use Rattle.std.specs.Prelude.{◌≤◌, None};
 ghost use Rattle.moo_syntax_ast.specs.Tree.{logic, conditional, performs};
-ghost use Rattle.moo_syntax_lower.specs.Source.{source};
+ghost use Rattle.moo_syntax_node.specs.Source.{source};
 ghost use Rattle.moo_eval_frame.specs.Seen.{context_of, seen_answer, seen_flow, IsKnown, IsKnownFailure};
 ghost use Rattle.moo_builtin.specs.Telling.{Faults};
 ghost use Rattle.moo_eval_semantics.specs.Meaning.{Computes, Does};
@@ -15,7 +15,7 @@ use moo_builtin_operator::is_decided;
 use moo_eval_frame::{Activation, CallStack, Failure, Flow, Stop};
 use moo_eval_task::{Task, as_set_variable};
 use moo_syntax_ast::operator::LogicOperator;
-use moo_syntax_lower::Node;
+use moo_syntax_node::Node;
 use moo_value::Value;
 use moo_world::World;
 

@@ -2,7 +2,7 @@
 //! and `l[2..$]` change a list in place.
 ghost use Rattle.std.specs.Prelude.{◌≤◌, Ok, Err, IfOk, IfErr};
 ghost use Rattle.moo_syntax_ast.specs.Tree.{list, splice, element, no_items, call, range};
-ghost use Rattle.moo_syntax_lower.specs.Source.{source, source_items};
+ghost use Rattle.moo_syntax_node.specs.Source.{source, source_items};
 ghost use Rattle.moo_eval_frame.specs.Seen.{context_of, stop_of, seen_by, HadMemory, IsKnownFailure};
 ghost use Rattle.moo_builtin.specs.Telling.{Faults};
 ghost use Rattle.moo_eval_deferred.specs.Deferred.{deferred_tree};
@@ -17,7 +17,7 @@ use moo_eval_access::{ListForm, is_list_change, list_form};
 use moo_eval_deferred::{Deferred, ListCall, LongerList, deferred_range};
 use moo_eval_frame::{Activation, CallStack, Failure, Gathered, Stop};
 use moo_eval_task::Task;
-use moo_syntax_lower::{FunctionName, Node, NodeItem};
+use moo_syntax_node::{FunctionName, Node, NodeItem};
 use moo_value::{ErrorCode, Value};
 use moo_world::World;
 

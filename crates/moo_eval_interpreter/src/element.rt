@@ -1,7 +1,7 @@
 //! Runs assignments to an element of a list, or a byte of a string, in a variable.
 ghost use Rattle.std.specs.Prelude.{◌≤◌, None, Ok, Err, IfErr, OnOk};
 ghost use Rattle.moo_syntax_ast.specs.Tree.{performs};
-ghost use Rattle.moo_syntax_lower.specs.Source.{source};
+ghost use Rattle.moo_syntax_node.specs.Source.{source};
 ghost use Rattle.moo_eval_frame.specs.Seen.{context_of, failure_of, seen_flow, HadMemoryIn, IsKnown};
 ghost use Rattle.moo_builtin.specs.Telling.{Faults};
 ghost use Rattle.moo_eval_task.specs.Element.{sets_place, IsPut};
@@ -14,7 +14,7 @@ use moo_eval_deferred::set_deferred_at;
 use moo_eval_frame::{Activation, CallStack, Failure, Flow, Stop, read_variable};
 use moo_eval_task::Task;
 use moo_syntax_ast::Name;
-use moo_syntax_lower::Node;
+use moo_syntax_node::Node;
 use moo_world::World;
 
 /// Runs `name[place] = value`, if the assignment's own value is not used. Not inlined, so that nested statements

@@ -3,8 +3,8 @@ ghost use Rattle.std.specs.Prelude.{◌≡◌, ◌≤◌, ℕ, List, [], Option,
 ghost use Rattle.std.specs.Borrow.{Bor};
 ghost use Rattle.moo_value.specs.declared.value.Value.{Value as ValueModel};
 ghost use Rattle.moo_syntax_ast.specs.Tree.{Items, element, no_items, call};
-ghost use Rattle.moo_syntax_lower.specs.Source.{source, source_items};
-ghost use Rattle.moo_eval_hook.specs.VerbCalls.{caller_of};
+ghost use Rattle.moo_syntax_node.specs.Source.{source, source_items};
+ghost use Rattle.moo_eval_semantics.specs.VerbCalls.{caller_of};
 ghost use Rattle.moo_eval_semantics.specs.Meaning.{Applies, Computes};
 ghost use Rattle.moo_eval_frame.specs.Seen.{context_of, seen_answer, IsKnownFailure};
 ghost use Rattle.moo_builtin.specs.Telling.{Faults};
@@ -17,7 +17,7 @@ use moo_eval_frame::{Activation, CallStack, Failure, Gathered};
 use moo_eval_hook::{start_call, verb_caller};
 use moo_eval_task::{Task, has_splice};
 use moo_syntax_function::Function;
-use moo_syntax_lower::{FunctionName, Node, NodeItem};
+use moo_syntax_node::{FunctionName, Node, NodeItem};
 use moo_value::Value;
 use moo_world::World;
 

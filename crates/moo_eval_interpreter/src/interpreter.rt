@@ -1,6 +1,6 @@
 //! Evaluates expressions.
 ghost use Rattle.std.specs.Prelude.{◌-◌, ◌<◌, ◌≤◌, Ok, Err};
-ghost use Rattle.moo_syntax_lower.specs.Source.{source, source_items};
+ghost use Rattle.moo_syntax_node.specs.Source.{source, source_items};
 ghost use Rattle.moo_eval_semantics.specs.Meaning.{Evaluates, EvaluatesAll};
 ghost use Rattle.moo_eval_frame.specs.Seen.{context_of, seen_value, seen_by, IsKnown, IsKnownFailure};
 ghost use Rattle.moo_builtin.specs.Telling.{Faults};
@@ -9,7 +9,7 @@ ghost use Rattle.moo_eval_task.specs.Seen.{state_of};
 use crate::nodes::evaluate_node;
 use moo_eval_frame::{Activation, CallStack, Failure, Gathered, Stop};
 use moo_eval_task::Task;
-use moo_syntax_lower::{Node, NodeItem};
+use moo_syntax_node::{Node, NodeItem};
 use moo_value::{ErrorCode, Value};
 use moo_world::World;
 

@@ -2,8 +2,8 @@
 ghost use Rattle.std.specs.Prelude.{◌≤◌, ◌<◌, ◌∷◌, [], None, Some, OnOk};
 ghost use Rattle.moo_value.specs.View.{tree as value_tree, trees};
 ghost use Rattle.moo_syntax_ast.specs.Tree.{for_list, for_range};
-ghost use Rattle.moo_syntax_lower.specs.Source.{source};
-ghost use Rattle.moo_syntax_lower.specs.Blocks.{source_block};
+ghost use Rattle.moo_syntax_node.specs.Source.{source};
+ghost use Rattle.moo_syntax_node.specs.Blocks.{source_block};
 ghost use Rattle.moo_eval_semantics.specs.Meaning.{Does, Turns, Loops, Visits, Counts};
 ghost use Rattle.moo_eval_slot.specs.Bindings.{bind};
 ghost use Rattle.moo_eval_frame.specs.Seen.{context_of, seen_flow, seen_turn, IsKnown};
@@ -18,7 +18,7 @@ use moo_eval_control::{Span, after_turn, no_turn};
 use moo_eval_frame::{Activation, CallStack, Flow, Stop};
 use moo_eval_task::{Task, set_value};
 use moo_syntax_ast::Name;
-use moo_syntax_lower::{Node, NodeStmt};
+use moo_syntax_node::{Node, NodeStmt};
 use moo_value::{MooStr, Value};
 use moo_world::World;
 

@@ -1,7 +1,7 @@
 //! Evaluates nodes. Each takes a tick, computes its value, and raises an error of its own if the frame has the d bit.
 ghost use Rattle.std.specs.Prelude.{◌≤◌, Ok};
 ghost use Rattle.moo_syntax_ast.specs.Tree.{call};
-ghost use Rattle.moo_syntax_lower.specs.Source.{source};
+ghost use Rattle.moo_syntax_node.specs.Source.{source};
 ghost use Rattle.moo_eval_frame.specs.Seen.{context_of, seen_answer, seen_value, IsKnown, IsKnownFailure};
 ghost use Rattle.moo_builtin.specs.Telling.{Faults};
 ghost use Rattle.moo_eval_semantics.specs.Meaning.{Evaluates, Computes};
@@ -18,7 +18,7 @@ use crate::property::{computed_property, written_property};
 use moo_eval_access::as_text;
 use moo_eval_frame::{Activation, CallStack, Failure, Stop, measure, read_variable};
 use moo_eval_task::{Task, copied_text};
-use moo_syntax_lower::Node;
+use moo_syntax_node::Node;
 use moo_value::Value;
 use moo_world::World;
 

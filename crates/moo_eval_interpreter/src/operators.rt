@@ -1,7 +1,7 @@
 //! Evaluates operators, indexes, ranges and lists.
 ghost use Rattle.std.specs.Prelude.{◌≤◌, Ok};
 ghost use Rattle.moo_syntax_ast.specs.Tree.{unary, binary, index, range, list};
-ghost use Rattle.moo_syntax_lower.specs.Source.{source, source_items};
+ghost use Rattle.moo_syntax_node.specs.Source.{source, source_items};
 ghost use Rattle.moo_eval_frame.specs.Seen.{context_of, seen_answer, IsKnownFailure};
 ghost use Rattle.moo_builtin.specs.Telling.{Faults};
 ghost use Rattle.moo_eval_semantics.specs.Meaning.{Computes};
@@ -13,7 +13,7 @@ use moo_eval_access::binary_in_place;
 use moo_eval_frame::{Activation, CallStack, Failure};
 use moo_eval_task::{Task, listed};
 use moo_syntax_ast::operator::{BinaryOperator, UnaryOperator};
-use moo_syntax_lower::{Node, NodeItem};
+use moo_syntax_node::{Node, NodeItem};
 use moo_value::Value;
 use moo_world::World;
 

@@ -3,7 +3,7 @@ ghost use Rattle.std.specs.Prelude.{◌≤◌, ◌<◌, ◌-◌, None, Some, Ok,
 ghost use Rattle.moo_value.specs.Tree.{Tree};
 ghost use Rattle.moo_syntax_ast.specs.declared.tree.Literal.TheVariants.{Str};
 ghost use Rattle.moo_syntax_ast.specs.Tree.{literal, property, assign, performs};
-ghost use Rattle.moo_syntax_lower.specs.Source.{source};
+ghost use Rattle.moo_syntax_node.specs.Source.{source};
 ghost use Rattle.moo_eval_frame.specs.Seen.{context_of, failure_of, seen_answer, seen_flow, HadMemoryIn, IsKnown, IsKnownFailure};
 ghost use Rattle.moo_builtin.specs.Telling.{Faults};
 ghost use Rattle.moo_eval_semantics.specs.Meaning.{Computes, Does};
@@ -16,7 +16,7 @@ use moo_eval_deferred::{write_deferred, write_written_deferred};
 use moo_eval_frame::{Activation, CallStack, Failure, Flow, Stop};
 use moo_eval_task::Task;
 use moo_syntax_ast::Text;
-use moo_syntax_lower::Node;
+use moo_syntax_node::Node;
 use moo_value::Value;
 use moo_world::World;
 

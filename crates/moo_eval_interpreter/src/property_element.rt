@@ -2,7 +2,7 @@
 ghost use Rattle.std.specs.Prelude.{◌≤◌, None, Err, IfErr, OnOk, Ok};
 ghost use Rattle.moo_value.specs.Tree.{Tree};
 ghost use Rattle.moo_syntax_ast.specs.Tree.{performs};
-ghost use Rattle.moo_syntax_lower.specs.Source.{source};
+ghost use Rattle.moo_syntax_node.specs.Source.{source};
 ghost use Rattle.moo_eval_frame.specs.Seen.{context_of, failure_of, seen_flow, HadMemoryIn, IsKnown};
 ghost use Rattle.moo_builtin.specs.Telling.{Faults};
 ghost use Rattle.moo_eval_semantics.specs.Meaning.{Computes, Does};
@@ -16,7 +16,7 @@ use moo_eval_deferred::set_property_deferred_at;
 use moo_eval_frame::{Activation, CallStack, Failure, Flow, Stop};
 use moo_eval_task::Task;
 use moo_syntax_ast::Text;
-use moo_syntax_lower::Node;
+use moo_syntax_node::Node;
 use moo_world::World;
 
 /// Runs `base.name[place] = value`, if the assignment's own value is not used. Not inlined, so that nested

@@ -1,8 +1,8 @@
 //! Runs assignments of the elements of a list to names.
 ghost use Rattle.std.specs.Prelude.{◌≤◌, None, Result, Ok, Err, map};
 ghost use Rattle.moo_syntax_ast.specs.Tree.{assign, performs, list};
-ghost use Rattle.moo_syntax_lower.specs.Source.{source, source_items};
-ghost use Rattle.moo_syntax_lower.specs.Blocks.{named_items};
+ghost use Rattle.moo_syntax_node.specs.Source.{source, source_items};
+ghost use Rattle.moo_syntax_node.specs.Blocks.{named_items};
 ghost use Rattle.moo_value.specs.View.{tree as value_tree};
 ghost use Rattle.moo_eval_access.specs.Target.{scattered};
 ghost use Rattle.moo_eval_semantics.specs.Meaning.{Does, Puts, SetsDefaults};
@@ -16,7 +16,7 @@ use moo_eval_control::{LeftOut, set_names};
 use moo_eval_frame::{Activation, CallStack, Failure, Flow, Stop};
 use moo_eval_task::Task;
 use moo_syntax_ast::Name;
-use moo_syntax_lower::{Node, NodeItem};
+use moo_syntax_node::{Node, NodeItem};
 use moo_value::Value;
 use moo_world::World;
 

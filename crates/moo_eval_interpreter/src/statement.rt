@@ -1,9 +1,9 @@
 //! Runs statements.
 ghost use Rattle.std.specs.Prelude.{◌≢◌, ◌≤◌, ◌<◌, None, Ok, Err, option_map, OnOk, IfOk, IfErr};
 ghost use Rattle.moo_syntax_ast.specs.Tree.{performs, branches, elseif, no_statement};
-ghost use Rattle.moo_syntax_lower.specs.declared.statement.NodeStmt.TheVariants.{Return};
-ghost use Rattle.moo_syntax_lower.specs.Source.{source};
-ghost use Rattle.moo_syntax_lower.specs.Blocks.{source_statement, source_block, source_arm_list};
+ghost use Rattle.moo_syntax_node.specs.declared.statement.NodeStmt.TheVariants.{Return};
+ghost use Rattle.moo_syntax_node.specs.Source.{source};
+ghost use Rattle.moo_syntax_node.specs.Blocks.{source_statement, source_block, source_arm_list};
 ghost use Rattle.moo_eval_semantics.specs.Meaning.{Does, RunsAll, Selects};
 ghost use Rattle.moo_eval_frame.specs.Seen.{context_of, seen_flow, stop_of, HadMemory, IsKnown};
 ghost use Rattle.moo_builtin.specs.Telling.{Faults};
@@ -28,7 +28,7 @@ use moo_eval_access::as_set_property;
 use moo_eval_control::copied_name;
 use moo_eval_frame::{Activation, CallStack, Flow, Stop};
 use moo_eval_task::{Task, as_set_property_element};
-use moo_syntax_lower::{Node, NodeArm, NodeStmt};
+use moo_syntax_node::{Node, NodeArm, NodeStmt};
 use moo_value::Value;
 use moo_world::World;
 

@@ -1,8 +1,8 @@
 //! Runs `try`, with handlers or with a cleanup.
 ghost use Rattle.std.specs.Prelude.{◌≤◌, None, Result, Err, map};
 ghost use Rattle.moo_syntax_ast.specs.Tree.{try_except, try_finally, no_handler};
-ghost use Rattle.moo_syntax_lower.specs.Source.{source_codes};
-ghost use Rattle.moo_syntax_lower.specs.Blocks.{source_block, source_handler_list, with_source_handler};
+ghost use Rattle.moo_syntax_node.specs.Source.{source_codes};
+ghost use Rattle.moo_syntax_node.specs.Blocks.{source_block, source_handler_list, with_source_handler};
 ghost use Rattle.moo_eval_semantics.specs.Meaning.{Does, Prepares, Handles};
 ghost use Rattle.moo_eval_frame.specs.Seen.{context_of, seen_flow, IsKnown};
 ghost use Rattle.moo_eval_control.specs.SeenHandling.{guarded_of, seen_guarded};
@@ -17,7 +17,7 @@ use moo_eval_control::{
 };
 use moo_eval_frame::{Activation, CallStack, Flow, Stop};
 use moo_eval_task::Task;
-use moo_syntax_lower::{NodeCodes, NodeHandler, NodeStmt};
+use moo_syntax_node::{NodeCodes, NodeHandler, NodeStmt};
 use moo_value::Value;
 use moo_world::World;
 use std::slice;

@@ -1,7 +1,7 @@
 //! Runs `x = f(x, a);` for a function that makes a list of its first argument.
 ghost use Rattle.std.specs.Prelude.{◌≤◌, None, Err, IfErr, OnOk};
 ghost use Rattle.moo_syntax_ast.specs.Tree.{variable, assign, performs, call};
-ghost use Rattle.moo_syntax_lower.specs.Source.{source_items};
+ghost use Rattle.moo_syntax_node.specs.Source.{source_items};
 ghost use Rattle.moo_eval_semantics.specs.Meaning.{Computes, Does};
 ghost use Rattle.moo_eval_frame.specs.Seen.{context_of, failure_of, seen_flow, HadMemoryIn, IsKnown};
 ghost use Rattle.moo_eval_task.specs.SetTo.{IsSetTo};
@@ -13,7 +13,7 @@ use moo_eval_deferred::{Deferred, set_called, set_deferred};
 use moo_eval_frame::{Activation, CallStack, Failure, Flow, Stop};
 use moo_eval_task::Task;
 use moo_syntax_ast::Name;
-use moo_syntax_lower::{FunctionName, NodeItem};
+use moo_syntax_node::{FunctionName, NodeItem};
 use moo_world::World;
 
 /// Runs `name = called(items)`, if the assignment's own value is not used. A list that nothing but the variable

@@ -24,8 +24,8 @@ use Rattle.moo_builtin.specs.CodeCalls.{Answers}
 use Rattle.moo_builtin.proofs.CodeOnce.{TellsOne, only_once, same_program}
 use Rattle.moo_builtin.specs.declared.call.Caller.{Caller}
 use Rattle.moo_builtin.specs.Calls.{Field, values, objects, code, field, raising, Leaves, IsOf, Follows, CallsPlain, unknown, refused, follows}
-use Rattle.moo_eval_call.specs.Tasks.{replied}
-use Rattle.moo_eval_call.specs.Calls.{task_function, caller, CallsAs, CallsFunction}
+use Rattle.moo_eval_semantics.specs.Tasks.{replied}
+use Rattle.moo_eval_semantics.specs.Calls.{task_function, caller, CallsAs, CallsFunction}
 
 -- if both report a fault of a text it is the same, and neither reports one of a program
 pub record Agree (T U : Telling) : Type 0 where

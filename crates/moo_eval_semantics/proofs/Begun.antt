@@ -10,9 +10,9 @@ use Rattle.moo_eval_access.specs.State.{State}
 use Rattle.moo_builtin.specs.Telling.{Telling}
 use Rattle.moo_builtin.proofs.CodeOnce.{same_program}
 use Rattle.moo_eval_semantics.proofs.Agreed.{Agree}
-use Rattle.moo_eval_hook.specs.Progressing.{Calling, Progress, done, refuses}
-use Rattle.moo_eval_hook.specs.Evaluating.{program_next, no_program, EvaluatesText, forbidden, faulty, parsed, EvalBegins}
-use Rattle.moo_eval_hook.specs.VerbCalls.{Begins, Starts, refused, starts}
+use Rattle.moo_eval_semantics.specs.Progressing.{Calling, Progress, done, refuses}
+use Rattle.moo_eval_semantics.specs.Evaluating.{program_next, no_program, EvaluatesText, forbidden, faulty, parsed, EvalBegins}
+use Rattle.moo_eval_semantics.specs.VerbCalls.{Begins, Starts, refused, starts}
 
 one_evaluation : (T U : Telling) → Agree T U → (k : Calling) (w : World) (text : List ℕ) (a b : Progress) → EvaluatesText T k w text a → EvaluatesText U k w text b → a ≡ b
 one_evaluation T U agree k w text a b (forbidden q) (forbidden r) = refl

@@ -9,9 +9,9 @@ use Rattle.moo_eval_frame.specs.State.{Context}
 use Rattle.moo_eval_access.specs.State.{State}
 use Rattle.moo_eval_access.specs.Entering.{Entered}
 use Rattle.moo_builtin.specs.Telling.{Telling}
-use Rattle.moo_eval_hook.specs.declared.progress.Stage.{Stage}
-use Rattle.moo_eval_hook.specs.Progressing.{calling, Progress, stage_next, refuses, after_raise, is_missing, hooked, hook}
-use Rattle.moo_eval_hook.specs.Stages.{resumed}
+use Rattle.moo_eval_semantics.specs.declared.stage.Stage.{Stage}
+use Rattle.moo_eval_semantics.specs.Progressing.{calling, Progress, stage_next, refuses, after_raise, is_missing, hooked, hook}
+use Rattle.moo_eval_semantics.specs.Stages.{resumed}
 use Rattle.moo_eval_semantics.specs.Meaning.{Proceeds, is_done, hook_stops, hook_then, at_once}
 use Rattle.moo_eval_semantics.specs.Verbs.{entering, CallsVerb, passed_over, no_frame, runs}
 

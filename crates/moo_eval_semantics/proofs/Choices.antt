@@ -9,7 +9,7 @@ use Rattle.moo_eval_frame.specs.declared.notice.Notice.{Notice}
 use Rattle.moo_eval_frame.specs.Surroundings.{Surroundings}
 use Rattle.moo_builtin.specs.Telling.{Telling, Faults, Choice, PassesPrograms}
 use Rattle.moo_eval_semantics.proofs.Agreed.{Agree}
-use Rattle.moo_eval_call.proofs.Wider.{Wider}
+use Rattle.moo_eval_semantics.proofs.CallWider.{Wider}
 use Rattle.moo_eval_semantics.specs.Task.{End, TaskEnds}
 use Rattle.moo_eval_semantics.specs.Laws.{ChoosesFaults, Texts, faults_of, HaveOneFault}
 use Rattle.moo_eval_semantics.proofs.Wider.{wider_block}

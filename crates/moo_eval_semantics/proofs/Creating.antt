@@ -9,11 +9,11 @@ use Rattle.moo_eval_frame.specs.Outcome.{Failure}
 use Rattle.moo_eval_frame.specs.State.{Context}
 use Rattle.moo_eval_access.specs.State.{State}
 use Rattle.moo_builtin.specs.Telling.{Telling}
-use Rattle.moo_eval_hook.specs.declared.progress.Stage.TheVariants.{Created}
-use Rattle.moo_eval_hook.specs.Progressing.{calling, Progress, refuses, after_raise}
-use Rattle.moo_eval_hook.specs.Quota.{quota, is_used_up}
-use Rattle.moo_eval_hook.specs.Creating.{may_be_parent, next_number, initialized, creating}
-use Rattle.moo_eval_hook.specs.VerbCalls.{Starts, refused, starts}
+use Rattle.moo_eval_semantics.specs.declared.stage.Stage.TheVariants.{Created}
+use Rattle.moo_eval_semantics.specs.Progressing.{calling, Progress, refuses, after_raise}
+use Rattle.moo_eval_semantics.specs.Quota.{quota, is_used_up}
+use Rattle.moo_eval_semantics.specs.Creating.{may_be_parent, next_number, initialized, creating}
+use Rattle.moo_eval_semantics.specs.VerbCalls.{Starts, refused, starts}
 use Rattle.moo_eval_semantics.specs.Meaning.{Proceeds, is_done}
 use Rattle.moo_eval_semantics.specs.Creates as law
 use Rattle.moo_eval_semantics.specs.Creates.{with_new, MayCreate, Creates}

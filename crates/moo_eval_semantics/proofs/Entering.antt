@@ -25,18 +25,18 @@ use Rattle.moo_eval_access.specs.State.{State}
 use Rattle.moo_eval_frame.specs.Frames.{is_frame}
 use Rattle.moo_eval_access.specs.Entering.{Entered, frames, most_frames, has_frame_left, found_verb, entered_found, entered_by, entered_verb, entered_from, after_list}
 use Rattle.moo_builtin.specs.Telling.{Telling}
-use Rattle.moo_eval_hook.specs.declared.progress.Stage.{Stage}
-use Rattle.moo_eval_hook.specs.declared.progress.Stage.TheVariants as stage
-use Rattle.moo_eval_hook.specs.Progressing.{Calling, calling, Progress, done, verb_next, stage_next, refuses, after_raise, is_missing, hooked, hook}
-use Rattle.moo_eval_hook.specs.Passing.{passing, run_by}
-use Rattle.moo_eval_hook.specs.Objects.{is_place, first_inside}
-use Rattle.moo_eval_hook.specs.Moving.{is_to_move, moved, moving, may_enter, accepted, has_come, after_leaving}
-use Rattle.moo_eval_hook.specs.Creating.{may_be_parent, creating}
-use Rattle.moo_eval_hook.specs.Quota.{quota, is_used_up}
-use Rattle.moo_eval_hook.specs.Recycling.{taken_away, moved_out, recycling, emptied}
-use Rattle.moo_eval_hook.specs.Evaluating.{EvaluatesText, forbidden, faulty, parsed, EvalBegins, program_next}
-use Rattle.moo_eval_hook.specs.Stages.{next_progress, resumed}
-use Rattle.moo_eval_hook.specs.VerbCalls.{move_begins, create_begins, recycle_begins, first_progress, Begins, Starts, refused, starts}
+use Rattle.moo_eval_semantics.specs.declared.stage.Stage.{Stage}
+use Rattle.moo_eval_semantics.specs.declared.stage.Stage.TheVariants as stage
+use Rattle.moo_eval_semantics.specs.Progressing.{Calling, calling, Progress, done, verb_next, stage_next, refuses, after_raise, is_missing, hooked, hook}
+use Rattle.moo_eval_semantics.specs.Passing.{passing, run_by}
+use Rattle.moo_eval_semantics.specs.Objects.{is_place, first_inside}
+use Rattle.moo_eval_semantics.specs.Moving.{is_to_move, moved, moving, may_enter, accepted, has_come, after_leaving}
+use Rattle.moo_eval_semantics.specs.Creating.{may_be_parent, creating}
+use Rattle.moo_eval_semantics.specs.Quota.{quota, is_used_up}
+use Rattle.moo_eval_semantics.specs.Recycling.{taken_away, moved_out, recycling, emptied}
+use Rattle.moo_eval_semantics.specs.Evaluating.{EvaluatesText, forbidden, faulty, parsed, EvalBegins, program_next}
+use Rattle.moo_eval_semantics.specs.Stages.{next_progress, resumed}
+use Rattle.moo_eval_semantics.specs.VerbCalls.{move_begins, create_begins, recycle_begins, first_progress, Begins, Starts, refused, starts}
 
 -- its own frame is among at most 50
 abbrev HasRoom : Entered → Type 0

@@ -13,17 +13,17 @@ use Rattle.moo_eval_frame.specs.State.{Context}
 use Rattle.moo_eval_access.specs.State.{State}
 use Rattle.moo_eval_access.specs.Entering.{Entered}
 use Rattle.moo_builtin.specs.Telling.{Telling}
-use Rattle.moo_eval_call.specs.Later.{Later}
-use Rattle.moo_eval_call.proofs.Onward.{stays}
-use Rattle.moo_eval_hook.specs.declared.progress.Stage.{Stage}
-use Rattle.moo_eval_hook.specs.declared.progress.Stage.TheVariants as stage
-use Rattle.moo_eval_hook.specs.Progressing.{Calling, calling, Progress, done, verb_next, stage_next, refuses, after_raise, is_missing, hooked, hook}
-use Rattle.moo_eval_hook.specs.Objects.{is_place}
-use Rattle.moo_eval_hook.specs.Quota.{quota, is_used_up}
-use Rattle.moo_eval_hook.specs.Creating.{may_be_parent, next_number, creating}
-use Rattle.moo_eval_hook.specs.Moving.{is_to_move, moved, moving, may_enter, accepted, has_come, after_leaving}
-use Rattle.moo_eval_hook.specs.Stages.{resumed}
-use Rattle.moo_eval_hook.specs.VerbCalls.{create_begins, move_begins, Starts, refused, starts}
+use Rattle.moo_eval_semantics.specs.Later.{Later}
+use Rattle.moo_eval_semantics.proofs.CallOnward.{stays}
+use Rattle.moo_eval_semantics.specs.declared.stage.Stage.{Stage}
+use Rattle.moo_eval_semantics.specs.declared.stage.Stage.TheVariants as stage
+use Rattle.moo_eval_semantics.specs.Progressing.{Calling, calling, Progress, done, verb_next, stage_next, refuses, after_raise, is_missing, hooked, hook}
+use Rattle.moo_eval_semantics.specs.Objects.{is_place}
+use Rattle.moo_eval_semantics.specs.Quota.{quota, is_used_up}
+use Rattle.moo_eval_semantics.specs.Creating.{may_be_parent, next_number, creating}
+use Rattle.moo_eval_semantics.specs.Moving.{is_to_move, moved, moving, may_enter, accepted, has_come, after_leaving}
+use Rattle.moo_eval_semantics.specs.Stages.{resumed}
+use Rattle.moo_eval_semantics.specs.VerbCalls.{create_begins, move_begins, Starts, refused, starts}
 use Rattle.moo_eval_semantics.specs.Meaning.{Proceeds, is_done, hook_stops, hook_then, at_once}
 use Rattle.moo_eval_semantics.proofs.Onward.{returned, later_block}
 

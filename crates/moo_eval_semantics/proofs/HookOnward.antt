@@ -7,13 +7,13 @@ use Rattle.moo_eval_frame.specs.declared.notice.Notice.TheVariants.{Recycle}
 use Rattle.moo_eval_frame.specs.State.{Context}
 use Rattle.moo_eval_access.specs.State.{State}
 use Rattle.moo_builtin.specs.Telling.{Telling}
-use Rattle.moo_eval_call.specs.Later.{Later}
-use Rattle.moo_eval_call.proofs.Onward.{kept, stays, moves, leaves_notice}
-use Rattle.moo_eval_hook.specs.declared.progress.Stage.{Stage}
-use Rattle.moo_eval_hook.specs.declared.progress.Stage.TheVariants as stage
-use Rattle.moo_eval_hook.specs.Progressing.{Progress, calling}
-use Rattle.moo_eval_hook.specs.Stages.{next_progress, after_stage, resumed}
-use Rattle.moo_eval_hook.specs.VerbCalls.{Starts, refused, starts}
+use Rattle.moo_eval_semantics.specs.Later.{Later}
+use Rattle.moo_eval_semantics.proofs.CallOnward.{kept, stays, moves, leaves_notice}
+use Rattle.moo_eval_semantics.specs.declared.stage.Stage.{Stage}
+use Rattle.moo_eval_semantics.specs.declared.stage.Stage.TheVariants as stage
+use Rattle.moo_eval_semantics.specs.Progressing.{Progress, calling}
+use Rattle.moo_eval_semantics.specs.Stages.{next_progress, after_stage, resumed}
+use Rattle.moo_eval_semantics.specs.VerbCalls.{Starts, refused, starts}
 
 pub later_start : (T : Telling) {c : Context} {f : Function} {vs : List Tree} {s s' : State} {p : Progress} → Starts T c f vs s p s' → Later s s'
 later_start T (refused q) = stays

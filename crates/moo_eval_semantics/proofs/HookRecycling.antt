@@ -14,14 +14,14 @@ use Rattle.moo_eval_frame.specs.State.{Context}
 use Rattle.moo_eval_access.specs.State.{State}
 use Rattle.moo_eval_access.specs.Entering.{Entered}
 use Rattle.moo_builtin.specs.Telling.{Telling}
-use Rattle.moo_eval_hook.specs.declared.progress.Stage.{Stage}
-use Rattle.moo_eval_hook.specs.declared.progress.Stage.TheVariants.{Emptying, Recycled}
-use Rattle.moo_eval_hook.specs.Progressing.{calling, Progress, done, verb_next, stage_next, refuses, after_raise, is_missing, through, hooked, hook}
+use Rattle.moo_eval_semantics.specs.declared.stage.Stage.{Stage}
+use Rattle.moo_eval_semantics.specs.declared.stage.Stage.TheVariants.{Emptying, Recycled}
+use Rattle.moo_eval_semantics.specs.Progressing.{calling, Progress, done, verb_next, stage_next, refuses, after_raise, is_missing, through, hooked, hook}
 use Rattle.moo_builtin_world.specs.Objects.{is_valid}
-use Rattle.moo_eval_hook.specs.Objects.{first_inside}
-use Rattle.moo_eval_hook.specs.Recycling.{recycle_calls, recycling, taken_away, moved_out, emptied}
-use Rattle.moo_eval_hook.specs.Stages.{resumed}
-use Rattle.moo_eval_hook.specs.VerbCalls.{Starts, refused, starts}
+use Rattle.moo_eval_semantics.specs.Objects.{first_inside}
+use Rattle.moo_eval_semantics.specs.Recycling.{recycle_calls, recycling, taken_away, moved_out, emptied}
+use Rattle.moo_eval_semantics.specs.Stages.{resumed}
+use Rattle.moo_eval_semantics.specs.VerbCalls.{Starts, refused, starts}
 use Rattle.moo_eval_semantics.specs.Operands.{answered, begun, left}
 use Rattle.moo_eval_semantics.specs.Meaning.{RunsAll, Proceeds, is_done, hook_stops, hook_then, at_once}
 use Rattle.moo_eval_semantics.specs.Verbs.{entering, CallsVerb, passed_over, no_frame, runs}

@@ -10,10 +10,10 @@ use Rattle.moo_eval_frame.specs.State.{Context}
 use Rattle.moo_eval_access.specs.State.{State}
 use Rattle.moo_builtin.specs.Telling.{Telling}
 use Rattle.moo_builtin.proofs.CodeOnce.{same_program}
-use Rattle.moo_eval_call.proofs.Unique.{TellsOne}
-use Rattle.moo_eval_hook.specs.Progressing.{Calling, Progress, done, refuses}
-use Rattle.moo_eval_hook.specs.Evaluating.{program_next, no_program, EvaluatesText, forbidden, faulty, parsed, EvalBegins}
-use Rattle.moo_eval_hook.specs.VerbCalls.{Begins, Starts, refused, starts}
+use Rattle.moo_eval_semantics.proofs.CallUnique.{TellsOne}
+use Rattle.moo_eval_semantics.specs.Progressing.{Calling, Progress, done, refuses}
+use Rattle.moo_eval_semantics.specs.Evaluating.{program_next, no_program, EvaluatesText, forbidden, faulty, parsed, EvalBegins}
+use Rattle.moo_eval_semantics.specs.VerbCalls.{Begins, Starts, refused, starts}
 
 one_evaluation : (T : Telling) → TellsOne T → (k : Calling) (w : World) (text : List ℕ) (a b : Progress) → EvaluatesText T k w text a → EvaluatesText T k w text b → a ≡ b
 one_evaluation T told k w text a b (forbidden q) (forbidden r) = refl

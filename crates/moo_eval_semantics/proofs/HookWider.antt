@@ -7,10 +7,10 @@ use Rattle.moo_world_table.specs.World.{World}
 use Rattle.moo_eval_frame.specs.State.{Context}
 use Rattle.moo_eval_access.specs.State.{State}
 use Rattle.moo_builtin.specs.Telling.{Telling}
-use Rattle.moo_eval_call.proofs.Wider.{Wider}
-use Rattle.moo_eval_hook.specs.Progressing.{Calling, calling, Progress}
-use Rattle.moo_eval_hook.specs.Evaluating.{EvaluatesText, forbidden, faulty, parsed, EvalBegins}
-use Rattle.moo_eval_hook.specs.VerbCalls.{Begins, Starts, refused, starts}
+use Rattle.moo_eval_semantics.proofs.CallWider.{Wider}
+use Rattle.moo_eval_semantics.specs.Progressing.{Calling, calling, Progress}
+use Rattle.moo_eval_semantics.specs.Evaluating.{EvaluatesText, forbidden, faulty, parsed, EvalBegins}
+use Rattle.moo_eval_semantics.specs.VerbCalls.{Begins, Starts, refused, starts}
 
 wider_text : {T U : Telling} → Wider T U → {k : Calling} {w : World} {text : List ℕ} {step : Progress} → EvaluatesText T k w text step → EvaluatesText U k w text step
 wider_text wider (forbidden may) = forbidden may

@@ -1,3 +1,6 @@
+pub mod CallOnward
+pub mod CallUnique
+pub mod CallWider
 pub mod Called
 pub mod Moving
 pub mod Creating

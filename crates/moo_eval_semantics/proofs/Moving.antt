@@ -10,12 +10,12 @@ use Rattle.moo_eval_frame.specs.Outcome.{Failure, fails}
 use Rattle.moo_eval_frame.specs.State.{Context}
 use Rattle.moo_eval_access.specs.State.{State}
 use Rattle.moo_builtin.specs.Telling.{Telling}
-use Rattle.moo_eval_hook.specs.declared.progress.Stage.TheVariants.{Accepting, Leaving, Entering}
-use Rattle.moo_eval_hook.specs.Progressing.{calling, Progress, gives, refuses, after_raise}
+use Rattle.moo_eval_semantics.specs.declared.stage.Stage.TheVariants.{Accepting, Leaving, Entering}
+use Rattle.moo_eval_semantics.specs.Progressing.{calling, Progress, gives, refuses, after_raise}
 use Rattle.moo_builtin_world.specs.Objects.{is_valid}
-use Rattle.moo_eval_hook.specs.Objects.{is_place, location}
-use Rattle.moo_eval_hook.specs.Moving.{move_calls, is_to_move, moved, moving, may_enter, accepted, has_come, after_leaving}
-use Rattle.moo_eval_hook.specs.VerbCalls.{Starts, refused, starts}
+use Rattle.moo_eval_semantics.specs.Objects.{is_place, location}
+use Rattle.moo_eval_semantics.specs.Moving.{move_calls, is_to_move, moved, moving, may_enter, accepted, has_come, after_leaving}
+use Rattle.moo_eval_semantics.specs.VerbCalls.{Starts, refused, starts}
 use Rattle.moo_eval_semantics.specs.Meaning.{Proceeds, is_done}
 use Rattle.moo_eval_semantics.specs.Moves as law
 use Rattle.moo_eval_semantics.specs.Moves.{move_error, with_move, Arrives, Goes, Moves}

@@ -20,15 +20,15 @@ use Rattle.moo_eval_frame.specs.declared.notice.Notice.TheVariants.{Recycle}
 use Rattle.moo_eval_frame.specs.State.{Context}
 use Rattle.moo_eval_access.specs.State.{State}
 use Rattle.moo_builtin.specs.Telling.{Telling}
-use Rattle.moo_eval_call.specs.Later.{Later}
-use Rattle.moo_eval_hook.specs.declared.progress.Stage.{Stage}
-use Rattle.moo_eval_hook.specs.declared.progress.Stage.TheVariants as stage
-use Rattle.moo_eval_hook.specs.Progressing.{Calling, calling, Progress}
-use Rattle.moo_eval_hook.specs.Objects.{first_inside}
-use Rattle.moo_eval_hook.specs.Quota.{quota, where_allowed, set_if_there, with_quota}
-use Rattle.moo_eval_hook.specs.Recycling.{recycle_calls, recycling, owner_of, taken_away, moved_out, emptied}
-use Rattle.moo_eval_hook.specs.Stages.{resumed}
-use Rattle.moo_eval_hook.specs.VerbCalls.{Starts, refused, starts}
+use Rattle.moo_eval_semantics.specs.Later.{Later}
+use Rattle.moo_eval_semantics.specs.declared.stage.Stage.{Stage}
+use Rattle.moo_eval_semantics.specs.declared.stage.Stage.TheVariants as stage
+use Rattle.moo_eval_semantics.specs.Progressing.{Calling, calling, Progress}
+use Rattle.moo_eval_semantics.specs.Objects.{first_inside}
+use Rattle.moo_eval_semantics.specs.Quota.{quota, where_allowed, set_if_there, with_quota}
+use Rattle.moo_eval_semantics.specs.Recycling.{recycle_calls, recycling, owner_of, taken_away, moved_out, emptied}
+use Rattle.moo_eval_semantics.specs.Stages.{resumed}
+use Rattle.moo_eval_semantics.specs.VerbCalls.{Starts, refused, starts}
 use Rattle.moo_eval_semantics.specs.Notices.{IsBegunBy}
 use Rattle.moo_eval_semantics.specs.HookLaws.{IsToldLast}
 use Rattle.moo_eval_semantics.specs.Meaning.{Proceeds}

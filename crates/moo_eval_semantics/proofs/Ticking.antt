@@ -7,8 +7,8 @@ use Rattle.moo_eval_slot.specs.Bindings.{Binding}
 use Rattle.moo_eval_frame.specs.State.{Context}
 use Rattle.moo_eval_access.specs.State.{State, ticked, trace}
 use Rattle.moo_builtin.specs.Telling.{Telling}
-use Rattle.moo_eval_call.specs.Later.{Later}
-use Rattle.moo_eval_call.proofs.Onward.{kept, later_twice, moves}
+use Rattle.moo_eval_semantics.specs.Later.{Later}
+use Rattle.moo_eval_semantics.proofs.CallOnward.{kept, later_twice, moves}
 use Rattle.moo_eval_semantics.specs.Meaning.{Evaluates, Runs, Turns, spent, begins, statement_spent, statement_begins, turn_spent, turns}
 use Rattle.moo_eval_semantics.proofs.Onward.{later_computed, later_done, later_block}
 

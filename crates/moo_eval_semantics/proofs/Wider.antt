@@ -11,8 +11,8 @@ use Rattle.moo_eval_frame.specs.State.{Context, outside}
 use Rattle.moo_builtin.specs.Telling.{Telling}
 use Rattle.moo_eval_access.specs.State.{State}
 use Rattle.moo_eval_access.specs.Target.{Root, Step, Path}
-use Rattle.moo_eval_call.proofs.Wider.{Wider, wider_call}
-use Rattle.moo_eval_hook.specs.Progressing.{Progress}
+use Rattle.moo_eval_semantics.proofs.CallWider.{Wider, wider_call}
+use Rattle.moo_eval_semantics.specs.Progressing.{Progress}
 use Rattle.moo_eval_semantics.proofs.HookWider.{wider_start}
 use Rattle.moo_eval_semantics.specs.Meaning.{Evaluates, Computes, EvaluatesAll, Applies, Assigns, Locates, Finds, Enters, Steps, Stores, Puts, SetsDefaults, spent, begins, operands_end, places_end, applies, no_more, element_stops, element_then, splice_stops, splice_fails, splice_then, optional_fails, defaulted_fails, literal_is, variable_is, length_is, unary_is, binary_is, logic_decides, logic_goes_on, conditional_true, conditional_false, index_is, range_is, list_is, property_is, verb_fails, verb_runs, call_is, call_runs, Proceeds, is_done, hook_stops, hook_then, at_once, assign_is, catch_passes, catch_gives, catch_or_passes, catch_or_goes_on, target_ends, value_stops, assigns, root_ends, locates, parts_end, finds, inside, step_ends, enters, unread, spot_ends, steps_in, no_store, stores, puts_variable, property_unset, puts_property, scatter_fails, scatters, none_missing, default_stops, default_then, Prepares, Runs, Does, RunsAll, Selects, Turns, Loops, Visits, Counts, Handles, Takes, no_codes, codes_stop, codes_then, statement_spent, statement_begins, gives_zero, gives, evaluates, selects, list_stops, list_fails, visits, span_stops, span_fails, counts, loops, breaks_out, continues_on, unprepared, tries, finally_skipped, finally_runs, ends, leaves, proceeds, none_selected, else_runs, test_stops, arm_runs, arm_passed, turn_spent, turns, loop_stops, loop_ends, loop_left, loop_then, all_visited, visit_left, visit_then, all_counted, count_left, count_then, nothing_raised, ticks_out, handles, untaken, untold, takes}
 

@@ -9,8 +9,8 @@ use Rattle.moo_eval_frame.specs.Outcome.{Failure, fails}
 use Rattle.moo_eval_frame.specs.State.{Context}
 use Rattle.moo_eval_access.specs.State.{State}
 use Rattle.moo_builtin.specs.Telling.{Telling}
-use Rattle.moo_eval_hook.specs.Quota.{quota, is_used_up, with_quota}
-use Rattle.moo_eval_hook.specs.Creating.{may_be_parent, next_number, owner_of_new}
+use Rattle.moo_eval_semantics.specs.Quota.{quota, is_used_up, with_quota}
+use Rattle.moo_eval_semantics.specs.Creating.{may_be_parent, next_number, owner_of_new}
 use Rattle.moo_eval_semantics.specs.Verbs.{CallsVerb}
 
 -- the object is there, and counts for its owner

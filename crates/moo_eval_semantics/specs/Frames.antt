@@ -12,7 +12,7 @@ use Rattle.moo_eval_access.specs.State.{State}
 use Rattle.moo_eval_access.specs.Entering.{Entered, frames, most_frames}
 use Rattle.moo_eval_access.specs.Target.{Root, Step, Path}
 use Rattle.moo_builtin.specs.Telling.{Telling}
-use Rattle.moo_eval_hook.specs.Progressing.{Progress}
+use Rattle.moo_eval_semantics.specs.Progressing.{Progress}
 use Rattle.moo_eval_semantics.specs.Meaning.{Evaluates, Computes, EvaluatesAll, Applies, Assigns, Locates, Finds, Enters, Steps, Stores, Puts, SetsDefaults, begins, operands_end, places_end, applies, element_stops, element_then, splice_stops, splice_fails, splice_then, logic_goes_on, conditional_true, conditional_false, verb_runs, call_runs, Proceeds, hook_stops, hook_then, at_once, assign_is, catch_passes, catch_gives, catch_or_passes, catch_or_goes_on, target_ends, value_stops, assigns, root_ends, locates, parts_end, finds, step_ends, enters, spot_ends, steps_in, stores, scatters, default_stops, default_then, Prepares, Runs, Does, RunsAll, Selects, Turns, Loops, Visits, Counts, Handles, Takes, codes_stop, codes_then, statement_begins, gives, evaluates, selects, list_stops, list_fails, visits, span_stops, span_fails, counts, loops, unprepared, tries, finally_skipped, finally_runs, leaves, proceeds, else_runs, test_stops, arm_runs, arm_passed, turns, loop_stops, loop_ends, loop_left, loop_then, visit_left, visit_then, count_left, count_then, handles, takes}
 
 -- there is a frame for it: at most 50 exist while it runs, its own among them

@@ -4,8 +4,8 @@ use Rattle.moo_value.specs.Tree.{Tree}
 use Rattle.moo_syntax_function.specs.declared.function.Function.{Function}
 use Rattle.moo_builtin_value.specs.Calls.{answer}
 use Rattle.moo_builtin.specs.Calls.{values, field}
-use Rattle.moo_eval_call.specs.Calls.{is_of_task}
-use Rattle.moo_eval_hook.specs.VerbCalls.{calls_verbs}
+use Rattle.moo_eval_semantics.specs.Calls.{is_of_task}
+use Rattle.moo_eval_semantics.specs.VerbCalls.{calls_verbs}
 
 -- No function of the table is without a group. Each is of the task, calls verbs, or is over the objects of the world or
 -- on code. Otherwise it is one of those over values, and gives or raises something there. What it does in a group is

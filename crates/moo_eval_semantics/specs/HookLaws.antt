@@ -8,8 +8,8 @@ use Rattle.moo_eval_frame.specs.declared.notice.Notice.TheVariants.{Recycle}
 use Rattle.moo_eval_frame.specs.State.{Context}
 use Rattle.moo_eval_access.specs.State.{State}
 use Rattle.moo_builtin.specs.Telling.{Faults}
-use Rattle.moo_eval_hook.specs.Progressing.{Progress}
-use Rattle.moo_eval_hook.specs.VerbCalls.{Starts}
+use Rattle.moo_eval_semantics.specs.Progressing.{Progress}
+use Rattle.moo_eval_semantics.specs.VerbCalls.{Starts}
 use Rattle.moo_eval_semantics.specs.Meaning.{Proceeds}
 
 -- if it returns, `create` returns the object that it has made, whatever its `initialize` returns or does

@@ -14,11 +14,11 @@ use Rattle.moo_eval_frame.specs.State.{Context}
 use Rattle.moo_eval_access.specs.State.{State, trace}
 use Rattle.moo_eval_access.specs.Entering.{frames}
 use Rattle.moo_builtin.specs.Telling.{Telling, Faults, Choice, PassesPrograms, chosen_by}
-use Rattle.moo_eval_call.specs.Later.{Later}
-use Rattle.moo_eval_call.specs.Tasks.{most_ticks}
-use Rattle.moo_eval_call.specs.Calls.{CallsFunction}
-use Rattle.moo_eval_hook.specs.Progressing.{Progress}
-use Rattle.moo_eval_hook.specs.VerbCalls.{Starts}
+use Rattle.moo_eval_semantics.specs.Later.{Later}
+use Rattle.moo_eval_semantics.specs.Tasks.{most_ticks}
+use Rattle.moo_eval_semantics.specs.Calls.{CallsFunction}
+use Rattle.moo_eval_semantics.specs.Progressing.{Progress}
+use Rattle.moo_eval_semantics.specs.VerbCalls.{Starts}
 use Rattle.moo_eval_semantics.specs.Meaning.{Evaluates, Proceeds, Runs, RunsAll, Turns}
 use Rattle.moo_eval_semantics.specs.Frames.{HasRoom, verbs_of_expression, verbs_of_function, verbs_of_block}
 use Rattle.moo_eval_semantics.specs.Task.{End, first_context, TaskEnds}

@@ -13,7 +13,7 @@ use Rattle.moo_world_table.specs.World.{World}
 use Rattle.moo_eval_frame.specs.declared.notice.Notice.{Notice}
 use Rattle.moo_builtin.specs.Telling.{Telling, Faults, Choice, PassesPrograms, chosen_by}
 use Rattle.moo_eval_semantics.specs.Task.{End, TaskEnds}
-use Rattle.moo_eval_hook.specs.Evaluating.{typed_frame}
+use Rattle.moo_eval_semantics.specs.Evaluating.{typed_frame}
 use Rattle.moo_eval_semantics.specs.Typed.{nowhere, shown}
 
 -- the program that a line is

@@ -27,12 +27,12 @@ use Rattle.moo_eval_control.specs.Scatter.{dealt, given, LeftOut, missing}
 use Rattle.moo_eval_access.specs.State.{State, ticked, bound, trace}
 use Rattle.moo_eval_access.specs.Calls.{read_property, write_property}
 use Rattle.moo_builtin.specs.Telling.{Telling}
-use Rattle.moo_eval_call.specs.Calls.{CallsFunction}
+use Rattle.moo_eval_semantics.specs.Calls.{CallsFunction}
 use Rattle.moo_syntax_function.specs.declared.function.Function.{Function}
-use Rattle.moo_eval_hook.specs.declared.progress.Stage.{Stage}
-use Rattle.moo_eval_hook.specs.Progressing.{Progress, done, verb_next, stage_next}
-use Rattle.moo_eval_hook.specs.VerbCalls.{caller_of, Starts}
-use Rattle.moo_eval_hook.specs.Stages.{resumed}
+use Rattle.moo_eval_semantics.specs.declared.stage.Stage.{Stage}
+use Rattle.moo_eval_semantics.specs.Progressing.{Progress, done, verb_next, stage_next}
+use Rattle.moo_eval_semantics.specs.VerbCalls.{caller_of, Starts}
+use Rattle.moo_eval_semantics.specs.Stages.{resumed}
 use Rattle.moo_eval_access.specs.Entering.{Entered, entered_verb}
 use Rattle.moo_eval_access.specs.Target.{Root, named, owned, scattered, Step, Path, root_of, spots, root_parts, root_from, held, rebuilt}
 use Rattle.moo_eval_frame.specs.Outcome.{Raise, Stop, raised, out_of_ticks, Failure, fails, stops, Flow, next, returned, broken, continued, or_error, answers, passes, settled, raised_by, goes_out, goes_next, goes_on}

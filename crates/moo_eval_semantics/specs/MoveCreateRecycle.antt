@@ -6,8 +6,8 @@ use Rattle.moo_eval_frame.specs.Outcome.{Failure}
 use Rattle.moo_eval_frame.specs.State.{Context}
 use Rattle.moo_eval_access.specs.State.{State}
 use Rattle.moo_builtin.specs.Telling.{Faults}
-use Rattle.moo_eval_hook.specs.Progressing.{Progress}
-use Rattle.moo_eval_hook.specs.VerbCalls.{Starts}
+use Rattle.moo_eval_semantics.specs.Progressing.{Progress}
+use Rattle.moo_eval_semantics.specs.VerbCalls.{Starts}
 use Rattle.moo_eval_semantics.specs.Meaning.{Proceeds}
 use Rattle.moo_eval_semantics.specs.Moves.{Moves}
 use Rattle.moo_eval_semantics.specs.Creates.{Creates}

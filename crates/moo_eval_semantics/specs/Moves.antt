@@ -12,8 +12,8 @@ use Rattle.moo_eval_frame.specs.State.{Context}
 use Rattle.moo_eval_access.specs.State.{State}
 use Rattle.moo_builtin.specs.Telling.{Telling}
 use Rattle.moo_builtin_world.specs.Objects.{is_valid}
-use Rattle.moo_eval_hook.specs.Objects.{is_place, location}
-use Rattle.moo_eval_hook.specs.Moving.{is_to_move, may_enter, has_come}
+use Rattle.moo_eval_semantics.specs.Objects.{is_place, location}
+use Rattle.moo_eval_semantics.specs.Moving.{is_to_move, may_enter, has_come}
 use Rattle.moo_eval_semantics.specs.Verbs.{CallsVerb}
 
 -- the error with which the world refuses the move, if it does

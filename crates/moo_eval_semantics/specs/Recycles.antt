@@ -12,8 +12,8 @@ use Rattle.moo_eval_frame.specs.State.{Context}
 use Rattle.moo_eval_access.specs.State.{State}
 use Rattle.moo_builtin.specs.Telling.{Telling}
 use Rattle.moo_builtin_world.specs.Objects.{is_valid}
-use Rattle.moo_eval_hook.specs.Objects.{first_inside}
-use Rattle.moo_eval_hook.specs.Recycling.{owner_of, uncounted}
+use Rattle.moo_eval_semantics.specs.Objects.{first_inside}
+use Rattle.moo_eval_semantics.specs.Recycling.{owner_of, uncounted}
 use Rattle.moo_eval_semantics.specs.Verbs.{CallsVerb}
 
 -- the error with which the world refuses to move something to no place, if it does

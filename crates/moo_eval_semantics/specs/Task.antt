@@ -13,7 +13,7 @@ use Rattle.moo_eval_frame.specs.Variables.{first_bindings}
 use Rattle.moo_eval_slot.specs.Bindings.{value_of_name}
 use Rattle.moo_eval_control.specs.Traceback.{traceback}
 use Rattle.moo_world_table.specs.World.{World}
-use Rattle.moo_eval_call.specs.Tasks.{most_ticks}
+use Rattle.moo_eval_semantics.specs.Tasks.{most_ticks}
 use Rattle.moo_builtin.specs.Telling.{Telling, Choice, PassesPrograms, chosen_by}
 use Rattle.moo_eval_semantics.specs.Meaning.{Evaluates, RunsAll}
 

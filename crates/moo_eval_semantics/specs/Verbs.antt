@@ -6,7 +6,7 @@ use Rattle.moo_eval_frame.specs.State.{Context}
 use Rattle.moo_eval_access.specs.State.{State}
 use Rattle.moo_eval_access.specs.Entering.{Entered, entered_verb}
 use Rattle.moo_builtin.specs.Telling.{Telling}
-use Rattle.moo_eval_hook.specs.Progressing.{through, is_missing}
+use Rattle.moo_eval_semantics.specs.Progressing.{through, is_missing}
 use Rattle.moo_eval_semantics.specs.Operands.{answered, begun, left}
 use Rattle.moo_eval_semantics.specs.Meaning.{RunsAll}
 

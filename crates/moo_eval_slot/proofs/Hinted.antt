@@ -10,7 +10,7 @@ use Rattle.moo_value.specs.Compare.{folded}
 use Rattle.moo_syntax_ast.specs.Tree.{Block}
 use Rattle.moo_syntax_ast.specs.Slots.{slots}
 use Rattle.moo_syntax_ast.proofs.EachOnce.{once}
-use Rattle.moo_syntax_grammar.proofs.Folded.{slot_folded}
+use Rattle.moo_syntax_program.proofs.Folded.{slot_folded}
 use Rattle.moo_eval_slot.proofs.Names.{is_own}
 
 within : (i n : ℕ) → i < n → nat_lt i n ≡ true

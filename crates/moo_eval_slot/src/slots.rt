@@ -17,7 +17,7 @@ ghost use Rattle.moo_eval_slot.specs.InnerPush.{IsInnerPush};
 use crate::growing::{try_extend, try_push};
 use crate::inner_list::{push_inner_at, put_inner_at};
 use moo_syntax_ast::Name;
-use moo_syntax_grammar::Program;
+use moo_syntax_program::Program;
 use moo_value::{MooStr, Value};
 use std::alloc::{AllocError, Global};
 use std::marker::Model;

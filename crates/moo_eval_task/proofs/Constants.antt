@@ -4,7 +4,7 @@ use Rattle.moo_value.specs.Tree.{Tree, Elements, integer, object, error, string,
 use Rattle.moo_value.specs.TreeCode.{elements_of-trees_of}
 use Rattle.moo_value.specs.Size.{IsWithinLimits, weight_limit, depth_limit, total_weight, greatest_depth}
 use Rattle.moo_syntax_ast.specs.Tree as program
-use Rattle.moo_syntax_lower.specs.Spelling.{spelled, spelled_items, nodes_of, nodes_in}
+use Rattle.moo_syntax_node.specs.Spelling.{spelled, spelled_items, nodes_of, nodes_in}
 use Rattle.moo_builtin_operator.specs.Places.{made_list}
 use Rattle.moo_builtin_operator.proofs.Lawful.{limited_within}
 use Rattle.moo_builtin.specs.Telling.{Telling}

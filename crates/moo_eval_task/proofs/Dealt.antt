@@ -2,7 +2,7 @@
 use Rattle.std.proofs.Common.{◌≡◌, ◌<◌, ◌-◌, ℕ, ℤ, List, Option, Ok, refl, sym, arith}
 use Rattle.moo_value.specs.Tree.{Tree, list_of}
 use Rattle.moo_syntax_ast.specs.Tree.{Expr, list, assign, performs}
-use Rattle.moo_syntax_lower.specs.Blocks.{named_items}
+use Rattle.moo_syntax_node.specs.Blocks.{named_items}
 use Rattle.moo_eval_frame.specs.Outcome.{next}
 use Rattle.moo_eval_control.specs.Scatter.{dealt, given}
 use Rattle.moo_eval_frame.specs.State.{Context}

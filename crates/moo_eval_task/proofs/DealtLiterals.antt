@@ -4,7 +4,7 @@ use Rattle.std.proofs.lemmas.Bool.Decides.{nat_tests}
 use Rattle.moo_value.specs.declared.error_code.ErrorCode.TheVariants.{TypeMismatch, Arguments}
 use Rattle.moo_value.specs.Tree.{Tree, Elements, integer, object, error, string, list, no_elements, element, elements_of, trees_of, list_of}
 use Rattle.moo_value.specs.TreeCode.{trees_of-elements_of}
-use Rattle.moo_syntax_lower.specs.Spelling.{spelled, spelled_items}
+use Rattle.moo_syntax_node.specs.Spelling.{spelled, spelled_items}
 use Rattle.moo_builtin.specs.Telling.{Telling}
 use Rattle.moo_eval_control.specs.Scatter.{required, optionals, takes_rest, fits, dealt, binds, shares, lacking}
 use Rattle.moo_eval_control.proofs.Scattered.{dealt_list}

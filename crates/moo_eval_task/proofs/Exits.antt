@@ -9,8 +9,8 @@ use Rattle.moo_eval_frame.specs.declared.outcome.Flow as code_flow
 use Rattle.moo_eval_frame.specs.declared.outcome.Flow.TheVariants as flow_case
 use Rattle.moo_value.specs.declared.error_code.ErrorCode.TheVariants.{TypeMismatch}
 use Rattle.moo_syntax_ast.specs.Tree.{Items, Block}
-use Rattle.moo_syntax_lower.specs.declared.node.NodeItem.{NodeItem, Element', Splice', Optional, Defaulted'}
-use Rattle.moo_syntax_lower.specs.Source.{with_source}
+use Rattle.moo_syntax_node.specs.declared.node.NodeItem.{NodeItem, Element', Splice', Optional, Defaulted'}
+use Rattle.moo_syntax_node.specs.Source.{with_source}
 use Rattle.moo_eval_frame.specs.declared.outcome.Failure as code_failure
 use Rattle.moo_eval_frame.specs.declared.notice.Notice.{Notice}
 use Rattle.moo_eval_frame.specs.State.{Context}

@@ -9,12 +9,12 @@ use Rattle.moo_eval_frame.specs.Outcome.{Failure}
 use Rattle.moo_eval_frame.specs.State.{Context}
 use Rattle.moo_eval_access.specs.State.{State}
 use Rattle.moo_builtin.specs.Telling.{Telling}
-use Rattle.moo_eval_hook.specs.declared.progress.Stage.{Stage}
+use Rattle.moo_eval_semantics.specs.declared.stage.Stage.{Stage}
 use Rattle.moo_eval_hook.specs.declared.progress.Progress as code_progress
 use Rattle.moo_eval_hook.specs.declared.progress.Progress.TheVariants as progress_case
-use Rattle.moo_eval_hook.specs.Progressing.{Progress}
+use Rattle.moo_eval_semantics.specs.Progressing.{Progress}
 use Rattle.moo_eval_hook.specs.SeenByHooks.{progress_of}
-use Rattle.moo_eval_hook.specs.Stages.{resumed}
+use Rattle.moo_eval_semantics.specs.Stages.{resumed}
 use Rattle.moo_eval_task.specs.Hooks.{IsIdle}
 use Rattle.moo_eval_semantics.specs.Meaning.{Proceeds, ends, hook_then, at_once}
 use Rattle.moo_eval_task.proofs.Exits.{runs_at}

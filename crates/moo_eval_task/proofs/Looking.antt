@@ -12,8 +12,8 @@ use Rattle.moo_builtin.specs.Calls.{field, objects, follows, Follows}
 use Rattle.moo_world_table.specs.World.{World}
 use Rattle.moo_eval_frame.specs.State.{Context}
 use Rattle.moo_eval_access.specs.State.{State, ticked}
-use Rattle.moo_eval_call.specs.Calls.{CallsFunction, task_function}
-use Rattle.moo_eval_hook.specs.VerbCalls.{verb_caller}
+use Rattle.moo_eval_semantics.specs.Calls.{CallsFunction, task_function}
+use Rattle.moo_eval_semantics.specs.VerbCalls.{verb_caller}
 use Rattle.moo_eval_semantics.specs.Meaning.{Computes, applies, no_more, element_then, call_is}
 use Rattle.moo_eval_task.specs.Leaves.{GivesLeaf}
 

@@ -6,7 +6,7 @@ use Rattle.moo_world_table.specs.World.{World}
 use Rattle.moo_world.specs.ByRight.{IsReadable}
 use Rattle.moo_syntax_ast.specs.declared.tree.Literal.TheVariants.{Str}
 use Rattle.moo_syntax_ast.specs.Tree.{Expr, Items, literal, list, property, assign}
-use Rattle.moo_syntax_lower.specs.Blocks.{named_items}
+use Rattle.moo_syntax_node.specs.Blocks.{named_items}
 use Rattle.moo_eval_frame.specs.Outcome.{Stop, Failure, stops, fails, answers}
 use Rattle.moo_eval_control.specs.Scatter.{lacking, given}
 use Rattle.moo_eval_control.specs.Scatter as scatter

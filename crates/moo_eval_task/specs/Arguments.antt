@@ -2,7 +2,7 @@
 use Rattle.std.specs.Prelude.{◌≡◌, ◌⊎◌, List, Bool, true, false, Result, Ok, Err}
 use Rattle.moo_value.specs.Tree.{Tree}
 use Rattle.moo_syntax_ast.specs.Tree.{Items}
-use Rattle.moo_syntax_lower.specs.declared.node.NodeItem.{NodeItem, Element', Splice', Optional, Defaulted'}
+use Rattle.moo_syntax_node.specs.declared.node.NodeItem.{NodeItem, Element', Splice', Optional, Defaulted'}
 use Rattle.moo_builtin_operator.specs.Places.{made_list}
 use Rattle.moo_builtin.specs.Telling.{Telling}
 use Rattle.moo_eval_access.specs.State.{State}

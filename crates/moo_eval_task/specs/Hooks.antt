@@ -11,10 +11,10 @@ use Rattle.moo_eval_access.specs.State.{State}
 use Rattle.moo_eval_access.specs.Entering.{Entered}
 use Rattle.moo_eval_access.specs.SeenCalled.{entered_of}
 use Rattle.moo_builtin.specs.Telling.{Telling}
-use Rattle.moo_eval_hook.specs.declared.progress.Stage.{Stage}
+use Rattle.moo_eval_semantics.specs.declared.stage.Stage.{Stage}
 use Rattle.moo_eval_hook.specs.declared.progress.Progress as code_progress
 use Rattle.moo_eval_hook.specs.declared.progress.Progress.TheVariants as progress_case
-use Rattle.moo_eval_hook.specs.Progressing.{Progress, done, verb_next}
+use Rattle.moo_eval_semantics.specs.Progressing.{Progress, done, verb_next}
 use Rattle.moo_eval_task.specs.declared.hooks.Pending.{Pending}
 use Rattle.moo_eval_task.specs.declared.hooks.Pending.TheVariants as pending_case
 use Rattle.moo_eval_semantics.specs.Operands.{answered, begun, left}

@@ -4,7 +4,7 @@ ghost use Rattle.std.specs.List.{list_any};
 ghost use Rattle.moo_value.specs.View.{tree as tree_of, trees};
 ghost use Rattle.moo_eval_task.specs.Arguments.{is_splice};
 
-use moo_syntax_lower::NodeItem;
+use moo_syntax_node::NodeItem;
 use moo_value::Value;
 use std::alloc::AllocError;
 

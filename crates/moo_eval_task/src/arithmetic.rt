@@ -2,7 +2,7 @@
 ghost use Rattle.std.specs.Prelude.{◌≡◌, ◌≤◌, Ok, IfSome, IfNone};
 ghost use Rattle.moo_value.specs.Tree.{integer};
 ghost use Rattle.moo_syntax_ast.specs.Tree.{binary};
-ghost use Rattle.moo_syntax_lower.specs.Source.{source};
+ghost use Rattle.moo_syntax_node.specs.Source.{source};
 ghost use Rattle.moo_world_table.specs.World.{World as WorldModel};
 ghost use Rattle.moo_eval_frame.specs.State.{Context};
 ghost use Rattle.moo_builtin.specs.Telling.{Faults};
@@ -13,7 +13,7 @@ use crate::task::Task;
 use moo_eval_frame::Activation;
 use moo_eval_integer::arithmetic_integer;
 use moo_syntax_ast::operator::BinaryOperator;
-use moo_syntax_lower::Node;
+use moo_syntax_node::Node;
 
 impl Task {
     /// Computes the integer of an operator from integers alone, and takes its ticks. `None` if that can't be or the

@@ -1,7 +1,7 @@
 //! Assigns integers to variables at once, stores values into variables and properties, and recognises `name = value`.
 ghost use Rattle.std.specs.Prelude.{◌≡◌, ◌≤◌, Ok, IfSome, IsTrue, IsFalse};
 ghost use Rattle.moo_syntax_ast.specs.Tree.{variable, assign, performs};
-ghost use Rattle.moo_syntax_lower.specs.Source.{source};
+ghost use Rattle.moo_syntax_node.specs.Source.{source};
 ghost use Rattle.moo_value.specs.View.{tree as value_tree};
 ghost use Rattle.moo_eval_access.specs.Target.{named, owned};
 ghost use Rattle.moo_eval_semantics.specs.Meaning.{Does, Stores};
@@ -18,7 +18,7 @@ use moo_eval_access::{Step, drop_property, is_taken, rebuilt, set_variable, writ
 use moo_eval_frame::{Activation, Failure};
 use moo_eval_integer::try_set_arithmetic;
 use moo_syntax_ast::Name;
-use moo_syntax_lower::Node;
+use moo_syntax_node::Node;
 use moo_value::Value;
 use moo_world::World;
 

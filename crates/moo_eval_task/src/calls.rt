@@ -1,7 +1,7 @@
 //! Reads the object of a call of a verb at once, and returns the value that a verb gives.
 ghost use Rattle.std.specs.Prelude.{◌≡◌, ◌≤◌, ◌<◌, ◌-◌, Option, None, OnOk, IfSome, IfNone, is_ok, IsTrue};
 ghost use Rattle.moo_value.specs.Tree.{object};
-ghost use Rattle.moo_syntax_lower.specs.Source.{source};
+ghost use Rattle.moo_syntax_node.specs.Source.{source};
 ghost use Rattle.moo_eval_frame.specs.declared.frame.Activation.{Activation};
 ghost use Rattle.moo_eval_frame.specs.Seen.{variables_of, seen_answer, seen_flow, IsKnown, IsKnownFailure};
 ghost use Rattle.moo_eval_semantics.specs.Operands.{answered};
@@ -10,7 +10,7 @@ ghost use Rattle.moo_eval_task.specs.Leaves.{GivesLeaf};
 use crate::property::object_of;
 use crate::task::Task;
 use moo_eval_frame::{Activation, Failure, Flow, Stop};
-use moo_syntax_lower::Node;
+use moo_syntax_node::Node;
 use moo_value::Value;
 
 impl Task {

@@ -1,6 +1,6 @@
 //! Settles the body of a catch.
 ghost use Rattle.std.specs.Prelude.{Err};
-ghost use Rattle.moo_syntax_lower.specs.Source.{source_codes};
+ghost use Rattle.moo_syntax_node.specs.Source.{source_codes};
 ghost use Rattle.moo_eval_frame.specs.Outcome.{settled};
 ghost use Rattle.moo_eval_frame.specs.Seen.{trace_of, failure_of, seen_value, HadMemoryIn, IsKnown, IsKnownFailure};
 ghost use Rattle.moo_eval_control.specs.SeenCatching.{code_values};
@@ -9,7 +9,7 @@ ghost use Rattle.moo_eval_task.specs.Attempts.{IsSeen};
 use crate::task::Task;
 use moo_eval_control::{caught, is_caught};
 use moo_eval_frame::{Activation, CallStack, Failure, Stop};
-use moo_syntax_lower::NodeCodes;
+use moo_syntax_node::NodeCodes;
 use moo_value::{ErrorCode, Value};
 
 /// Holds how the body of a catch ended, if it was not stopped.

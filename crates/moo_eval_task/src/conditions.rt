@@ -2,7 +2,7 @@
 ghost use Rattle.std.specs.Prelude.{◌≡◌, ◌≤◌, Ok, IfSome, IfNone};
 ghost use Rattle.moo_value.specs.Tree.{Tree};
 ghost use Rattle.moo_syntax_ast.specs.Tree.{variable, binary};
-ghost use Rattle.moo_syntax_lower.specs.Source.{source};
+ghost use Rattle.moo_syntax_node.specs.Source.{source};
 ghost use Rattle.moo_builtin_operator.specs.Truth.{is_true, is_decided};
 ghost use Rattle.moo_world_table.specs.World.{World as WorldModel};
 ghost use Rattle.moo_eval_frame.specs.State.{Context};
@@ -18,7 +18,7 @@ use moo_eval_frame::Activation;
 use moo_eval_integer::{compare_nodes, counts_as_true};
 use moo_syntax_ast::Name;
 use moo_syntax_ast::operator::{BinaryOperator, LogicOperator};
-use moo_syntax_lower::Node;
+use moo_syntax_node::Node;
 
 impl Task {
     /// Returns whether the value of an operator between variables, literals or (for `==` and `!=`) elements is true.

@@ -5,7 +5,7 @@ ghost use Rattle.moo_value.specs.Tree.{elements_of, list_of};
 ghost use Rattle.moo_value.specs.View.{tree};
 ghost use Rattle.moo_value.specs.declared.value.Value.{Value as ValueModel};
 ghost use Rattle.moo_syntax_ast.specs.Tree.{list};
-ghost use Rattle.moo_syntax_lower.specs.Spelling.{spelled, spelled_items};
+ghost use Rattle.moo_syntax_node.specs.Spelling.{spelled, spelled_items};
 ghost use Rattle.moo_world_table.specs.World.{World};
 ghost use Rattle.moo_builtin.specs.Telling.{Faults};
 ghost use Rattle.moo_eval_frame.specs.State.{Context};
@@ -20,7 +20,7 @@ ghost use Rattle.moo_eval_task.specs.Seen.{state_of};
 use crate::task::Task;
 use moo_eval_access::{Step, rebuilt};
 use moo_eval_frame::{Activation, CallStack, Failure};
-use moo_syntax_lower::Constant;
+use moo_syntax_node::Constant;
 use moo_value::{ErrorCode, MooList, Value, WEIGHT_LIMIT};
 
 impl Task {

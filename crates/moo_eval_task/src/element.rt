@@ -1,7 +1,7 @@
 //! Sets elements of lists in variables, and elements of these elements, to integers at once.
 ghost use Rattle.std.specs.Prelude.{◌≡◌, ◌≤◌, None, Ok, IsTrue, IsFalse, IfOk, IfSome};
 ghost use Rattle.moo_syntax_ast.specs.Tree.{performs};
-ghost use Rattle.moo_syntax_lower.specs.Source.{source};
+ghost use Rattle.moo_syntax_node.specs.Source.{source};
 ghost use Rattle.moo_world_table.specs.World.{World as WorldModel};
 ghost use Rattle.moo_eval_frame.specs.Outcome.{next};
 ghost use Rattle.moo_eval_frame.specs.State.{Context};
@@ -15,7 +15,7 @@ use crate::task::Task;
 use moo_eval_frame::Activation;
 use moo_eval_integer::{try_put_inner_integer, try_put_integer};
 use moo_syntax_ast::Name;
-use moo_syntax_lower::Node;
+use moo_syntax_node::Node;
 use std::alloc::AllocError;
 
 impl Task {

@@ -4,14 +4,15 @@ ghost use Rattle.moo_value.specs.View.{tree};
 ghost use Rattle.moo_eval_frame.specs.Seen.{context_of, IsKnownFailure};
 ghost use Rattle.moo_builtin.specs.Telling.{Faults};
 ghost use Rattle.moo_eval_hook.specs.SeenByHooks.{progress_of};
-ghost use Rattle.moo_eval_hook.specs.Stages.{resumed};
+ghost use Rattle.moo_eval_semantics.specs.Stages.{resumed};
 ghost use Rattle.moo_eval_task.specs.Hooks.{LeadsTo, IsIdle, HasStatements, pending_progress, seen_pending};
 ghost use Rattle.moo_eval_task.specs.Seen.{state_of};
 
 use crate::task::Task;
 use moo_eval_access::Called;
 use moo_eval_frame::{Activation, CallStack, Failure};
-use moo_eval_hook::{Progress, Stage, resume_call};
+use moo_eval_hook::{Progress, resume_call};
+use moo_eval_semantics::Stage;
 use moo_value::Value;
 use moo_world::World;
 

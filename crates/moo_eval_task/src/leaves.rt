@@ -6,7 +6,7 @@ ghost use Rattle.moo_value.specs.View.{tree};
 ghost use Rattle.moo_value.specs.declared.value.Value.{Value as ValueModel};
 ghost use Rattle.moo_value.specs.declared.error_code.ErrorCode.TheVariants.{VariableNotFound};
 ghost use Rattle.moo_syntax_ast.specs.Tree.{variable, index};
-ghost use Rattle.moo_syntax_lower.specs.Source.{source};
+ghost use Rattle.moo_syntax_node.specs.Source.{source};
 ghost use Rattle.moo_eval_frame.specs.State.{Context};
 ghost use Rattle.moo_eval_frame.specs.Outcome.{fails, settled};
 ghost use Rattle.moo_eval_frame.specs.Seen.{context_of, seen_value, trace_of, variables_of, IsKnown};
@@ -21,7 +21,7 @@ use crate::task::Task;
 use moo_eval_frame::{Activation, CallStack, Failure, Stop, settle};
 use moo_eval_integer::{Letters, element_of};
 use moo_syntax_ast::Name;
-use moo_syntax_lower::Node;
+use moo_syntax_node::Node;
 use moo_value::{ErrorCode, MooStr, Value};
 
 impl Task {

@@ -1,7 +1,7 @@
 //! Runs `x = {@x, a};` at once.
 ghost use Rattle.std.specs.Prelude.{◌≡◌, ◌≤◌, Ok, IsTrue, IsFalse, IfOk};
 ghost use Rattle.moo_syntax_ast.specs.Tree.{variable, assign, performs, list, splice, element, no_items};
-ghost use Rattle.moo_syntax_lower.specs.Source.{source};
+ghost use Rattle.moo_syntax_node.specs.Source.{source};
 ghost use Rattle.moo_eval_semantics.specs.Meaning.{Does};
 ghost use Rattle.moo_world_table.specs.World.{World as WorldModel};
 ghost use Rattle.moo_eval_frame.specs.Outcome.{next};
@@ -13,7 +13,7 @@ use crate::leaves::try_value;
 use crate::task::Task;
 use moo_eval_frame::Activation;
 use moo_syntax_ast::Name;
-use moo_syntax_lower::Node;
+use moo_syntax_node::Node;
 use std::alloc::AllocError;
 
 impl Task {

@@ -1,7 +1,7 @@
 //! Runs `x[i] = {@x[i], e};` at once.
 ghost use Rattle.std.specs.Prelude.{◌≡◌, ◌≤◌, Ok, IsTrue, IsFalse, IfOk, IfSome};
 ghost use Rattle.moo_syntax_ast.specs.Tree.{performs};
-ghost use Rattle.moo_syntax_lower.specs.Source.{source};
+ghost use Rattle.moo_syntax_node.specs.Source.{source};
 ghost use Rattle.moo_world_table.specs.World.{World as WorldModel};
 ghost use Rattle.moo_eval_frame.specs.Outcome.{next};
 ghost use Rattle.moo_eval_frame.specs.State.{Context};
@@ -16,7 +16,7 @@ use moo_eval_access::as_appended;
 use moo_eval_frame::Activation;
 use moo_eval_integer::shared_place;
 use moo_syntax_ast::Name;
-use moo_syntax_lower::Node;
+use moo_syntax_node::Node;
 use std::alloc::AllocError;
 
 impl Task {

@@ -3,7 +3,7 @@ ghost use Rattle.std.specs.Prelude.{◌≡◌, ◌≤◌, Ok, IfSome, IfNone};
 ghost use Rattle.moo_value.specs.Tree.{integer, string};
 ghost use Rattle.moo_value.specs.View.{tree};
 ghost use Rattle.moo_syntax_ast.specs.Tree.{call};
-ghost use Rattle.moo_syntax_lower.specs.Source.{source, source_items};
+ghost use Rattle.moo_syntax_node.specs.Source.{source, source_items};
 ghost use Rattle.moo_world_table.specs.World.{World as WorldModel};
 ghost use Rattle.moo_eval_frame.specs.State.{Context};
 ghost use Rattle.moo_eval_frame.specs.Seen.{seen_answer, IsKnownFailure};
@@ -15,7 +15,7 @@ use crate::task::Task;
 use moo_eval_frame::{Activation, Failure};
 use moo_eval_integer::call_integer;
 use moo_syntax_ast::Text;
-use moo_syntax_lower::{FunctionName, Node, NodeItem};
+use moo_syntax_node::{FunctionName, Node, NodeItem};
 use moo_value::Value;
 
 impl Task {

@@ -2,7 +2,7 @@
 ghost use Rattle.std.specs.Prelude.{◌≡◌, ◌≤◌, Ok, IfSome, IfNone};
 ghost use Rattle.moo_value.specs.View.{tree};
 ghost use Rattle.moo_syntax_ast.specs.Tree.{variable, index, list};
-ghost use Rattle.moo_syntax_lower.specs.Source.{source};
+ghost use Rattle.moo_syntax_node.specs.Source.{source};
 ghost use Rattle.moo_builtin_operator.specs.Places.{made_list};
 ghost use Rattle.moo_world_table.specs.World.{World as WorldModel};
 ghost use Rattle.moo_eval_frame.specs.Outcome.{answers};
@@ -16,7 +16,7 @@ use crate::task::Task;
 use moo_eval_frame::{Activation, Failure, Gathered};
 use moo_eval_integer::{element_of, inner_element_of};
 use moo_syntax_ast::Name;
-use moo_syntax_lower::Node;
+use moo_syntax_node::Node;
 use moo_value::Value;
 use std::alloc::Global;
 

@@ -4,7 +4,7 @@ ghost use Rattle.moo_value.specs.Tree.{Tree, object};
 ghost use Rattle.moo_value.specs.View.{tree};
 ghost use Rattle.moo_syntax_ast.specs.declared.tree.Literal.TheVariants.{Str};
 ghost use Rattle.moo_syntax_ast.specs.Tree.{Expr, literal, property};
-ghost use Rattle.moo_syntax_lower.specs.Source.{source};
+ghost use Rattle.moo_syntax_node.specs.Source.{source};
 ghost use Rattle.moo_builtin_operator.specs.Truth.{is_true};
 ghost use Rattle.moo_eval_frame.specs.State.{Context};
 ghost use Rattle.moo_eval_frame.specs.Seen.{indexed_of, variables_of};
@@ -18,7 +18,7 @@ use moo_builtin_operator::is_true;
 use moo_eval_access::{as_text, read_known};
 use moo_eval_frame::Activation;
 use moo_syntax_ast::Text;
-use moo_syntax_lower::Node;
+use moo_syntax_node::Node;
 use moo_value::Value;
 use moo_world::World;
 

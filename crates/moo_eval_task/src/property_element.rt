@@ -1,11 +1,11 @@
 //! Recognises `base.name[place] = value`.
 ghost use Rattle.std.specs.Prelude.{◌≡◌, None, IfSome};
-ghost use Rattle.moo_syntax_lower.specs.Source.{source};
+ghost use Rattle.moo_syntax_node.specs.Source.{source};
 ghost use Rattle.moo_eval_task.specs.Element.{sets_part};
 
 use moo_eval_access::{as_property, as_text};
 use moo_syntax_ast::Text;
-use moo_syntax_lower::Node;
+use moo_syntax_node::Node;
 
 /// Returns the object, the name, the place and the value, if the expression assigns to an element of a property whose
 /// name is a literal.

@@ -1,8 +1,8 @@
 //! Deals the elements of a list to names.
 ghost use Rattle.std.specs.Prelude.{◌≡◌, ◌≤◌, None, Result, Ok, Err, IsTrue, IsFalse, IfOk, IfErr, IfSome, map};
 ghost use Rattle.moo_syntax_ast.specs.Tree.{assign, performs, list};
-ghost use Rattle.moo_syntax_lower.specs.Source.{source, source_items};
-ghost use Rattle.moo_syntax_lower.specs.Blocks.{named_items};
+ghost use Rattle.moo_syntax_node.specs.Source.{source, source_items};
+ghost use Rattle.moo_syntax_node.specs.Blocks.{named_items};
 ghost use Rattle.moo_value.specs.Tree.{list_of};
 ghost use Rattle.moo_value.specs.View.{tree as value_tree};
 ghost use Rattle.moo_eval_access.specs.Target.{scattered};
@@ -21,7 +21,7 @@ use crate::task::Task;
 use moo_eval_control::{LeftOut, deal, try_set_names};
 use moo_eval_frame::{Activation, Failure};
 use moo_syntax_ast::Name;
-use moo_syntax_lower::{Node, NodeItem};
+use moo_syntax_node::{Node, NodeItem};
 use moo_value::{MooList, Value};
 use std::alloc::AllocError;
 

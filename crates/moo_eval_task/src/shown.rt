@@ -2,7 +2,7 @@
 ghost use Rattle.std.specs.Prelude.{◌≡◌, ◌≤◌, Ok, IfSome, IfNone};
 ghost use Rattle.moo_value.specs.View.{tree};
 ghost use Rattle.moo_syntax_ast.specs.Tree.{call, element, no_items};
-ghost use Rattle.moo_syntax_lower.specs.Source.{source};
+ghost use Rattle.moo_syntax_node.specs.Source.{source};
 ghost use Rattle.moo_eval_frame.specs.State.{Context};
 ghost use Rattle.moo_builtin.specs.Telling.{Faults};
 ghost use Rattle.moo_eval_semantics.specs.Meaning.{Computes};
@@ -13,7 +13,7 @@ use crate::task::Task;
 use moo_builtin_world::shown;
 use moo_eval_frame::Activation;
 use moo_syntax_function::Function;
-use moo_syntax_lower::{FunctionName, Node};
+use moo_syntax_node::{FunctionName, Node};
 use moo_value::Value;
 use moo_world::World;
 

@@ -2,7 +2,7 @@
 ghost use Rattle.std.specs.Prelude.{◌≡◌, ◌<◌, ◌≤◌, None, Ok, Err, IfErr, IsTrue, IsFalse, OnOk};
 ghost use Rattle.moo_value.specs.Tree.{Tree};
 ghost use Rattle.moo_syntax_ast.specs.Tree.{Expr, variable, assign, performs};
-ghost use Rattle.moo_syntax_lower.specs.Blocks.{source_statement};
+ghost use Rattle.moo_syntax_node.specs.Blocks.{source_statement};
 ghost use Rattle.moo_world_table.specs.World.{World as WorldModel};
 ghost use Rattle.moo_eval_access.specs.State.{State, ticked};
 ghost use Rattle.moo_eval_semantics.specs.Meaning.{Computes, Does};
@@ -16,7 +16,7 @@ ghost use Rattle.moo_eval_task.specs.SetTo.{IsSetTo};
 use crate::task::Task;
 use moo_eval_frame::{Activation, CallStack, Failure, Flow, Stop};
 use moo_syntax_ast::Name;
-use moo_syntax_lower::NodeStmt;
+use moo_syntax_node::NodeStmt;
 
 impl Task {
     /// Runs an assignment to a variable or to an element at once, by integers alone, and takes its ticks, except the

@@ -1,6 +1,6 @@
 //! Begins the handler of an error.
 ghost use Rattle.std.specs.Prelude.{None, Result, Err, IfOk, IfErr, map};
-ghost use Rattle.moo_syntax_lower.specs.Blocks.{source_block};
+ghost use Rattle.moo_syntax_node.specs.Blocks.{source_block};
 ghost use Rattle.moo_eval_semantics.specs.Meaning.{RunsAll, Takes};
 ghost use Rattle.moo_eval_control.specs.Handling.{chosen};
 ghost use Rattle.moo_eval_frame.specs.Outcome.{Flow as Flowing, Stop as Stopped};
@@ -14,7 +14,7 @@ ghost use Rattle.moo_eval_task.specs.Seen.{state_of};
 use crate::task::Task;
 use moo_eval_control::{Guarded, chosen, set_caught};
 use moo_eval_frame::{Activation, CallStack, Raise, Stop};
-use moo_syntax_lower::NodeStmt;
+use moo_syntax_node::NodeStmt;
 
 impl Task {
     /// Returns the statements of the first handler that names the error, and sets its variable. Err is the error itself

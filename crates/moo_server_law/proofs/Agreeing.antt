@@ -2,7 +2,7 @@
 use Rattle.moo_syntax_grammar.specs.declared.names.Names.TheVariants.{Known}
 use Rattle.moo_syntax.proofs.Blamed.{parsed_is_not_blamed}
 use Rattle.moo_builtin.specs.Telling.{Faults, Choice, PassesPrograms, chosen_by}
-use Rattle.moo_eval_call.proofs.Unique.{chosen_once}
+use Rattle.moo_eval_semantics.proofs.CallUnique.{chosen_once}
 use Rattle.moo_eval_semantics.specs.Task.{OneResultOfTasks}
 use Rattle.moo_eval_semantics.specs.Laws.{ChoosesFaults, Texts, HaveOneFault, faults_of, OneResultOfTasksBy, TasksByChoice}
 use Rattle.moo_command.specs.Commands.{OneCommand}

@@ -1,6 +1,5 @@
 //! What no script shows of a server over a disk in memory: stops within a call of the disk, lists of lives, memory that is
-//! short, a leaving connection, and scripts whose input or output fails. This crate has tests only, so that the crates that
-//! they test are proved once.
+//! short, and a leaving connection. This crate has tests only, so that the crates that they test are proved once.
 #![tactic(auto)]
 
 #[cfg(test)]
@@ -9,7 +8,5 @@ mod lives;
 mod memory;
 #[cfg(test)]
 mod playing;
-#[cfg(test)]
-mod scripts;
 #[cfg(test)]
 mod stops;

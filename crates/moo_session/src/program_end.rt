@@ -8,7 +8,8 @@ use crate::dot_program::own_verb;
 use moo_session_connection::Gathering;
 use moo_session_task::{Session, WorldState};
 use moo_syntax::{SyntaxFault, SyntaxFaultKind, parse};
-use moo_syntax_grammar::{Names, Program};
+use moo_syntax_grammar::Names;
+use moo_syntax_program::Program;
 use moo_world::{Rights, WorldFault};
 use std::alloc::{AllocError, Global};
 

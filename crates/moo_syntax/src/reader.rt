@@ -3,7 +3,8 @@ ghost use Rattle.std.specs.Prelude.{◌≡◌, ◌≤◌, length, drop, ℕ, Lis
 ghost use Rattle.moo_syntax_token.specs.Lexing.{IsReading};
 ghost use Rattle.moo_syntax_grammar.specs.Tokens.{words};
 ghost use Rattle.moo_syntax_ast.specs.View.{block};
-ghost use Rattle.moo_syntax_grammar.specs.Texts.{IsParsed};
+ghost use Rattle.moo_syntax_ast.specs.Limits.{IsWithinLimits};
+ghost use Rattle.moo_syntax_grammar.specs.Texts.{IsParsed, HasText};
 ghost use Rattle.moo_syntax.specs.Programs.{Blames, line_of};
 ghost use Rattle.moo_syntax.specs.Places.{IsCalled};
 ghost use Rattle.moo_syntax.specs.Stops.{StopsBy, IsStuckAt, CallsUnknown, IsWhole};
@@ -12,11 +13,14 @@ use crate::brackets::bracket_too_many;
 use crate::statement::statements;
 use crate::syntax_fault::{SyntaxFault, SyntaxFaultKind};
 use crate::{Cursor, Fault};
-use moo_syntax_ast::{MOST_NODES, Stmt, fit_lines};
-use moo_syntax_grammar::{Names, Program};
+use moo_syntax_ast::{MOST_NODES, Stmt};
+use moo_syntax_grammar::Names;
+use moo_syntax_listing::fit_lines;
+use moo_syntax_lower::{lower_block, variable_names};
+use moo_syntax_program::Program;
 use moo_syntax_token::{NameInterner, Sign, Spot, tokens_with};
 use moo_value::MooStr;
-use std::alloc::Global;
+use std::alloc::{AllocError, Global};
 
 /// Parses the text of these lines. Returns its program, or the first fault with its line.
 pub fn parse(alloc: Global, lines: &[MooStr], names: Names) -> Result<Program, SyntaxFault>
@@ -46,13 +50,24 @@ pub fn parse_with(
         Ok(statements) => statements,
         Err(stop) => return Err(blame(lines, &spots, stop, names)),
     };
-    match Program::try_new(alloc, statements) {
+    match program_of(alloc, statements) {
         Ok(program) => Ok(program),
         Err(_) => Err(SyntaxFault {
             line: lines.len(),
             kind: SyntaxFaultKind::Memory,
         }),
     }
+}
+
+// Makes the program of these statements: lowers them, and finds their variables. Err is out of memory.
+fn program_of(alloc: Global, statements: Vec<Stmt>) -> Result<Program, AllocError>
+    requires limits { IsWithinLimits (block statements.items) }
+    requires text { HasText (block statements.items) }
+    ensures { IfOk result (λ p. p ≡ block statements.items) }
+{
+    let body = lower_block(alloc, &statements)?;
+    let names = variable_names(alloc, &statements)?;
+    Program::try_new(alloc, statements, body, names)
 }
 
 /// The place at which the parser stopped, and its fault.

@@ -1,9 +1,5 @@
 pub mod Rows
-pub mod Firsts
-pub mod Lengths
-pub mod LineLengths
 pub mod Sizes
-pub mod VariableSteps
 pub mod EachOnce
 pub mod GivenNames
 pub mod Spelled

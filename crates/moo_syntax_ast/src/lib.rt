@@ -4,29 +4,22 @@
 
 mod given;
 pub mod laws;
-mod length;
 mod limits;
-mod lines;
 mod name;
 mod name_hash;
 mod name_key;
 mod numbering;
 pub mod operator;
-pub mod shape;
-mod slots;
 mod target;
 mod text;
 mod tree;
-mod variables;
 
 pub use given::Given;
 pub use limits::{MOST_BRACKETS, MOST_NODES};
-pub use lines::fit_lines;
 pub use name::Name;
 pub use name_hash::{class_of, first_letter, hash_of};
 pub use name_key::NameKey;
 pub use numbering::{is_code, name_number};
-pub use slots::variable_names;
 pub use target::is_target;
 pub use text::Text;
 pub use tree::{Arm, Codes, Expr, Handler, Item, Literal, Stmt};

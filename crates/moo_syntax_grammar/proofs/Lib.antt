@@ -13,5 +13,3 @@ pub mod Endings
 pub mod Examples
 pub mod Ends
 pub mod Begun
-pub mod Searched
-pub mod Folded

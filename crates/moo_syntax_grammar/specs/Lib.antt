@@ -10,4 +10,3 @@ pub mod Minuses
 pub mod Size
 pub mod Depth
 pub mod Brackets
-pub mod Order

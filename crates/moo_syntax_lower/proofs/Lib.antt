@@ -1,5 +1,3 @@
-pub mod Rows
-pub mod Items
-pub mod Constants
-pub mod StatementRows
 pub mod Statements
+pub mod Firsts
+pub mod VariableSteps

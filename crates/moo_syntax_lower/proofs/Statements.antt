@@ -6,10 +6,10 @@ use Rattle.moo_syntax_ast.specs.declared.tree.Stmt.{Stmt}
 use Rattle.moo_syntax_ast.specs.declared.tree.Arm.{Arm}
 use Rattle.moo_syntax_ast.specs.declared.tree.Handler.{Handler}
 use Rattle.moo_syntax_ast.specs.View.{statement, block, with_arm, arms_of, with_handler, handlers_of}
-use Rattle.moo_syntax_lower.specs.declared.statement.NodeStmt.{NodeStmt}
-use Rattle.moo_syntax_lower.specs.declared.statement.NodeArm.{NodeArm}
-use Rattle.moo_syntax_lower.specs.declared.statement.NodeHandler.{NodeHandler}
-use Rattle.moo_syntax_lower.specs.Blocks.{source_statement, statements_before, with_source_arm, arms_before, with_source_handler, handlers_before}
+use Rattle.moo_syntax_node.specs.declared.statement.NodeStmt.{NodeStmt}
+use Rattle.moo_syntax_node.specs.declared.statement.NodeArm.{NodeArm}
+use Rattle.moo_syntax_node.specs.declared.statement.NodeHandler.{NodeHandler}
+use Rattle.moo_syntax_node.specs.Blocks.{source_statement, statements_before, with_source_arm, arms_before, with_source_handler, handlers_before}
 
 -- one more before the others
 pub statement_last : (xs : List NodeStmt) (x : NodeStmt) (rest : Tree.Block) → statements_before (xs ++ x ∷ []) rest ≡ statements_before xs (Tree.then (source_statement x) rest)

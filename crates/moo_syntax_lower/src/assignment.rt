@@ -4,15 +4,14 @@ ghost use Rattle.moo_syntax_ast.specs.declared.operator.BinaryOperator.TheVarian
 ghost use Rattle.moo_syntax_ast.specs.Tree as source_tree;
 ghost use Rattle.moo_syntax_ast.specs.Tree.{Items};
 ghost use Rattle.moo_syntax_ast.specs.View.{tree, with_item, items_of};
-ghost use Rattle.moo_syntax_lower.specs.Blocks.{source_statement, named_items};
+ghost use Rattle.moo_syntax_node.specs.Blocks.{source_statement, named_items};
 
 use crate::expression::{copied_name, lower_boxed};
-use crate::function_name::FunctionName;
 use crate::item::lower_items;
-use crate::statement::NodeStmt;
 use moo_syntax_ast::operator::BinaryOperator;
 use moo_syntax_ast::{Expr, Item, Name};
 use moo_syntax_function::Function;
+use moo_syntax_node::{FunctionName, NodeStmt};
 use moo_value::MooStr;
 use std::alloc::{AllocError, Global};
 

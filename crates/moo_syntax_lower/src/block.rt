@@ -2,13 +2,13 @@
 ghost use Rattle.std.specs.Prelude.{◌≡◌, IfOk};
 ghost use Rattle.moo_syntax_ast.specs.Tree.{Handlers};
 ghost use Rattle.moo_syntax_ast.specs.View.{statement as statement_of, block, arms_of, with_handler, handlers_of};
-ghost use Rattle.moo_syntax_lower.specs.Blocks.{source_statement, source_block, source_arm_list, source_handler_list, with_source_handler};
+ghost use Rattle.moo_syntax_node.specs.Blocks.{source_statement, source_block, source_arm_list, source_handler_list, with_source_handler};
 
 use crate::assignment::lower_alone;
 use crate::expression::{copied_name, lower_boxed};
 use crate::item::lower_codes;
-use crate::statement::{NodeArm, NodeHandler, NodeStmt};
 use moo_syntax_ast::{Arm, Handler, Stmt};
+use moo_syntax_node::{NodeArm, NodeHandler, NodeStmt};
 use moo_value::MooStr;
 use std::alloc::{AllocError, Global};
 

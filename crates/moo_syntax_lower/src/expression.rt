@@ -2,15 +2,13 @@
 ghost use Rattle.std.specs.Prelude.{◌≡◌, IfOk};
 ghost use Rattle.moo_syntax_ast.specs.Tree as source_tree;
 ghost use Rattle.moo_syntax_ast.specs.View.{tree, items_of, codes_of};
-ghost use Rattle.moo_syntax_lower.specs.Source.{source, source_items};
+ghost use Rattle.moo_syntax_node.specs.Source.{source, source_items};
 
-use crate::constant::constant_list;
-use crate::function_name::FunctionName;
 use crate::item::{lower_codes, lower_items};
-use crate::node::{Node, NodeItem};
 use moo_syntax_ast::operator::{BinaryOperator, LogicOperator};
 use moo_syntax_ast::{Codes, Expr, Item, Literal, Name, Text};
 use moo_syntax_function::Function;
+use moo_syntax_node::{FunctionName, Node, NodeItem, constant_list};
 use moo_value::MooStr;
 use std::alloc::{AllocError, Global};
 

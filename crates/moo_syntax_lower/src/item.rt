@@ -4,11 +4,11 @@ ghost use Rattle.moo_syntax_ast.specs.declared.tree.Literal.TheVariants.{Error};
 ghost use Rattle.moo_syntax_ast.specs.Tree as source_tree;
 ghost use Rattle.moo_syntax_ast.specs.Tree.{Items};
 ghost use Rattle.moo_syntax_ast.specs.View.{tree, items_of, codes_of, with_item};
-ghost use Rattle.moo_syntax_lower.specs.Source.{source_codes, source_items, with_source, error_items};
+ghost use Rattle.moo_syntax_node.specs.Source.{source_codes, source_items, with_source, error_items};
 
 use crate::expression::{copied_name, lower_boxed};
-use crate::node::{NodeCodes, NodeItem};
 use moo_syntax_ast::{Codes, Expr, Item, Literal};
+use moo_syntax_node::{NodeCodes, NodeItem};
 use moo_value::ErrorCode;
 use std::alloc::{AllocError, Global};
 

@@ -4,15 +4,10 @@
 
 mod assignment;
 mod block;
-mod constant;
 mod expression;
-mod function_name;
 mod item;
-mod node;
-mod statement;
+mod slots;
+mod variables;
 
 pub use block::lower_block;
-pub use constant::Constant;
-pub use function_name::FunctionName;
-pub use node::{Node, NodeCodes, NodeItem};
-pub use statement::{NodeArm, NodeHandler, NodeStmt};
+pub use slots::variable_names;

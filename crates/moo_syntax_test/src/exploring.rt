@@ -7,7 +7,7 @@ use crate::recogniser::Recogniser;
 use crate::rules::{CALLS, COMMON, LOOSE, SCATTERS, TARGETS};
 use crate::statement_rules::{ANYWHERE, EXPRESSIONS, IN_LOOPS};
 use moo_syntax::{Names, SyntaxFaultKind, parse};
-use moo_syntax_grammar::Program;
+use moo_syntax_program::Program;
 use moo_unparse::list_short;
 use std::alloc::{AllocError, Global};
 use std::slice;

@@ -1,6 +1,6 @@
 //! Texts, and the listings of their programs or the messages of their faults.
 use moo_syntax::{Names, parse};
-use moo_syntax_grammar::Program;
+use moo_syntax_program::Program;
 use moo_unparse::{ListFault, list_full, list_full_indented, list_short};
 use moo_value::MooStr;
 use std::alloc::{AllocError, Global};

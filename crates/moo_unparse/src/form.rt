@@ -5,7 +5,7 @@ ghost use Rattle.moo_unparse.specs.Parts.{rank, operator_part, part_of, left_of,
 
 use moo_syntax_ast::Expr;
 use moo_syntax_ast::operator::BinaryOperator;
-use moo_syntax_ast::shape::is_compound;
+use moo_syntax_listing::shape::is_compound;
 
 /// Which operands are put in parentheses.
 #[derive(Clone, Copy)]

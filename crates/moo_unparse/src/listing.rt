@@ -13,7 +13,7 @@ use crate::fault::{ListFault, Memory};
 use crate::form::{Form, Parentheses};
 use crate::line::Line;
 use moo_syntax_ast::Stmt;
-use moo_syntax_grammar::Program;
+use moo_syntax_program::Program;
 use moo_value::MooStr;
 use std::alloc::{AllocError, Global};
 

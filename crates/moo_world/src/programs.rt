@@ -10,7 +10,7 @@ ghost use Rattle.moo_world.specs.VerbCalls.{program_raises, world_with_object};
 
 use crate::World;
 use crate::fault::WorldFault;
-use moo_syntax_grammar::Program;
+use moo_syntax_program::Program;
 use moo_value::ErrorCode;
 use moo_world_table::MOST;
 use moo_world_table::verbs::{has_program, set_program_in};

@@ -4,7 +4,7 @@ ghost use Rattle.std.specs.Prelude.{◌≡◌, ◌<◌, ◌&&◌, ◌≤◌, IfO
 use crate::bits::{bit, take_bit};
 use crate::pattern::fits_names;
 use crate::verb_args::VerbArgs;
-use moo_syntax_grammar::Program;
+use moo_syntax_program::Program;
 use moo_value::MooStr;
 use std::alloc::AllocError;
 

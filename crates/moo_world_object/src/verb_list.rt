@@ -15,7 +15,7 @@ use crate::verb::{Need, Verb, VerbPerms, change_args, change_info, change_progra
 use crate::verb_args::VerbArgs;
 use crate::verb_index::VerbIndex;
 use moo_syntax_ast::{NameKey, first_letter, name_number};
-use moo_syntax_grammar::Program;
+use moo_syntax_program::Program;
 use moo_value::MooStr;
 use std::alloc::{AllocError, Global};
 use std::marker::Model;

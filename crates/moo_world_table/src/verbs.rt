@@ -7,7 +7,7 @@ ghost use Rattle.moo_world_table.specs.World.{nothing, most, programs_of, progra
 ghost use Rattle.moo_world_table.specs.Verbs.{has_program};
 ghost use Rattle.moo_world_table.specs.Changes.{with_verb, without_verb, with_changed_verb};
 
-use moo_syntax_grammar::Program;
+use moo_syntax_program::Program;
 use moo_value::MooStr;
 use moo_world_object::{Object, Verb, VerbArgs, VerbPerms};
 use std::alloc::AllocError;

@@ -1,6 +1,6 @@
 // The calls of the world by their names.
 use crate::args::Args;
-use moo_syntax_grammar::Program;
+use moo_syntax_program::Program;
 use moo_value::{ErrorCode, Value};
 use moo_world::{ObjectSpecifier, PrepositionSpecifier, VerbArgs, World, WorldFault};
 use std::alloc::Global;

@@ -5,13 +5,13 @@ use Rattle.std.proofs.lemmas.Int.{to_z-of_z}
 use Rattle.std.proofs.Math.ListN.{drop_of_length-le}
 use Rattle.moo_eval_frame.specs.Outcome.{fails, stops, answers, next}
 use Rattle.moo_value.specs.View.{tree, trees}
-use Rattle.moo_syntax_lower.specs.Source.{source, source_items, source_codes}
-use Rattle.moo_syntax_lower.specs.Blocks.{source_block, source_handler_list}
+use Rattle.moo_syntax_node.specs.Source.{source, source_items, source_codes}
+use Rattle.moo_syntax_node.specs.Blocks.{source_block, source_handler_list}
 use Rattle.moo_eval_task.specs.declared.task.Task.{Task}
 use Rattle.moo_eval_frame.specs.declared.frame.Activation.{Activation}
 use Rattle.moo_eval_frame.specs.Seen.{context_of, stop_of, failure_of, flow_of, variables_of, seen_answers, trace_of}
 use Rattle.moo_builtin.specs.Telling.{Faults}
-use Rattle.moo_eval_hook.specs.VerbCalls.{verb_caller}
+use Rattle.moo_eval_semantics.specs.VerbCalls.{verb_caller}
 use Rattle.moo_eval_task.specs.Seen.{state_of}
 use Rattle.moo_eval_semantics.specs.Meaning.{Computes, EvaluatesAll, spent, begins, operands_end, places_end, applies, no_more, element_stops, element_then, splice_stops, splice_fails, splice_then, literal_is, variable_is, length_is, unary_is, binary_is, logic_decides, logic_goes_on, conditional_true, conditional_false, index_is, range_is, list_is, property_is, verb_fails, verb_runs, call_is, call_runs, is_done, hook_stops, hook_then, assign_is, target_ends, value_stops, assigns, root_ends, locates, parts_end, finds, inside, step_ends, enters, unread, spot_ends, steps_in, no_store, stores, none_missing, default_stops, default_then, Counts, statement_spent, statement_begins, selects, list_stops, list_fails, visits, span_stops, span_fails, counts, loops, breaks_out, continues_on, unprepared, tries, finally_skipped, finally_runs, ends, leaves, proceeds, none_selected, else_runs, test_stops, arm_runs, arm_passed, turn_spent, turns, loop_stops, loop_ends, loop_left, loop_then, all_visited, visit_left, visit_then, all_counted, count_left, count_then, nothing_raised, ticks_out, handles, Prepares, no_codes, codes_stop, codes_then, gives_zero, gives, evaluates}
 use Rattle.moo_value.specs.declared.error_code.ErrorCode.TheVariants.{TypeMismatch}
@@ -46,8 +46,8 @@ use Rattle.moo_value.specs.Tree.{error}
 use Rattle.moo_eval_task.specs.Arguments.{is_splice}
 use Rattle.moo_eval_task.proofs.Exits.{none_left, refused, gathered, unlisted, same_state, optional_ends, goes_on-not, state_at, guarded_on, property_put, runs_from}
 use Rattle.moo_eval_control.proofs.Rest.{drop_next}
-use Rattle.moo_syntax_lower.proofs.Rows.{row_items}
-use Rattle.moo_syntax_lower.proofs.StatementRows.{row_block, row_arms, row_handlers}
+use Rattle.moo_syntax_node.proofs.Rows.{row_items}
+use Rattle.moo_syntax_node.proofs.StatementRows.{row_block, row_arms, row_handlers}
 use Rattle.std.specs.Prelude.{◌≤ℤ◌, true, false, option_copied}
 use mir.Syntax.{w32, w64}
 use mir.Val.{SFits, to_z}

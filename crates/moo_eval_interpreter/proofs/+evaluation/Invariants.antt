@@ -1,8 +1,8 @@
 use Rattle.std.proofs.Common.{◌+◌, ◌*◌, ◌≤◌, ◌<◌, drop, map, List, Result, None}
 use Rattle.moo_value.specs.Tree.{Tree}
 use Rattle.moo_value.specs.View.{trees}
-use Rattle.moo_syntax_lower.specs.Source.{source, source_items}
-use Rattle.moo_syntax_lower.specs.Blocks.{source_block, source_arm_list, source_handler_list}
+use Rattle.moo_syntax_node.specs.Source.{source, source_items}
+use Rattle.moo_syntax_node.specs.Blocks.{source_block, source_arm_list, source_handler_list}
 use Rattle.moo_eval_frame.specs.Outcome.{Failure, Flow, Stop}
 use Rattle.moo_eval_access.specs.State.{State}
 use Rattle.moo_eval_access.specs.Target.{Path}

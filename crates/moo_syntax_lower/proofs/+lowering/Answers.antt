@@ -2,9 +2,9 @@ use Rattle.std.proofs.Common.{◌≡◌, ◌+◌, refl, ap, ◌∙◌, arith, dr
 use Rattle.moo_syntax_ast.specs.View.{tree, items_of, codes_of}
 use Rattle.moo_syntax_ast.proofs.Rows as given
 use Rattle.moo_syntax_ast.proofs.Sizes.{size, items_size, codes_size, size_within}
-use Rattle.moo_syntax_lower.specs.Source.{sources_before}
-use Rattle.moo_syntax_lower.proofs.Rows.{row_items}
-use Rattle.moo_syntax_lower.proofs.Items.{before_last, item_at}
+use Rattle.moo_syntax_node.specs.Source.{sources_before}
+use Rattle.moo_syntax_node.proofs.Rows.{row_items}
+use Rattle.moo_syntax_node.proofs.Items.{before_last, item_at}
 use Rattle.moo_syntax_lower.proofs.+lowering.Goals as goal
 
 pub expression::lower_expression-lower_items-requires : goal.expression::lower_expression-lower_items-requires

@@ -2,7 +2,7 @@
 use Rattle.std.proofs.Common.{◌≡◌, ◌+◌, ◌*◌, drop}
 use Rattle.moo_syntax_ast.specs.View.{tree, items_of, codes_of}
 use Rattle.moo_syntax_ast.proofs.Sizes.{size, items_size, item_size, codes_size}
-use Rattle.moo_syntax_lower.specs.Source.{sources_before}
+use Rattle.moo_syntax_node.specs.Source.{sources_before}
 use Rattle.moo_syntax_lower.proofs.+lowering.Given as goal
 
 abbrev pub invariant-item::lower_items-loop-item : goal.invariant-item::lower_items-loop-item

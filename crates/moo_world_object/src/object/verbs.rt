@@ -8,7 +8,7 @@ use crate::object::Object;
 use crate::verb::{Need, Verb, VerbPerms};
 use crate::verb_args::VerbArgs;
 use moo_syntax_ast::NameKey;
-use moo_syntax_grammar::Program;
+use moo_syntax_program::Program;
 use moo_value::MooStr;
 use std::alloc::AllocError;
 

@@ -5,7 +5,7 @@ use Rattle.moo_syntax.specs.Programs.{Blames}
 use Rattle.moo_eval_semantics.specs.Line.{refused, runs}
 use Rattle.moo_eval_semantics.specs.Task.{TaskEnds}
 use Rattle.moo_builtin.specs.Telling.{Faults}
-use Rattle.moo_eval_hook.specs.Evaluating.{typed_frame}
+use Rattle.moo_eval_semantics.specs.Evaluating.{typed_frame}
 use Rattle.moo_eval_semantics.specs.Typed.{nowhere}
 use Rattle.moo_eval.proofs.line.eval_line.Goals as goal
 

@@ -1,5 +1,5 @@
 use Rattle.std.proofs.Common.{refl}
-use Rattle.moo_syntax_lower.proofs.Rows.{row_items}
+use Rattle.moo_syntax_node.proofs.Rows.{row_items}
 use Rattle.moo_eval_access.proofs.target.root_alone.Goals as goal
 
 pub returns-in-List : goal.returns-in-List

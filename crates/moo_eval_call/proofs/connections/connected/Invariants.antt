@@ -1,5 +1,5 @@
 use Rattle.std.proofs.Common.{◌≡◌, drop}
-use Rattle.moo_eval_call.specs.Connections.{connected}
+use Rattle.moo_eval_semantics.specs.Connections.{connected}
 use Rattle.moo_eval_call.proofs.connections.connected.Given as goal
 
 abbrev pub invariant-loop-connection : goal.invariant-loop-connection

@@ -1,6 +1,6 @@
 use Rattle.std.proofs.Common.{◌≡◌, ◌++◌, drop}
 use Rattle.moo_value.specs.View.{trees}
-use Rattle.moo_eval_call.specs.Connections.{all_on}
+use Rattle.moo_eval_semantics.specs.Connections.{all_on}
 use Rattle.moo_eval_call.proofs.connections.connected_players.Given as goal
 
 abbrev pub invariant-loop-connection : goal.invariant-loop-connection

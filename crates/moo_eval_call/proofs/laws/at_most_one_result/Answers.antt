@@ -1,5 +1,5 @@
 use Rattle.moo_builtin.specs.Telling.{chosen_by}
-use Rattle.moo_eval_call.proofs.Unique.{chosen_once, one_call}
+use Rattle.moo_eval_semantics.proofs.CallUnique.{chosen_once, one_call}
 use Rattle.moo_eval_call.proofs.laws.at_most_one_result.Goals as goal
 
 pub returns : goal.returns

@@ -1,5 +1,5 @@
 use Rattle.std.proofs.Common.{refl}
-use Rattle.moo_syntax_lower.proofs.StatementRows.{row_block}
+use Rattle.moo_syntax_node.proofs.StatementRows.{row_block}
 use Rattle.moo_eval_control.proofs.handling.handler_parts.Goals as goal
 
 pub returns-in-Except : goal.returns-in-Except

@@ -1,5 +1,5 @@
 use Rattle.std.proofs.Common.{◌≡◌, ◌+◌, ◌≤◌, ◌||◌, drop}
-use Rattle.moo_syntax_lower.specs.Source.{source_items}
+use Rattle.moo_syntax_node.specs.Source.{source_items}
 use Rattle.moo_eval_control.specs.Scatter.{required, optionals, takes_rest}
 use Rattle.moo_eval_control.proofs.scatter.counted.Given as goal
 

@@ -1,6 +1,6 @@
 use Rattle.std.proofs.Common.{Ok, Err, ap, ◌∙◌, if◌then◌else◌}
 use Rattle.moo_value.specs.declared.error_code.ErrorCode.TheVariants.{Arguments}
-use Rattle.moo_syntax_lower.specs.Source.{source_items}
+use Rattle.moo_syntax_node.specs.Source.{source_items}
 use Rattle.moo_eval_control.specs.Scatter.{fits}
 use Rattle.moo_eval_control.proofs.Scattered.{dealt_list}
 use Rattle.moo_eval_control.proofs.scatter.dealt.Goals as goal

@@ -1,5 +1,5 @@
 use Rattle.std.proofs.Common.{◌≡◌, ◌++◌, drop, map}
-use Rattle.moo_syntax_lower.specs.Source.{source_items}
+use Rattle.moo_syntax_node.specs.Source.{source_items}
 use Rattle.moo_eval_control.specs.Scatter.{lacking, missing}
 use Rattle.moo_eval_control.specs.SeenScatter.{left_out_of}
 use Rattle.moo_eval_control.proofs.scatter.missing.Given as goal

@@ -1,5 +1,5 @@
 use Rattle.std.proofs.Common.{◌≡◌, drop}
-use Rattle.moo_syntax_lower.specs.Source.{source_items}
+use Rattle.moo_syntax_node.specs.Source.{source_items}
 use Rattle.moo_eval_frame.specs.Variables.{with_all}
 use Rattle.moo_eval_control.specs.Scatter.{shares, given}
 use Rattle.moo_eval_frame.specs.Seen.{variables_of}

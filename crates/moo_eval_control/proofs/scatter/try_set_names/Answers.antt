@@ -1,7 +1,7 @@
 use Rattle.std.proofs.Common.{◌≡◌, length, ap, ◌∙◌, sym, arith}
 use Rattle.std.proofs.lemmas.List.{length-map}
 use Rattle.moo_value.specs.View.{tree}
-use Rattle.moo_syntax_lower.specs.Blocks.{named_items}
+use Rattle.moo_syntax_node.specs.Blocks.{named_items}
 use Rattle.moo_eval_frame.specs.Variables.{with_all}
 use Rattle.moo_eval_control.specs.Scatter.{given}
 use Rattle.moo_eval_frame.specs.Seen.{variables_of}

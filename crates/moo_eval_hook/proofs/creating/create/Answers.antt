@@ -3,10 +3,10 @@ use mir.Val.{SFits}
 use Rattle.std.proofs.lemmas.Int.{to_z-of_z}
 use Rattle.std.proofs.lemmas.Result.{err_from_is_err_and}
 use Rattle.std.proofs.Common.{[]}
-use Rattle.moo_eval_hook.specs.declared.progress.Stage.TheVariants.{Created}
-use Rattle.moo_eval_hook.specs.Progressing.{hook}
-use Rattle.moo_eval_hook.specs.Quota.{quota, with_quota}
-use Rattle.moo_eval_hook.specs.Creating.{creating, next_number}
+use Rattle.moo_eval_semantics.specs.declared.stage.Stage.TheVariants.{Created}
+use Rattle.moo_eval_semantics.specs.Progressing.{hook}
+use Rattle.moo_eval_semantics.specs.Quota.{quota, with_quota}
+use Rattle.moo_eval_semantics.specs.Creating.{creating, next_number}
 use Rattle.moo_eval_hook.specs.SeenByHooks.{calling_of}
 use Rattle.moo_eval_hook.proofs.Raised.{test_refused, test_passed, given, made}
 use Rattle.moo_eval_hook.proofs.creating.create.Goals as goal

@@ -2,7 +2,7 @@ use Rattle.std.proofs.Common.{◌∙◌, sym, rules, w32}
 use mir.Val.{SFits}
 use Rattle.std.proofs.lemmas.Int.{to_z-of_z}
 use Rattle.std.proofs.lemmas.Result.{err_from_is_err_and}
-use Rattle.moo_eval_hook.specs.Evaluating.{forbidden}
+use Rattle.moo_eval_semantics.specs.Evaluating.{forbidden}
 use Rattle.moo_eval_hook.specs.SeenByHooks.{calling_of}
 use Rattle.moo_eval_hook.proofs.Evaluated.{runs, tells}
 use Rattle.moo_eval_hook.proofs.evaluating.evaluate_text.Goals as goal

@@ -2,9 +2,9 @@ use Rattle.std.proofs.Common.{◌∙◌, sym, codes, rules, w32}
 use mir.Val.{SFits}
 use Rattle.std.proofs.lemmas.Int.{to_z-of_z}
 use Rattle.std.proofs.lemmas.Result.{err_from_is_err_and}
-use Rattle.moo_eval_hook.specs.declared.progress.Stage.TheVariants.{Leaving}
-use Rattle.moo_eval_hook.specs.Objects.{location}
-use Rattle.moo_eval_hook.specs.Moving.{move_calls}
+use Rattle.moo_eval_semantics.specs.declared.stage.Stage.TheVariants.{Leaving}
+use Rattle.moo_eval_semantics.specs.Objects.{location}
+use Rattle.moo_eval_semantics.specs.Moving.{move_calls}
 use Rattle.moo_eval_hook.specs.SeenByHooks.{calling_of}
 use Rattle.moo_eval_hook.proofs.Moves.{stays, leaves}
 use Rattle.moo_eval_hook.proofs.Raised.{refused, changed}

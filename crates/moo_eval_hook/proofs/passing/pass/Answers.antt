@@ -2,8 +2,8 @@ use Rattle.std.proofs.Common.{◌∙◌, ap, sym, rules, w32}
 use mir.Val.{SFits}
 use Rattle.std.proofs.lemmas.Int.{to_z-of_z}
 use Rattle.std.proofs.lemmas.Result.{err_from_is_err_and}
-use Rattle.moo_eval_hook.specs.declared.progress.Stage.TheVariants.{Passed}
-use Rattle.moo_eval_hook.specs.Passing.{run_by, passing}
+use Rattle.moo_eval_semantics.specs.declared.stage.Stage.TheVariants.{Passed}
+use Rattle.moo_eval_semantics.specs.Passing.{run_by, passing}
 use Rattle.moo_eval_hook.proofs.passing.pass.Goals as goal
 
 pub returns-in_err-called : goal.returns-in_err-called

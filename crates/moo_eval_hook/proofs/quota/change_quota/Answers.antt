@@ -2,7 +2,7 @@ use Rattle.std.proofs.Common.{◌∙◌, rules, w32}
 use mir.Val.{SFits}
 use Rattle.std.proofs.lemmas.Int.{to_z-of_z}
 use Rattle.moo_eval_hook.proofs.Quotas.{uncounted, set_or_left}
-use Rattle.moo_eval_hook.specs.Quota.{with_quota}
+use Rattle.moo_eval_semantics.specs.Quota.{with_quota}
 use Rattle.moo_eval_hook.proofs.quota.change_quota.Goals as goal
 
 pub returns-in_default : goal.returns-in_default

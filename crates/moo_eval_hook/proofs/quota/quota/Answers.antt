@@ -1,7 +1,7 @@
 use Rattle.std.proofs.Common.{◌∙◌, refl, ap, w32}
 use Rattle.std.proofs.lemmas.Int.{to_z-of_z}
 use Rattle.std.proofs.Common.{Err}
-use Rattle.moo_eval_hook.specs.Quota.{quota}
+use Rattle.moo_eval_semantics.specs.Quota.{quota}
 use Rattle.moo_eval_hook.proofs.Quotas.{was_read, was_raised}
 use Rattle.moo_eval_hook.proofs.quota.quota.Goals as goal
 

@@ -1,7 +1,7 @@
 use Rattle.std.proofs.Common.{◌∙◌, refl, sym, rules, w32}
 use mir.Val.{SFits}
 use Rattle.std.proofs.lemmas.Int.{to_z-of_z}
-use Rattle.moo_eval_hook.specs.Recycling.{recycling}
+use Rattle.moo_eval_semantics.specs.Recycling.{recycling}
 use Rattle.moo_eval_hook.proofs.recycling.begin_recycling.Goals as goal
 
 pub returns-then-not-may_own : goal.returns-then-not-may_own

@@ -3,7 +3,7 @@ use Rattle.std.proofs.lemmas.Int.{to_z-of_z}
 use Rattle.std.proofs.lemmas.Result.{err_from_is_err_and}
 use Rattle.std.proofs.Common.{[], ◌∷◌}
 use Rattle.moo_value.specs.Tree.{object}
-use Rattle.moo_eval_hook.specs.Recycling.{recycle_calls, moved_out}
+use Rattle.moo_eval_semantics.specs.Recycling.{recycle_calls, moved_out}
 use Rattle.moo_eval_hook.specs.SeenByHooks.{calling_of}
 use Rattle.moo_eval_hook.proofs.Raised.{refused, changed}
 use Rattle.moo_eval_hook.proofs.recycling.move_out.Goals as goal

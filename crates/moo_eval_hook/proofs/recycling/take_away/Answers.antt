@@ -2,9 +2,9 @@ use Rattle.std.proofs.Common.{◌∙◌, sym, ap, rules, w32}
 use mir.Val.{SFits}
 use Rattle.std.proofs.lemmas.Int.{to_z-of_z}
 use Rattle.std.proofs.lemmas.Result.{err_from_is_err_and}
-use Rattle.moo_eval_hook.specs.declared.progress.Stage.TheVariants.{Recycled}
-use Rattle.moo_eval_hook.specs.Progressing.{stage_next}
-use Rattle.moo_eval_hook.specs.Recycling.{owner_of, uncounted, taken_away}
+use Rattle.moo_eval_semantics.specs.declared.stage.Stage.TheVariants.{Recycled}
+use Rattle.moo_eval_semantics.specs.Progressing.{stage_next}
+use Rattle.moo_eval_semantics.specs.Recycling.{owner_of, uncounted, taken_away}
 use Rattle.moo_eval_hook.proofs.Raised.{refused, changed}
 use Rattle.moo_eval_hook.proofs.recycling.take_away.Goals as goal
 

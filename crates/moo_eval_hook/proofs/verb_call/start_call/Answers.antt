@@ -3,7 +3,7 @@ use Rattle.std.proofs.lemmas.Result.{err_from_is_err_and}
 use Rattle.moo_syntax_function.specs.Table.{row}
 use Rattle.moo_eval_access.proofs.Counted.{refused_for_number}
 use Rattle.moo_builtin_world.specs.Objects.{is_valid}
-use Rattle.moo_eval_hook.specs.VerbCalls.{refused, starts}
+use Rattle.moo_eval_semantics.specs.VerbCalls.{refused, starts}
 use Rattle.moo_eval_hook.specs.SeenByHooks.{calling_of}
 use Rattle.moo_eval_hook.proofs.Passed.{ends, takes_any}
 use Rattle.moo_eval_hook.proofs.verb_call.start_call.Goals as goal

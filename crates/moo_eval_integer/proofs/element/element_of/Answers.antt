@@ -2,7 +2,7 @@ use Rattle.std.proofs.Common.{w32, rules, sym}
 use Rattle.std.proofs.lemmas.Int.{to_z-of_z}
 use mir.Val.{SFits}
 use Rattle.moo_eval_frame.specs.Seen.{variables_of}
-use Rattle.moo_syntax_lower.proofs.Items.{map_some}
+use Rattle.moo_syntax_node.proofs.Items.{map_some}
 use Rattle.moo_eval_integer.proofs.Given.{element_gives}
 use Rattle.moo_eval_integer.proofs.element.element_of.Goals as goal
 

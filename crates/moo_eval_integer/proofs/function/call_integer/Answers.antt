@@ -1,6 +1,6 @@
 use Rattle.std.proofs.Common.{sym}
 use Rattle.moo_eval_frame.specs.Seen.{variables_of}
-use Rattle.moo_syntax_lower.proofs.Items.{map_some}
+use Rattle.moo_syntax_node.proofs.Items.{map_some}
 use Rattle.moo_eval_integer.proofs.Functions.{call_gives}
 use Rattle.moo_eval_integer.proofs.function.call_integer.Goals as goal
 

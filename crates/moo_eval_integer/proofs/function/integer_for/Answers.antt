@@ -2,7 +2,7 @@ use Rattle.std.proofs.Common.{w32, rules}
 use Rattle.std.proofs.lemmas.Int.{to_z-of_z}
 use mir.Val.{SFits}
 use Rattle.moo_value.specs.View.{tree}
-use Rattle.moo_syntax_lower.proofs.Items.{map_some}
+use Rattle.moo_syntax_node.proofs.Items.{map_some}
 use Rattle.moo_eval_integer.proofs.Functions.{length_gives, type_gives}
 use Rattle.moo_eval_integer.proofs.function.integer_for.Goals as goal
 

@@ -2,8 +2,8 @@ use Rattle.std.proofs.Common.{w32, rules}
 use Rattle.std.proofs.lemmas.Int.{to_z-of_z}
 use mir.Val.{SFits}
 use Rattle.moo_eval_frame.specs.Seen.{variables_of}
-use Rattle.moo_syntax_lower.proofs.Items.{map_some}
-use Rattle.moo_syntax_lower.proofs.Rows.{row_items}
+use Rattle.moo_syntax_node.proofs.Items.{map_some}
+use Rattle.moo_syntax_node.proofs.Rows.{row_items}
 use Rattle.moo_eval_integer.proofs.Given.{operator_gives, part_gives}
 use Rattle.moo_eval_integer.proofs.integer.+integer.Goals as goal
 

@@ -1,5 +1,5 @@
 use Rattle.moo_eval_frame.specs.Seen.{variables_of}
-use Rattle.moo_syntax_lower.proofs.Items.{map_some}
+use Rattle.moo_syntax_node.proofs.Items.{map_some}
 use Rattle.moo_eval_integer.proofs.Given.{values_give}
 use Rattle.moo_eval_integer.proofs.operand.compare_nodes.Goals as goal
 

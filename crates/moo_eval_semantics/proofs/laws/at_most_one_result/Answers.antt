@@ -1,5 +1,5 @@
 use Rattle.moo_builtin.specs.Telling.{chosen_by}
-use Rattle.moo_eval_call.proofs.Unique.{chosen_once}
+use Rattle.moo_eval_semantics.proofs.CallUnique.{chosen_once}
 use Rattle.moo_eval_semantics.proofs.Agreed.{alike}
 use Rattle.moo_eval_semantics.proofs.Unique.{one_result, one_block}
 use Rattle.moo_eval_semantics.proofs.UniqueTask.{one_end}

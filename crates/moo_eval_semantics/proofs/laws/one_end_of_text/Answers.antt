@@ -2,10 +2,10 @@ use Rattle.std.proofs.Common.{negsuc, [], ◌∷◌, sym, subst}
 use Rattle.moo_syntax_grammar.specs.declared.names.Names.TheVariants.{Known}
 use Rattle.moo_syntax_grammar.proofs.Unique.{one_program_of_text}
 use Rattle.moo_builtin.specs.Telling.{chosen_by}
-use Rattle.moo_eval_call.proofs.Unique.{chosen_once}
+use Rattle.moo_eval_semantics.proofs.CallUnique.{chosen_once}
 use Rattle.moo_eval_semantics.proofs.Agreed.{alike}
 use Rattle.moo_eval_semantics.specs.Task.{TaskEnds}
-use Rattle.moo_eval_hook.specs.Evaluating.{typed_frame}
+use Rattle.moo_eval_semantics.specs.Evaluating.{typed_frame}
 use Rattle.moo_eval_semantics.specs.Typed.{nowhere}
 use Rattle.moo_eval_semantics.specs.Line.{no_world}
 use Rattle.moo_eval_semantics.proofs.UniqueTask.{one_end}

@@ -1,5 +1,5 @@
 use Rattle.moo_builtin.specs.Telling.{Faults}
-use Rattle.moo_eval_call.proofs.Onward.{later_twice, later_call}
+use Rattle.moo_eval_semantics.proofs.CallOnward.{later_twice, later_call}
 use Rattle.moo_eval_semantics.proofs.HookOnward.{later_start}
 use Rattle.moo_eval_semantics.proofs.Onward.{later_result, later_block, later_progress}
 use Rattle.moo_eval_semantics.proofs.laws.ticks_never_rise.Goals as goal

@@ -1,6 +1,6 @@
 use Rattle.std.proofs.Common.{ap, sym, ◌∙◌}
 use Rattle.moo_value.specs.Tree.{elements_of}
-use Rattle.moo_syntax_lower.specs.Spelling.{spelled_items}
+use Rattle.moo_syntax_node.specs.Spelling.{spelled_items}
 use Rattle.moo_eval_frame.specs.Outcome.{answers}
 use Rattle.moo_eval_control.proofs.Named.{unlisted}
 use Rattle.moo_eval_semantics.specs.Meaning.{scatter_fails}

@@ -1,7 +1,7 @@
 use Rattle.std.proofs.Common.{w32, rules, refl}
 use Rattle.std.proofs.lemmas.Int.{to_z-of_z}
 use mir.Val.{SFits}
-use Rattle.moo_syntax_lower.specs.Source.{source}
+use Rattle.moo_syntax_node.specs.Source.{source}
 use Rattle.moo_eval_task.proofs.property.literal_property.Goals as goal
 
 pub returns : goal.returns

@@ -4,7 +4,7 @@ use mir.Val.{SFits}
 use Rattle.moo_value.specs.Compare.{folded}
 use Rattle.moo_value.specs.declared.error_code.ErrorCode.TheVariants.{VariableNotFound}
 use Rattle.moo_eval_frame.specs.Outcome.{answers, or_error}
-use Rattle.moo_syntax_lower.proofs.Items.{map_some}
+use Rattle.moo_syntax_node.proofs.Items.{map_some}
 use Rattle.moo_eval_task.proofs.Direct.{variable_read, literal_read}
 use Rattle.moo_eval_task.proofs.property.object_of.Goals as goal
 

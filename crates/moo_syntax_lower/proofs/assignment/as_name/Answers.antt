@@ -1,6 +1,6 @@
 use Rattle.std.proofs.Common.{ap, ◌∙◌}
 use Rattle.moo_syntax_ast.specs.Tree.{element}
-use Rattle.moo_syntax_lower.proofs.Items.{map_some}
+use Rattle.moo_syntax_node.proofs.Items.{map_some}
 use Rattle.moo_syntax_lower.proofs.assignment.as_name.Goals as goal
 
 pub returns : goal.returns

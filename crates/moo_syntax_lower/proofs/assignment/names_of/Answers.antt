@@ -2,7 +2,7 @@ use Rattle.std.proofs.Common.{◌+◌, List, ℕ, ap, sym, ◌∙◌, drop}
 use Rattle.std.proofs.lemmas.List.{drop_all}
 use Rattle.moo_syntax_ast.specs.Tree.{element, variable}
 use Rattle.moo_syntax_ast.specs.View.{items_of}
-use Rattle.moo_syntax_lower.proofs.Items.{named_before, named_last, named_alone, item_at}
+use Rattle.moo_syntax_node.proofs.Items.{named_before, named_last, named_alone, item_at}
 use Rattle.moo_syntax_lower.proofs.assignment.names_of.Goals as goal
 
 pub loop-item-preserved : goal.loop-item-preserved

@@ -2,9 +2,9 @@ use Rattle.std.proofs.Common.{◌≡◌, ◌+◌, refl, ap, ◌∙◌, drop}
 use Rattle.moo_syntax_ast.specs.Tree
 use Rattle.moo_syntax_ast.specs.View.{with_arm, block, arms_of, handlers_of}
 use Rattle.moo_syntax_ast.proofs.Rows as given
-use Rattle.moo_syntax_lower.specs.declared.statement.NodeArm.TheVariants as arm
-use Rattle.moo_syntax_lower.specs.Blocks.{statements_before, with_source_arm, arms_before, handlers_before}
-use Rattle.moo_syntax_lower.proofs.StatementRows.{row_block, row_arms, row_handlers}
+use Rattle.moo_syntax_node.specs.declared.statement.NodeArm.TheVariants as arm
+use Rattle.moo_syntax_node.specs.Blocks.{statements_before, with_source_arm, arms_before, handlers_before}
+use Rattle.moo_syntax_node.proofs.StatementRows.{row_block, row_arms, row_handlers}
 use Rattle.moo_syntax_lower.proofs.Statements.{statement_last, statement_at, arm_last, arm_at, handler_last, handler_at}
 use Rattle.moo_syntax_lower.proofs.block.+block.Goals as goal
 

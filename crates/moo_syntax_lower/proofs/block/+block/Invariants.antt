@@ -1,7 +1,7 @@
 -- The sources so far with the statements, arms or handlers that are left are all of them.
 use Rattle.std.proofs.Common.{◌≡◌, drop}
 use Rattle.moo_syntax_ast.specs.View.{block, arms_of, handlers_of}
-use Rattle.moo_syntax_lower.specs.Blocks.{statements_before, arms_before, handlers_before}
+use Rattle.moo_syntax_node.specs.Blocks.{statements_before, arms_before, handlers_before}
 use Rattle.moo_syntax_lower.proofs.block.+block.Given as goal
 
 abbrev pub invariant-lower_block-loop-statement : goal.invariant-lower_block-loop-statement

@@ -1,7 +1,7 @@
 use Rattle.std.proofs.Common.{◌+◌, ap, sym, ◌∙◌, drop}
 use Rattle.std.proofs.lemmas.List.{drop_all}
 use Rattle.moo_syntax_ast.specs.View.{items_of}
-use Rattle.moo_syntax_lower.proofs.Items.{errors_before, errors_last, errors_alone, item_at}
+use Rattle.moo_syntax_node.proofs.Items.{errors_before, errors_last, errors_alone, item_at}
 use Rattle.moo_syntax_lower.proofs.item.literal_errors.Goals as goal
 
 pub loop-item-preserved : goal.loop-item-preserved

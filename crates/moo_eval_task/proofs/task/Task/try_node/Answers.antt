@@ -2,7 +2,7 @@ use Rattle.std.proofs.Common.{rules}
 use Rattle.std.proofs.lemmas.Int.{to_z-of_z}
 use mir.Syntax.{w32}
 use mir.Val.{SFits}
-use Rattle.moo_syntax_lower.proofs.Rows.{row_items}
+use Rattle.moo_syntax_node.proofs.Rows.{row_items}
 use Rattle.moo_eval_task.proofs.task.Task.try_node.Goals as goal
 
 pub returns-in_ok-number-in-Arithmetic-clause-some : goal.returns-in_ok-number-in-Arithmetic-clause-some

@@ -2,7 +2,7 @@ use Rattle.std.proofs.Common.{refl, sym, rules, w32}
 use Rattle.std.proofs.lemmas.Int.{to_z-of_z}
 use mir.Val.{SFits}
 use Rattle.moo_value.specs.View.{tree}
-use Rattle.moo_syntax_lower.specs.Source.{source}
+use Rattle.moo_syntax_node.specs.Source.{source}
 use Rattle.moo_eval_frame.specs.Seen.{variables_of}
 use Rattle.moo_eval_task.specs.Seen.{state_of}
 use Rattle.moo_eval_task.proofs.Looking.{shown_computes}

@@ -1,5 +1,0 @@
-//! Scripts over readers and writers that fail.
-
-mod device;
-mod playing;
-mod streams;

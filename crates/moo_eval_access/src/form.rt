@@ -126,17 +126,6 @@ pub fn as_text(node: &Node) -> Option<&Text>
     }
 }
 
-/// Returns the parts of `{@list, last}`, or `None` for a node of another form.
-#[inline(always)]
-pub fn as_appended(node: &Node) -> Option<(&Node, &Node)>
-    ensures { IfSome result (λ p. source node.now ≡ list (splice (source p.0.now) (element (source p.1.now) no_items))) }
-{
-    match list_form(node)? {
-        ListForm::Appended(list, last) => Some((list, last)),
-        _ => None,
-    }
-}
-
 /// Returns the object, the name and the value, if the expression is an assignment to a property.
 pub fn as_set_property(node: &Node) -> Option<(&Node, &Node, &Node)>
     ensures { IfSome result (λ p. source node.now ≡ assign (property (source p.0.now) (source p.1.now)) (source p.2.now)) }

@@ -22,9 +22,7 @@ pub use entering::{
     enter_written, has_frame_left, verb_frame, verb_there,
 };
 pub use fault::failed;
-pub use form::{
-    ListForm, as_appended, as_set_property, as_text, is_list_change, is_own_change, list_form,
-};
+pub use form::{ListForm, as_set_property, as_text, is_list_change, is_own_change, list_form};
 pub use growth::set_sum;
 pub use integers::{binary, binary_in_place, number_of};
 pub use object::{

@@ -12,7 +12,6 @@ ghost use Rattle.moo_eval_frame.specs.GivenValues.{given_values};
 ghost use Rattle.moo_eval_slot.specs.InnerPut.{IsInnerPut};
 ghost use Rattle.moo_eval_frame.specs.Seen.{others_of, value_among, own_variables, variables_of};
 ghost use Rattle.moo_eval_slot.specs.Held.{slot_value};
-ghost use Rattle.moo_eval_slot.specs.InnerPush.{IsInnerPush};
 ghost use Rattle.moo_syntax_ast.specs.declared.given.Given.TheVariants.{Player};
 
 use crate::frame::Running;
@@ -95,6 +94,21 @@ impl Variables {
                 Ok(())
             }
             None => self.set_unknown(name, value),
+        }
+    }
+
+    /// Sets a variable, and returns true. Returns false if the variable's slot isn't known; then nothing has changed.
+    #[inline(always)]
+    pub fn try_set(&mut self, name: &Name, value: Value) -> bool
+        ensures put { IsTrue result → variables_of self.new ≡ with_variable (variables_of self.old) (bind name.now (tree value)) }
+        ensures kept { IsFalse result → variables_of self.new ≡ variables_of self.old }
+    {
+        match self.own.known_slot(name) {
+            Some(slot) => {
+                self.own.set(slot, value);
+                true
+            }
+            None => false,
         }
     }
 
@@ -191,26 +205,6 @@ impl Variables {
     {
         match self.own.known_slot(name) {
             Some(slot) => self.own.try_push(alloc, slot, value),
-            None => Ok(false),
-        }
-    }
-
-    /// Appends a value to the list at `outer` of the list in a variable, and returns whether it did. It doesn't if one
-    /// of the lists isn't there or is past the limits with the value, or if the variable's slot isn't known. Then
-    /// nothing has changed. Err is out of memory; the variable may then hold an empty list.
-    #[inline(always)]
-    pub fn try_push_inner(
-        &mut self,
-        alloc: Global,
-        name: &Name,
-        outer: usize,
-        value: Value,
-    ) -> Result<bool, AllocError>
-        ensures pushed { IfOk result (λ done. IsTrue done → (ts : List Tree) × (new : List Tree) × (variables_of self.old (folded name.now) ≡ Some (list_of ts)) × IsInnerPush ts outer (tree value) new × (variables_of self.new ≡ with_variable (variables_of self.old) (bind name.now (list_of new)))) }
-        ensures kept { IfOk result (λ done. IsFalse done → variables_of self.new ≡ variables_of self.old) }
-    {
-        match self.own.known_slot(name) {
-            Some(slot) => self.own.try_push_inner(alloc, slot, outer, value),
             None => Ok(false),
         }
     }

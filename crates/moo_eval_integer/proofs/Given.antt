@@ -17,7 +17,7 @@ use Rattle.moo_builtin_operator.proofs.Lawful.{limited_within}
 use Rattle.moo_builtin_operator.proofs.Replaced.{set_in_list}
 use Rattle.moo_eval_frame.specs.Outcome.{answers, or_error}
 use Rattle.moo_eval_semantics.specs.Meaning.{begins, applies, no_more, element_then, literal_is, variable_is, binary_is, index_is}
-use Rattle.moo_eval_integer.specs.Integers.{GivesInteger, GivesLeafInteger, GivesValue}
+use Rattle.moo_eval_integer.specs.Integers.{GivesInteger, GivesLeafInteger, GivesLeafValue, GivesValue}
 
 -- an integer that is written out takes a tick
 pub literal_gives : (variables : List ℕ → Option Tree) {i : ℤ} {n n' : ℕ} → (0 < n) × (n' ≡ n - 1) → GivesInteger variables n (literal (Integer i)) i n'
@@ -50,10 +50,6 @@ list_takes ts i n k e h limits = value_taken ts i k (integer n) e h limits
 pub element_there : (ts : List Tree) (k : ℕ) (v : Tree) → slice_get ts k ≡ Some v → index_of (list_of ts) (integer (pos (suc k))) ≡ Ok v
 element_there ts k v h = ap (λ us. or_range (slice_get us k) (λ t. Ok t)) (trees_of-elements_of ts) ∙ ap (λ o. or_range o (λ t. Ok t)) h
 
--- an operator between two that take one tick each takes three
-pub leaves_give : (variables : List ℕ → Option Tree) {op : BinaryOperator} {a b : Expr} {i j k : ℤ} {n m : ℕ} → GivesLeafInteger variables a i → GivesLeafInteger variables b j → binary_of op (integer i) (integer j) ≡ Ok (integer k) → (2 < n) × (m ≡ n - 3) → GivesInteger variables n (binary op a b) k m
-leaves_give variables {n = n} {m = m} f g h z = operator_gives variables (omega (arith, z.0), refl) (f (n - 1) (n - 1 - 1) (omega (arith, z.0), refl)) (g (n - 1 - 1) m (omega (arith, z.0), omega (arith, z.0, z.1))) h
-
 -- an integer that is written out
 pub literal_leaf : (variables : List ℕ → Option Tree) {i : ℤ} → GivesLeafInteger variables (literal (Integer i)) i
 literal_leaf variables n m z = literal_gives variables z
@@ -78,3 +74,7 @@ values_give variables t f g h = λ c s e. begins t.0 (applies (element_then (rw 
 -- a literal takes a tick and gives its value
 pub literal_told : (variables : List ℕ → Option Tree) {l : Literal} {n n' : ℕ} → (0 < n) × (n' ≡ n - 1) → GivesValue variables n (literal l) (literal_value l) n'
 literal_told variables z = λ c s e. rw z.1 (begins z.0 (applies no_more no_more literal_is) refl)
+
+-- an operator between two that take one tick each takes three
+pub leaf_values_give : (variables : List ℕ → Option Tree) {op : BinaryOperator} {a b : Expr} {x y z : Tree} {n m : ℕ} → GivesLeafValue variables a x → GivesLeafValue variables b y → binary_of op x y ≡ Ok z → (2 < n) × (m ≡ n - 3) → GivesValue variables n (binary op a b) z m
+leaf_values_give variables {n = n} {m = m} f g h t = values_give variables (omega (arith, t.0), refl) (f (n - 1) (n - 1 - 1) (omega (arith, t.0), refl)) (g (n - 1 - 1) m (omega (arith, t.0), omega (arith, t.0, t.1))) h

@@ -20,6 +20,10 @@ GivesValue variables n e v m = (c : Context) (s : State) → s.variables ≡ var
 abbrev pub GivesInteger : (List ℕ → Option Tree) → ℕ → Expr → ℤ → ℕ → Type 0
 GivesInteger variables n e i m = GivesValue variables n e (integer i) m
 
+-- it gives this value and takes one tick, if one is left
+abbrev pub GivesLeafValue : (List ℕ → Option Tree) → Expr → Tree → Type 0
+GivesLeafValue variables e v = (n m : ℕ) → (0 < n) × (m ≡ n - 1) → GivesValue variables n e v m
+
 -- it gives this integer and takes one tick, if one is left
 abbrev pub GivesLeafInteger : (List ℕ → Option Tree) → Expr → ℤ → Type 0
-GivesLeafInteger variables e i = (n m : ℕ) → (0 < n) × (m ≡ n - 1) → GivesInteger variables n e i m
+GivesLeafInteger variables e i = GivesLeafValue variables e (integer i)

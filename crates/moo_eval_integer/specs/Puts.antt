@@ -1,5 +1,5 @@
 -- Assignments to places of lists in variables, by integers.
-use Rattle.std.specs.Prelude.{◌≡◌, ◌-◌, ◌<◌, ℕ, ℤ, List, Option, Some, Ok}
+use Rattle.std.specs.Prelude.{◌≡◌, ℕ, ℤ, List, Option, Some, Ok}
 use Rattle.moo_value.specs.Tree.{Tree, integer}
 use Rattle.moo_value.specs.Compare.{folded}
 use Rattle.moo_syntax_ast.specs.Tree.{Expr}
@@ -45,12 +45,3 @@ pub record PutsInner (variables : List ℕ → Option Tree) (n : ℕ) (name : Li
   pub made_inside : with_index_of element (integer second) (integer number) ≡ Ok new_element
   pub made : with_index_of container (integer first) new_element ≡ Ok new
   pub sets : after ≡ with_variable variables (bind name new)
-
--- The places in `name[place] = {@name[again], e}`: with these variables both give this integer. Three ticks are taken
--- between them: for the list, for its element, and for the variable in it. So many are left before and after the
--- places.
-pub record GivePlace (variables : List ℕ → Option Tree) (n : ℕ) (place again : Expr) (index : ℤ) (m : ℕ) : Type 0 where
-  pub between : ℕ
-  pub placed : GivesInteger variables n place index between
-  pub enough : 2 < between
-  pub placed_again : GivesInteger variables (between - 3) again index m

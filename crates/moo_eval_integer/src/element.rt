@@ -7,11 +7,11 @@ ghost use Rattle.moo_syntax_node.specs.Source.{source};
 ghost use Rattle.moo_builtin_operator.specs.Places.{index_of};
 ghost use Rattle.moo_eval_frame.specs.Seen.{variables_of};
 ghost use Rattle.moo_eval_integer.specs.Integers.{GivesInteger, GivesValue};
-ghost use Rattle.moo_eval_integer.specs.Puts.{PutsInteger, PutsInner, GivePlace};
+ghost use Rattle.moo_eval_integer.specs.Puts.{PutsInteger, PutsInner};
 
 use crate::integer::{held_part, integer_of, operand_integer};
 use crate::letters::Letters;
-use crate::ticks::{take, take_three};
+use crate::ticks::take;
 use moo_eval_frame::Activation;
 use moo_syntax_ast::Name;
 use moo_syntax_node::Node;
@@ -234,26 +234,6 @@ pub fn try_put_inner_integer(
     active
         .variables
         .try_put_inner(alloc, name, outer, inner, number)
-}
-
-/// Returns how many elements come before the place in `name[place] = {@name[again], e}`, if both nodes are that place.
-/// Takes their ticks from `left`, and those of the list, of the element and of the variable in it. `None` if the places
-/// differ, if one can't be computed from integers alone or is below 1, or if ticks are missing. Then `left` may have
-/// fallen.
-#[inline(always)]
-pub fn shared_place(
-    active: &Activation,
-    left: &mut u32,
-    place: &Node,
-    again: &Node,
-) -> Option<usize>
-    ensures value { IfSome result (λ k. GivePlace (variables_of active.now.variables) left.old (source place.now) (source again.now) (pos (suc k)) left.new) }
-    ensures ticks { left.new ≤ left.old }
-{
-    let place = index_of_place(active, left, place)?;
-    take_three(left)?;
-    let again = index_of_place(active, left, again)?;
-    if again == place { Some(place) } else { None }
 }
 
 // Returns how many elements come before the place that a node is, and takes its ticks from `left`.

@@ -15,6 +15,7 @@ ghost use Rattle.moo_eval_integer.specs.Integers.{GivesInteger, GivesLeafInteger
 
 use crate::element::{integer_at, value_at};
 use crate::function::call_integer;
+use crate::operand::{equality_integer, is_equality, is_leaf};
 use crate::ticks::{take, take_three};
 use moo_eval_access::number_of;
 use moo_eval_frame::Activation;
@@ -25,7 +26,8 @@ use moo_value::{MooList, Value};
 
 /// Returns the integer of an operator between two nodes, and takes its ticks from `left`. `None` if a node isn't an
 /// integer, a variable, an element, the length or the type of one, or such an operator. `None` too if one has another
-/// value or none, if the operator may fail, or if ticks are missing. Then `left` may have fallen.
+/// value or none, if the operator may fail, or if ticks are missing. Then `left` may have fallen. For `==` and `!=` between
+/// variables the values may be of any type.
 #[cycle(integer)]
 pub fn arithmetic_integer(
     active: &Activation,
@@ -57,6 +59,9 @@ fn nested_integer(
     ensures value { IfSome result (λ n. GivesInteger (variables_of active.now.variables) left.old (binary operator (source a.now) (source b.now)) n left.new) }
     ensures ticks { left.new ≤ left.old }
 {
+    if is_equality(operator) && is_leaf(a) && is_leaf(b) {
+        return equality_integer(active, left, operator, a, b);
+    }
     take(left)?;
     let a = integer_of(active, left, a)?;
     let b = integer_of(active, left, b)?;

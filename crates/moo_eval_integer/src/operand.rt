@@ -8,12 +8,12 @@ ghost use Rattle.moo_builtin_operator.specs.Operators.{binary_of};
 ghost use Rattle.moo_builtin_operator.specs.Places.{index_of};
 ghost use Rattle.moo_builtin_operator.specs.Truth.{equal, truth_value};
 ghost use Rattle.moo_eval_frame.specs.Seen.{variables_of};
-ghost use Rattle.moo_eval_integer.specs.Integers.{GivesValue};
+ghost use Rattle.moo_eval_integer.specs.Integers.{GivesInteger, GivesLeafValue, GivesValue};
 ghost use Rattle.moo_eval_integer.specs.Operands.{operand_tree};
 
 use crate::element::{elements_before, has_flat_place, value_at};
 use crate::integer::{held_part, integer_of};
-use crate::ticks::take;
+use crate::ticks::{take, take_three};
 use moo_builtin_operator::is_equal;
 use moo_eval_frame::Activation;
 use moo_syntax_ast::operator::BinaryOperator;
@@ -34,8 +34,78 @@ pub(crate) enum Operand<'a> {
 /// another operator, or if a node isn't a literal, a variable or an element of one, at most three places deep. `None`
 /// too if a place can't be computed from integers alone, if a node has no value, if a list is compared with another
 /// type, or if ticks are missing. Then `left` may have fallen.
-#[inline(never)]
+#[inline(always)]
 pub fn compare_nodes(
+    active: &Activation,
+    left: &mut u32,
+    operator: BinaryOperator,
+    a: &Node,
+    b: &Node,
+) -> Option<bool>
+    ensures value { IfSome result (λ passes. GivesValue (variables_of active.now.variables) left.old (binary operator (source a.now) (source b.now)) (truth_value passes) left.new) }
+    ensures ticks { left.new ≤ left.old }
+{
+    if is_leaf(a) && is_leaf(b) {
+        compare_leaves(active, left, operator, a, b)
+    } else {
+        compare_operands(active, left, operator, a, b)
+    }
+}
+
+/// Returns the integer of `==` or `!=` between two variables or literals, and takes its ticks from `left`. `None` as
+/// `compare_nodes`. Not inlined, so that operators between integers stay short.
+#[inline(never)]
+pub(crate) fn equality_integer(
+    active: &Activation,
+    left: &mut u32,
+    operator: BinaryOperator,
+    a: &Node,
+    b: &Node,
+) -> Option<i32>
+    ensures value { IfSome result (λ n. GivesInteger (variables_of active.now.variables) left.old (binary operator (source a.now) (source b.now)) n left.new) }
+    ensures ticks { left.new ≤ left.old }
+{
+    let passes = compare_leaves(active, left, operator, a, b)?;
+    if passes { Some(1) } else { Some(0) }
+}
+
+/// Is true for `==` and `!=`.
+#[inline(always)]
+pub fn is_equality(operator: BinaryOperator) -> bool {
+    matches!(operator, BinaryOperator::Equal | BinaryOperator::NotEqual)
+}
+
+/// Is true for a variable and for a literal. Picks the way of a comparison or an assignment; each way has the same meaning.
+#[inline(always)]
+pub fn is_leaf(node: &Node) -> bool {
+    matches!(
+        node,
+        Node::Variable(_) | Node::Str(_) | Node::Integer(_) | Node::Object(_) | Node::Error(_)
+    )
+}
+
+// Returns whether the value of `==` or `!=` between two variables or literals is true, as `compare_nodes` does.
+#[inline(always)]
+fn compare_leaves(
+    active: &Activation,
+    left: &mut u32,
+    operator: BinaryOperator,
+    a: &Node,
+    b: &Node,
+) -> Option<bool>
+    ensures value { IfSome result (λ passes. GivesValue (variables_of active.now.variables) left.old (binary operator (source a.now) (source b.now)) (truth_value passes) left.new) }
+    ensures ticks { left.new ≤ left.old }
+{
+    take_three(left)?;
+    let a = leaf_operand(active, a)?;
+    let b = leaf_operand(active, b)?;
+    compared(operator, a, b)
+}
+
+// Returns whether the value of `==` or `!=` between two nodes is true, as `compare_nodes` does. Not inlined, so that a
+// comparison of leaves stays short.
+#[inline(never)]
+fn compare_operands(
     active: &Activation,
     left: &mut u32,
     operator: BinaryOperator,
@@ -87,24 +157,30 @@ fn operand_of<'a>(active: &'a Activation, left: &mut u32, node: &'a Node) -> Opt
     ensures ticks { left.new ≤ left.old }
 {
     match node {
-        Node::Variable(_) => held_operand(held_part(active, left, node)?),
         Node::Index(base, place) => element_operand(active, left, base, place),
-        Node::Str(text) => {
+        _ => {
             take(left)?;
-            Some(Operand::Text(text.string().as_bytes()))
+            leaf_operand(active, node)
         }
-        Node::Integer(number) => {
-            take(left)?;
-            Some(Operand::Integer(*number))
-        }
-        Node::Object(number) => {
-            take(left)?;
-            Some(Operand::Object(*number))
-        }
-        Node::Error(code) => {
-            take(left)?;
-            Some(Operand::Error(*code))
-        }
+    }
+}
+
+// Returns the operand that a variable or a literal is. Variables and strings are tested first, since a `match` over all
+// nodes takes a table of jumps.
+#[inline(always)]
+fn leaf_operand<'a>(active: &'a Activation, node: &'a Node) -> Option<Operand<'a>>
+    ensures { IfSome result (λ o. GivesLeafValue (variables_of active.now.variables) (source node.now) (operand_tree o)) }
+{
+    if let Node::Variable(name) = node {
+        return held_operand(active.variables.get(name)?);
+    }
+    if let Node::Str(text) = node {
+        return Some(Operand::Text(text.string().as_bytes()));
+    }
+    match node {
+        Node::Integer(number) => Some(Operand::Integer(*number)),
+        Node::Object(number) => Some(Operand::Object(*number)),
+        Node::Error(code) => Some(Operand::Error(*code)),
         _ => None,
     }
 }

@@ -33,10 +33,6 @@ pub(crate) fn set_element(
     ensures meaning { IsKnown result → Does Faults (context_of stack.now None) (performs (sets_place name.now (source place.now) (source value.now))) (state_of task.old world.old active.old) (seen_flow result) (state_of task.new world.new active.new) }
     ensures ticks { task.new.ticks_left ≤ task.old.ticks_left }
 {
-    let is_longer = task.try_lengthen_element(active, name, place, value)?;
-    if is_longer {
-        return Ok(Flow::Next);
-    }
     task.take_tick(active, stack)?;
     let done = put_at(task, world, active, stack, name, place, value);
     task.end_statement(active, stack, done)

@@ -2,4 +2,3 @@ pub mod Names
 pub mod Hinted
 pub mod InnerPuts
 pub mod Room
-pub mod InnerPushes

@@ -1,4 +1,3 @@
 pub mod Bindings
 pub mod Held
 pub mod InnerPut
-pub mod InnerPush

@@ -1,14 +1,12 @@
-//! Changes of a list in the list in a slot: an integer of it is replaced, or it takes a value at its end.
+//! Replaces an integer of a list in the list in a slot.
 ghost use Rattle.std.specs.Prelude.{◌≡◌, ◌<◌, ℤ, List, [], Some, None, length, get_or, set, slice_get, slice_set, IsTrue, IsFalse, IfOk, IfSome};
 ghost use Rattle.moo_value.specs.Tree.{Tree, integer, list_of};
 ghost use Rattle.moo_value.specs.Size.{IsWithinLimits};
 ghost use Rattle.moo_value.specs.View.{tree};
 ghost use Rattle.moo_value.specs.declared.value.Value.TheVariants.{List as ListOf};
 ghost use Rattle.moo_eval_slot.specs.InnerPut.{IsInnerPut};
-ghost use Rattle.moo_eval_slot.specs.InnerPush.{IsInnerPush, HasInnerRoom};
 
-use crate::growing::pushed;
-use moo_value::{DEPTH_LIMIT, ListLimit, MooList, Value, WEIGHT_LIMIT};
+use moo_value::{ListLimit, MooList, Value};
 use std::alloc::{AllocError, Global};
 use std::mem;
 
@@ -30,25 +28,6 @@ pub(crate) fn put_inner_at(
     ensures as_many { length values.new.items ≡ length values.old.items }
 {
     try_put_inner(alloc, &mut values[slot], outer, inner, number)
-}
-
-/// Appends a value to the list at `outer` of the list in a slot, and returns whether it did. It doesn't if one of the
-/// lists isn't there, or is past the limits with the value; then nothing has changed. Err is out of memory; the slot
-/// may then hold an empty list.
-#[inline(always)]
-pub(crate) fn push_inner_at(
-    alloc: Global,
-    values: &mut Vec<Option<Value>>,
-    slot: usize,
-    outer: usize,
-    value: Value,
-) -> Result<bool, AllocError>
-    requires { slot < length values.old.items }
-    ensures pushed { IfOk result (λ done. IsTrue done → (ts : List Tree) × (new : List Tree) × (get_or values.old.items slot None ≡ Some (ListOf ts)) × IsInnerPush ts outer (tree value) new × (values.new.items ≡ set values.old.items slot (Some (ListOf new)))) }
-    ensures kept { IfOk result (λ done. IsFalse done → values.new.items ≡ values.old.items) }
-    ensures as_many { length values.new.items ≡ length values.old.items }
-{
-    try_push_inner(alloc, &mut values[slot], outer, value)
 }
 
 // Replaces the integer at `inner` of the list at `outer` of the list at a place, and returns whether it did. It doesn't
@@ -93,72 +72,6 @@ fn put_into_element(
     let is_put = own.put_integer(inner, number);
     *list = replaced(alloc, whole, outer, own)?;
     Ok(is_put)
-}
-
-// Appends a value to the list at `outer` of the list at a place, and returns whether it did. It doesn't if one of the
-// lists isn't there, or is past the limits with the value; then nothing has changed. Err is out of memory; the place
-// may then hold an empty list.
-fn try_push_inner(
-    alloc: Global,
-    place: &mut Option<Value>,
-    outer: usize,
-    value: Value,
-) -> Result<bool, AllocError>
-    ensures pushed { IfOk result (λ done. IsTrue done → (ts : List Tree) × (new : List Tree) × (place.old ≡ Some (ListOf ts)) × IsInnerPush ts outer (tree value) new × (place.new ≡ Some (ListOf new))) }
-    ensures kept { IfOk result (λ done. IsFalse done → place.new ≡ place.old) }
-{
-    match place {
-        Some(Value::List(list)) => push_into_element(alloc, list, outer, value),
-        _ => Ok(false),
-    }
-}
-
-// Appends a value to the list at `outer` of a list, and returns whether it did, as `push_inner_at` does. An empty list
-// takes the place of the inner list meanwhile, so that one that nothing else shares grows in place. On Err the outer
-// list may be empty.
-fn push_into_element(
-    alloc: Global,
-    list: &mut MooList,
-    outer: usize,
-    value: Value,
-) -> Result<bool, AllocError>
-    ensures pushed { IfOk result (λ done. IsTrue done → IsInnerPush list.old outer (tree value) list.new) }
-    ensures kept { IfOk result (λ done. IsFalse done → list.new ≡ list.old) }
-{
-    let Some(element) = list_with_room(list, outer, &value) else {
-        return Ok(false);
-    };
-    let own = element.try_clone()?;
-    let empty = empty_list(alloc)?;
-    let whole = mem::replace(list, empty.try_clone()?);
-    let whole = replaced(alloc, whole, outer, empty)?;
-    let longer = pushed(alloc, own, value)?;
-    *list = replaced(alloc, whole, outer, longer)?;
-    Ok(true)
-}
-
-// Returns the list at `outer` of a list, if both lists are within the limits once it has this value at its end.
-#[inline(always)]
-fn list_with_room<'a>(list: &'a MooList, outer: usize, value: &Value) -> Option<&'a MooList>
-    ensures within { IfSome result (λ own. outer < length list.now) }
-    ensures there { IfSome result (λ own. slice_get list.now outer ≡ Some (list_of own.now)) }
-    ensures limits { IfSome result (λ own. IsWithinLimits (list_of list.now)) }
-    ensures room { IfSome result (λ own. HasInnerRoom list.now (tree value.now)) }
-{
-    let element = list_at(list, outer)?;
-    if has_inner_room(list, value) {
-        Some(element)
-    } else {
-        None
-    }
-}
-
-// Returns whether the list is within the limits of weight and depth once a list in it takes this value.
-#[inline(always)]
-fn has_inner_room(list: &MooList, value: &Value) -> bool
-    ensures { IsTrue result → HasInnerRoom list.now (tree value.now) }
-{
-    list.weight() + value.weight() <= WEIGHT_LIMIT && value.depth() + 2 <= DEPTH_LIMIT
 }
 
 // Returns the list at `outer` of a list, if it has an integer at `inner`.

@@ -12,10 +12,9 @@ ghost use Rattle.moo_syntax_ast.specs.Slots.{slots};
 ghost use Rattle.moo_eval_slot.specs.Bindings.{value_of_name};
 ghost use Rattle.moo_eval_slot.specs.Held.{with_held, IsSlot, slot_value};
 ghost use Rattle.moo_eval_slot.specs.InnerPut.{IsInnerPut};
-ghost use Rattle.moo_eval_slot.specs.InnerPush.{IsInnerPush};
 
 use crate::growing::{try_extend, try_push};
-use crate::inner_list::{push_inner_at, put_inner_at};
+use crate::inner_list::put_inner_at;
 use moo_syntax_ast::Name;
 use moo_syntax_program::Program;
 use moo_value::{MooStr, Value};
@@ -185,24 +184,6 @@ impl Slots {
         ensures kept { IfOk result (λ done. IsFalse done → self.new ≡ self.old) }
     {
         push_value(alloc, &mut self.values, slot, value)
-    }
-
-    /// Appends a value to the list at `outer` of the list in a slot, and returns whether it did. It doesn't if one of
-    /// the lists isn't there, or is past the limits with the value; then nothing has changed. Err is out of memory; the
-    /// slot may then hold an empty list.
-    #[inline(always)]
-    pub fn try_push_inner(
-        &mut self,
-        alloc: Global,
-        slot: usize,
-        outer: usize,
-        value: Value,
-    ) -> Result<bool, AllocError>
-        requires { IsSlot self.old slot }
-        ensures pushed { IfOk result (λ done. IsTrue done → (ts : List Tree) × (new : List Tree) × (get_or self.old.values slot None ≡ Some (ListOf ts)) × IsInnerPush ts outer (tree value) new × (self.new ≡ with_held self.old slot (ListOf new))) }
-        ensures kept { IfOk result (λ done. IsFalse done → self.new ≡ self.old) }
-    {
-        push_inner_at(alloc, &mut self.values, slot, outer, value)
     }
 }
 

@@ -7,7 +7,6 @@ pub mod Constants
 pub mod DealtLiterals
 pub mod Extended
 pub mod Lengthened
-pub mod ElementLengthened
 pub mod Placed
 pub mod Properties
 pub mod Stored

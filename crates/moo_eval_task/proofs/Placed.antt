@@ -11,7 +11,7 @@ use Rattle.moo_eval_slot.specs.Bindings.{bind, with_variable}
 use Rattle.moo_eval_access.specs.Target.{Step, rebuilt}
 use Rattle.moo_eval_access.specs.State.{State, ticked, bound, trace}
 use Rattle.moo_builtin.specs.Telling.{Telling, Faults}
-use Rattle.moo_eval_integer.specs.Integers.{with_ticks, GivesInteger}
+use Rattle.moo_eval_integer.specs.Integers.{with_ticks, GivesValue}
 use Rattle.moo_eval_integer.specs.Puts.{PutsInteger, PutsInner}
 use Rattle.moo_eval_task.specs.Element.{sets_place, sets_inner, IsPut}
 use Rattle.moo_eval_semantics.specs.Meaning.{Evaluates, Computes, Does, begins, applies, no_more, element_stops, element_then, assign_is, target_ends, value_stops, assigns, locates, finds, inside, step_ends, enters, unread, spot_ends, steps_in, no_store, stores, puts_variable, evaluates}
@@ -39,9 +39,9 @@ inner_put c s same z h =
 pub does_from : {T : Telling} {c : Context} {e : Stmt} {s s' t : State} {o : Result Flow Stop} → s ≡ s' → Does T c e s o t → Does T c e s' o t
 does_from {T = T} {c = c} {e = e} {t = t} {o = o} h = subst (λ x. Does T c e x o t) h
 
--- a variable is set to an integer
-pub integer_set : {name : List ℕ} {e : Expr} {n m : ℕ} {i : ℤ} {after : List ℕ → Option Tree} {programmer : ℤ} (c : Context) (s : State) → s.programmer ≡ programmer → 0 < n → GivesInteger s.variables (n - 1) e i m → after ≡ with_variable s.variables (bind name (integer i)) → Does Faults c (performs (assign (variable name) e)) (with_ticks n s) (Ok next) (record { ticks = m; world = s.world; variables = after; programmer = programmer; notices = s.notices })
-integer_set c s same z g sets = performed z (assigned (g c s refl) (same_state (sym sets) same))
+-- a variable is set to a value that is given at once
+pub value_set : {name : List ℕ} {e : Expr} {n m : ℕ} {v : Tree} {after : List ℕ → Option Tree} {programmer : ℤ} (c : Context) (s : State) → s.programmer ≡ programmer → 0 < n → GivesValue s.variables (n - 1) e v m → after ≡ with_variable s.variables (bind name v) → Does Faults c (performs (assign (variable name) e)) (with_ticks n s) (Ok next) (record { ticks = m; world = s.world; variables = after; programmer = programmer; notices = s.notices })
+value_set c s same z g sets = performed z (assigned (g c s refl) (same_state (sym sets) same))
 
 -- the container takes no such value at the place
 pub not_put : {T : Telling} {c : Context} {name : List ℕ} {i e : Expr} {s s1 s2 : State} {x y v : Tree} {failure : Failure} → answers (or_error (s.variables (folded name)) VariableNotFound) ≡ Ok x → Evaluates T (within c (x ∷ [])) i s (Ok y) s1 → Evaluates T c e s1 (Ok v) s2 → answers (with_index_of x y v) ≡ Err failure → Computes T c (sets_place name i e) s (Err failure) s2

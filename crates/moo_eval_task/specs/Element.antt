@@ -2,7 +2,7 @@
 use Rattle.std.specs.Prelude.{ℕ, List, Ok}
 use Rattle.moo_value.specs.Tree.{Tree}
 use Rattle.moo_syntax_ast.specs.declared.tree.Literal.TheVariants.{Str}
-use Rattle.moo_syntax_ast.specs.Tree.{Expr, literal, variable, property, index, assign, list, splice, element, no_items}
+use Rattle.moo_syntax_ast.specs.Tree.{Expr, literal, variable, property, index, assign}
 use Rattle.moo_eval_frame.specs.State.{Context}
 use Rattle.moo_eval_access.specs.State.{State}
 use Rattle.moo_builtin.specs.Telling.{Telling}
@@ -15,10 +15,6 @@ sets_place name place e = assign (index (variable name) place) e
 -- `name[outer][inner] = e`
 abbrev pub sets_inner : List ℕ → Expr → Expr → Expr → Expr
 sets_inner name outer inner e = assign (index (index (variable name) outer) inner) e
-
--- `{@name[place], e}`
-abbrev pub longer_element : List ℕ → Expr → Expr → Expr
-longer_element name place e = list (splice (index (variable name) place) (element e no_items))
 
 -- `base.name[place] = e`
 abbrev pub sets_part : Expr → List ℕ → Expr → Expr → Expr

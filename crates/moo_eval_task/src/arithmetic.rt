@@ -16,20 +16,6 @@ use moo_syntax_ast::operator::BinaryOperator;
 use moo_syntax_node::Node;
 
 impl Task {
-    /// Computes the integer of an operator from integers alone, and takes its ticks. `None` if that can't be or the
-    /// node is of another kind; then nothing has changed.
-    #[inline(always)]
-    pub(crate) fn try_arithmetic(&mut self, active: &Activation, node: &Node) -> Option<i32>
-        ensures some { IfSome result (λ n. (w : WorldModel) (c : Context) → Evaluates Faults c (source node.now) (state_of self.old w active.now) (Ok (integer n)) (state_of self.new w active.now)) }
-        ensures none { IfNone result (self.new ≡ self.old) }
-        ensures ticks { self.new.ticks_left ≤ self.old.ticks_left }
-    {
-        match node {
-            Node::Arithmetic(operator, a, b) => self.try_integers(active, *operator, a, b),
-            _ => None,
-        }
-    }
-
     /// Computes the integer of an operator between two nodes from integers alone, and takes its ticks. `None` if that
     /// can't be; then nothing has changed.
     #[inline(always)]

@@ -1,6 +1,7 @@
-//! Assigns integers to variables at once, stores values into variables and properties, and recognises `name = value`.
+//! Assigns integers and elements to variables at once, stores values into variables and properties, and recognises
+//! `name = value`.
 ghost use Rattle.std.specs.Prelude.{◌≡◌, ◌≤◌, Ok, IfSome, IsTrue, IsFalse};
-ghost use Rattle.moo_syntax_ast.specs.Tree.{variable, assign, performs};
+ghost use Rattle.moo_syntax_ast.specs.Tree.{variable, index, assign, performs};
 ghost use Rattle.moo_syntax_node.specs.Source.{source};
 ghost use Rattle.moo_value.specs.View.{tree as value_tree};
 ghost use Rattle.moo_eval_access.specs.Target.{named, owned};
@@ -13,6 +14,7 @@ ghost use Rattle.moo_builtin.specs.Telling.{Faults};
 ghost use Rattle.moo_eval_task.specs.Seen.{state_of};
 ghost use Rattle.moo_eval_access.specs.SeenTarget.{steps_of};
 
+use crate::leaves::try_element_value;
 use crate::task::Task;
 use moo_eval_access::{Step, drop_property, is_taken, rebuilt, set_variable, write_property};
 use moo_eval_frame::{Activation, Failure};
@@ -23,18 +25,49 @@ use moo_value::Value;
 use moo_world::World;
 
 impl Task {
-    /// Sets a variable to the integer of an operator, from integers alone, takes the assignment's ticks, and returns
-    /// true. Returns false, and changes nothing, if that can't be or for another value.
+    /// Sets a variable to the integer of an operator, from integers alone, or to an element of a variable. Takes the
+    /// assignment's ticks, and returns true. Returns false, and changes nothing, if that can't be or for another value.
     #[inline(always)]
     pub(crate) fn try_assign(&mut self, active: &mut Activation, name: &Name, value: &Node) -> bool
         ensures assigned { IsTrue result → (w : WorldModel) (c : Context) → Does Faults c (performs (assign (variable name.now) (source value.now))) (state_of self.old w active.old) (Ok next) (state_of self.new w active.new) }
         ensures kept { IsFalse result → (w : WorldModel) → state_of self.new w active.new ≡ state_of self.old w active.old }
         ensures ticks { self.new.ticks_left ≤ self.old.ticks_left }
     {
-        if !is_arithmetic(value) {
+        match value {
+            Node::Arithmetic(..) => self.try_set(active, name, value),
+            Node::Index(base, place) => self.try_set_element(active, name, base, place),
+            _ => false,
+        }
+    }
+
+    // Sets a variable to `base[place]`, as `try_assign` does, if the base is a variable. Not inlined, so that nested
+    // statements need no stack space for it.
+    #[inline(never)]
+    fn try_set_element(
+        &mut self,
+        active: &mut Activation,
+        name: &Name,
+        base: &Node,
+        place: &Node,
+    ) -> bool
+        ensures assigned { IsTrue result → (w : WorldModel) (c : Context) → Does Faults c (performs (assign (variable name.now) (index (source base.now) (source place.now)))) (state_of self.old w active.old) (Ok next) (state_of self.new w active.new) }
+        ensures kept { IsFalse result → (w : WorldModel) → state_of self.new w active.new ≡ state_of self.old w active.old }
+        ensures ticks { self.new.ticks_left ≤ self.old.ticks_left }
+    {
+        let mut left = self.ticks_left.left() as u32;
+        if left == 0 {
             return false;
         }
-        self.try_set(active, name, value)
+        left -= 1;
+        let letters = &mut self.spare.letters;
+        let Some(value) = try_element_value(letters, active, &mut left, base, place) else {
+            return false;
+        };
+        if !active.variables.try_set(name, value) {
+            return false;
+        }
+        self.ticks_left.leave(left);
+        true
     }
 
     // Sets a variable to the integer of an operator, as `try_assign` does. Not inlined, so that nested statements need
@@ -107,10 +140,4 @@ pub fn as_set_variable(node: &Node) -> Option<(&Name, &Node)>
         return None;
     };
     Some((name, value))
-}
-
-// Is true for an operator between integers.
-#[inline(always)]
-fn is_arithmetic(node: &Node) -> bool {
-    matches!(node, Node::Arithmetic(..))
 }

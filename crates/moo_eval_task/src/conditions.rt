@@ -10,20 +10,41 @@ ghost use Rattle.moo_builtin.specs.Telling.{Faults};
 ghost use Rattle.moo_eval_semantics.specs.Meaning.{Evaluates};
 ghost use Rattle.moo_eval_task.specs.Seen.{state_of};
 
-use crate::leaves::{is_leaf, leaf_value};
+use crate::leaves::leaf_value;
 use crate::task::Task;
 use moo_builtin_operator::is_true;
 use moo_eval_access::binary;
 use moo_eval_frame::Activation;
-use moo_eval_integer::{compare_nodes, counts_as_true};
+use moo_eval_integer::{compare_nodes, counts_as_true, is_equality, is_leaf};
 use moo_syntax_ast::Name;
 use moo_syntax_ast::operator::{BinaryOperator, LogicOperator};
 use moo_syntax_node::Node;
 
 impl Task {
-    /// Returns whether the value of an operator between variables, literals or (for `==` and `!=`) elements is true.
-    /// Takes its ticks. `None` for another node or other operands, for an error, or if ticks or memory are missing;
-    /// then nothing has changed.
+    /// Returns whether the value of a variable or of an operator is true, and takes its ticks. The operands of an operator
+    /// are integers, variables or literals or, for `==` and `!=`, elements. `None` for another node or other operands, for an
+    /// error, or if ticks or memory are missing; then nothing has changed. An operator of arithmetic is tested first, since
+    /// most loops have one.
+    #[inline(always)]
+    pub fn try_test(&mut self, active: &Activation, test: &Node) -> Option<bool>
+        ensures some { IfSome result (λ b. (w : WorldModel) (c : Context) → (v : Tree) × Evaluates Faults c (source test.now) (state_of self.old w active.now) (Ok v) (state_of self.new w active.now) × (is_true v ≡ b)) }
+        ensures none { IfNone result (self.new ≡ self.old) }
+        ensures ticks { self.new.ticks_left ≤ self.old.ticks_left }
+    {
+        if let Node::Arithmetic(operator, left, right) = test {
+            return self.try_arithmetic(active, *operator, left, right);
+        }
+        if let Node::Variable(name) = test {
+            return self.try_variable_test(active, name);
+        }
+        if let Node::Binary(operator, left, right) = test {
+            return self.try_operator(active, *operator, left, right);
+        }
+        None
+    }
+
+    /// Returns whether the value of an operator of arithmetic that `try_test` has declined is true, and takes its ticks. Its
+    /// operands are variables or literals or, for `==` and `!=`, elements, and no integers. `None` as `try_test`.
     #[inline(always)]
     pub fn try_comparison(&mut self, active: &Activation, test: &Node) -> Option<bool>
         ensures some { IfSome result (λ b. (w : WorldModel) (c : Context) → (v : Tree) × Evaluates Faults c (source test.now) (state_of self.old w active.now) (Ok v) (state_of self.new w active.now) × (is_true v ≡ b)) }
@@ -31,18 +52,53 @@ impl Task {
         ensures ticks { self.new.ticks_left ≤ self.old.ticks_left }
     {
         match test {
-            Node::Binary(operator, left, right) => {
-                self.try_leaves(active, *operator, left, right)
-            }
             Node::Arithmetic(operator, left, right) => {
-                self.try_leaves(active, *operator, left, right)
+                self.try_operator(active, *operator, left, right)
             }
             _ => None,
         }
     }
 
-    // Returns whether the value of an operator is true, as `try_comparison` does.
+    // Returns whether the value of an operator of arithmetic is true, as `try_test` does.
     #[inline(always)]
+    fn try_arithmetic(
+        &mut self,
+        active: &Activation,
+        operator: BinaryOperator,
+        left: &Node,
+        right: &Node,
+    ) -> Option<bool>
+        ensures some { IfSome result (λ b. (w : WorldModel) (c : Context) → (v : Tree) × Evaluates Faults c (binary operator (source left.now) (source right.now)) (state_of self.old w active.now) (Ok v) (state_of self.new w active.now) × (is_true v ≡ b)) }
+        ensures none { IfNone result (self.new ≡ self.old) }
+        ensures ticks { self.new.ticks_left ≤ self.old.ticks_left }
+    {
+        let number = self.try_integers(active, operator, left, right)?;
+        Some(counts_as_true(number))
+    }
+
+    // Returns whether the value of an operator is true, as `try_test` does.
+    #[inline(always)]
+    fn try_operator(
+        &mut self,
+        active: &Activation,
+        operator: BinaryOperator,
+        left: &Node,
+        right: &Node,
+    ) -> Option<bool>
+        ensures some { IfSome result (λ b. (w : WorldModel) (c : Context) → (v : Tree) × Evaluates Faults c (binary operator (source left.now) (source right.now)) (state_of self.old w active.now) (Ok v) (state_of self.new w active.now) × (is_true v ≡ b)) }
+        ensures none { IfNone result (self.new ≡ self.old) }
+        ensures ticks { self.new.ticks_left ≤ self.old.ticks_left }
+    {
+        if has_operands(operator, left, right) {
+            self.try_leaves(active, operator, left, right)
+        } else {
+            None
+        }
+    }
+
+    // Returns whether the value of an operator is true, as `try_test` does, if it has the operands for that. Not
+    // inlined, so that nested conditions need no stack space for it.
+    #[inline(never)]
     fn try_leaves(
         &mut self,
         active: &Activation,
@@ -54,18 +110,15 @@ impl Task {
         ensures none { IfNone result (self.new ≡ self.old) }
         ensures ticks { self.new.ticks_left ≤ self.old.ticks_left }
     {
-        if is_equality(operator) && is_compared(left) && is_compared(right) {
-            return self.try_equality(active, operator, left, right);
-        }
-        if is_leaf(left) && is_leaf(right) {
-            self.try_operands(active, operator, left, right)
+        if is_equality(operator) {
+            self.try_equality(active, operator, left, right)
         } else {
-            None
+            self.try_operands(active, operator, left, right)
         }
     }
 
     // Returns whether the value of `==` or `!=` between literals, variables and elements of variables is true, as
-    // `try_comparison` does.
+    // `try_test` does.
     #[inline(always)]
     fn try_equality(
         &mut self,
@@ -84,8 +137,7 @@ impl Task {
         Some(passes)
     }
 
-    // Returns whether the value of an operator between two variables or literals is true, as `try_comparison` does. Not
-    // inlined, so that nested conditions need no stack space for it.
+    // Returns whether the value of an operator between two variables or literals is true, as `try_test` does.
     #[inline(never)]
     fn try_operands(
         &mut self,
@@ -111,21 +163,6 @@ impl Task {
         Some(is_true(&value))
     }
 
-    /// Returns whether the value of a variable, or of an operator between integers, is true, and takes its ticks.
-    /// `None` if that can't be, or for another node; then nothing has changed.
-    #[inline(always)]
-    pub fn try_test(&mut self, active: &Activation, test: &Node) -> Option<bool>
-        ensures some { IfSome result (λ b. (w : WorldModel) (c : Context) → (v : Tree) × Evaluates Faults c (source test.now) (state_of self.old w active.now) (Ok v) (state_of self.new w active.now) × (is_true v ≡ b)) }
-        ensures none { IfNone result (self.new ≡ self.old) }
-        ensures ticks { self.new.ticks_left ≤ self.old.ticks_left }
-    {
-        if let Node::Variable(name) = test {
-            return self.try_variable_test(active, name);
-        }
-        let number = self.try_arithmetic(active, test)?;
-        Some(counts_as_true(number))
-    }
-
     // Returns whether the value of a variable is true, and takes its tick. `None` if it isn't set or no tick is left;
     // then nothing has changed.
     #[inline(always)]
@@ -142,9 +179,14 @@ impl Task {
     }
 }
 
+// Is true if `try_leaves` may compute the operator between these operands. Each way has the same meaning.
 #[inline(always)]
-fn is_equality(operator: BinaryOperator) -> bool {
-    matches!(operator, BinaryOperator::Equal | BinaryOperator::NotEqual)
+fn has_operands(operator: BinaryOperator, left: &Node, right: &Node) -> bool {
+    if is_equality(operator) {
+        is_compared(left) && is_compared(right)
+    } else {
+        is_leaf(left) && is_leaf(right)
+    }
 }
 
 // Is true for a variable, a literal and an element.

@@ -71,15 +71,6 @@ impl Task {
     }
 }
 
-/// Is true for a variable and for a literal.
-#[inline(always)]
-pub(crate) fn is_leaf(node: &Node) -> bool {
-    matches!(
-        node,
-        Node::Variable(_) | Node::Integer(_) | Node::Object(_) | Node::Error(_) | Node::Str(_)
-    )
-}
-
 /// Returns the value of a variable, a literal or an element of a variable, and takes its ticks from `left`. `None` for
 /// another node, if there is no such value, or if ticks or memory are missing. Then `left` may have fallen.
 #[inline(always)]
@@ -104,8 +95,9 @@ pub(crate) fn try_value(
     Some(value)
 }
 
+/// Returns `base[place]`, and takes its ticks from `left`. `None` as `element_of`, and for a base that isn't a variable.
 #[inline(always)]
-fn try_element_value(
+pub(crate) fn try_element_value(
     letters: &mut Letters,
     active: &Activation,
     left: &mut u32,

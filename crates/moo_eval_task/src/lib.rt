@@ -14,7 +14,6 @@ mod extension;
 mod hooks;
 mod leaves;
 mod lengthening;
-mod longer_element;
 mod loops;
 mod nodes;
 mod operators;

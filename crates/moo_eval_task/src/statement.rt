@@ -19,8 +19,9 @@ use moo_syntax_ast::Name;
 use moo_syntax_node::NodeStmt;
 
 impl Task {
-    /// Runs an assignment to a variable or to an element at once, by integers alone, and takes its ticks, except the
-    /// statement's own. Returns whether it did. If not, nothing has changed.
+    /// Runs an assignment to a variable or to an element at once, and takes its ticks, except the statement's own. It computes
+    /// from integers alone, or sets a variable to an element of a variable. Returns whether it did. If not, nothing has
+    /// changed.
     #[inline(always)]
     pub fn try_statement(&mut self, active: &mut Activation, statement: &NodeStmt) -> bool
         ensures done { IsTrue result → (w : WorldModel) (c : Context) → Does Faults c (source_statement statement.now) (state_of self.old w active.old) (Ok next) (state_of self.new w active.new) }

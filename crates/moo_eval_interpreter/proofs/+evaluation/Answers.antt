@@ -891,18 +891,13 @@ pub update::update-returns-in_err-take_tick-2-clause-meaning : goal.update::upda
 update::update-returns-in_err-take_tick-2-clause-meaning t c =
     let p = err_from_is_err_and c.from_residual-in_err-take_tick-2.result c.from_residual-in_err-take_tick-2.ensures.1 in rw (p.1, p.2) (λ k. let h = c.in_err-take_tick-2.ensures.spent k in rw (c.in_err-take_tick-2.ensures.kept, c.in_ok-take_tick.ensures.left, h.1) (unperformed c.in_ok-take_tick.ensures.taken (unassigned (spent (rw c.in_ok-take_tick.ensures.left at h.0)))))
 
-pub element::set_element-returns-then-is_longer-clause-meaning : goal.element::set_element-returns-then-is_longer-clause-meaning
-element::set_element-returns-then-is_longer-clause-meaning t c =
-    λ k. c.in_ok-is_longer.ensures.lengthened c.if-is_longer.true c.args.world.now (context_of c.args.stack.now None)
-
 pub element::set_element-returns-clause-meaning : goal.element::set_element-returns-clause-meaning
 element::set_element-returns-clause-meaning t c =
-    λ k. does_from (c.in_ok-is_longer.ensures.kept c.if-is_longer.false c.args.world.now) (c.end_statement.ensures _ _ _ c.in_ok-take_tick.ensures.taken (on_ok_weaker c.put_at-done.result (λ h. (_, h.computes)) (rw c.in_ok-take_tick.ensures.left at c.put_at-done.ensures.ok)) (rw c.in_ok-take_tick.ensures.left at c.put_at-done.ensures.err) k)
+    λ k. c.end_statement.ensures _ _ _ c.in_ok-take_tick.ensures.taken (on_ok_weaker c.put_at-done.result (λ h. (_, h.computes)) (rw c.in_ok-take_tick.ensures.left at c.put_at-done.ensures.ok)) (rw c.in_ok-take_tick.ensures.left at c.put_at-done.ensures.err) k
 
 pub element::set_element-returns-in_err-take_tick-clause-meaning : goal.element::set_element-returns-in_err-take_tick-clause-meaning
 element::set_element-returns-in_err-take_tick-clause-meaning t c =
-    let p = err_from_is_err_and c.from_residual-in_err-take_tick.result c.from_residual-in_err-take_tick.ensures.1 in
-    rw (p.1, p.2) (λ k. let h = c.in_err-take_tick.ensures.spent k in does_from (c.in_ok-is_longer.ensures.kept c.if-is_longer.false c.args.world.now) (rw (c.in_err-take_tick.ensures.kept, h.1) (evaluates (spent h.0) refl)))
+    let p = err_from_is_err_and c.from_residual.result c.from_residual.ensures.1 in rw (p.1, p.2) (λ k. let h = c.in_err-take_tick.ensures.spent k in rw (c.in_err-take_tick.ensures.kept, h.1) (evaluates (spent h.0) refl))
 
 pub element::put_at-returns-in_err-container-clause-err : goal.element::put_at-returns-in_err-container-clause-err
 element::put_at-returns-in_err-container-clause-err t c =

@@ -1,7 +1,7 @@
 use Rattle.moo_eval_frame.specs.Seen.{variables_of}
 use Rattle.moo_syntax_node.proofs.Items.{map_some}
 use Rattle.moo_eval_integer.proofs.Given.{values_give}
-use Rattle.moo_eval_integer.proofs.operand.compare_nodes.Goals as goal
+use Rattle.moo_eval_integer.proofs.operand.compare_operands.Goals as goal
 
 pub returns-clause-value : goal.returns-clause-value
 returns-clause-value c =

@@ -1,0 +1,8 @@
+use Rattle.moo_eval_frame.specs.Seen.{variables_of}
+use Rattle.moo_syntax_node.proofs.Items.{map_some}
+use Rattle.moo_eval_integer.proofs.Given.{leaf_values_give}
+use Rattle.moo_eval_integer.proofs.operand.compare_leaves.Goals as goal
+
+pub returns-clause-value : goal.returns-clause-value
+returns-clause-value c =
+    map_some c.compared.result (λ passes h. leaf_values_give (variables_of c.args.active.now.variables) c.in_ok-a.ensures c.in_ok-b.ensures h c.in_ok-take_three.ensures.taken) c.compared.ensures

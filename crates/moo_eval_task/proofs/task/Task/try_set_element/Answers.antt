@@ -1,0 +1,15 @@
+use Rattle.std.proofs.Common.{◌<◌, refl, rules, arith}
+use mir.Syntax.{w32}
+use mir.Val.{SFits}
+use Rattle.moo_eval_task.specs.Seen.{state_of}
+use Rattle.moo_eval_task.proofs.Placed.{value_set}
+use Rattle.moo_eval_task.proofs.Ticks.{ticks_seen}
+use Rattle.moo_eval_task.proofs.task.Task.try_set_element.Goals as goal
+
+pub returns-clause-assigned : goal.returns-clause-assigned
+returns-clause-assigned c = λ t w k.
+    let fits : SFits w32 c.left.result = search rules in
+    let ticks = ticks_seen c.left.result c.args.self.now.ticks_left fits c.left.ensures in
+    let z : 0 < c.args.self.now.ticks_left = omega (arith, ticks, c.if-left-eq0.false) in
+    let given = rw ticks at c.in-Some.ensures.value in
+    rw c.leave.ensures (value_set k (state_of c.args.self.now w c.args.active.now) refl z given (c.try_set.ensures.put c.if-not-try_set.false))

@@ -1,8 +1,12 @@
-//! What the program answers over inputs and outputs that fail: tests alone, in a crate of their own, so that the crates that
-//! they are about are proved once.
+//! What the program prints and answers if a reader or a writer fails. This crate has tests only, so that the crates that
+//! they test are proved once.
 #![tactic(auto)]
 
 #[cfg(test)]
 mod answers;
 #[cfg(test)]
-mod device;
+mod playing;
+#[cfg(test)]
+mod scripts;
+#[cfg(test)]
+mod streams;

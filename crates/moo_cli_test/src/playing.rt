@@ -1,5 +1,5 @@
-//! What the tests share: scripts, played over a database. All are played by one call, with one kind of reader and of writer: the server is made
-//! and proved anew for each kind of them.
+//! A small database, and scripts that are played over it. All are played by one call, with one kind of reader and of
+//! writer, since the server is proved anew for each kind.
 
 use crate::streams::{Paper, Source};
 use log::sink::Memory;
@@ -11,7 +11,7 @@ use std::alloc::Global;
 pub const SMALL: &[u8] =
     b"** LambdaMOO Database, Format Version 4 **\n4\n1\n0\n1\n3\n#0\nSystem Object\n\n16\n3\n-1\n-1\n-1\n1\n-1\n2\n1\ndo_login_command\n3\n173\n-1\n0\n0\n#1\nRoot Class\n\n16\n3\n-1\n-1\n-1\n-1\n0\n-1\n0\n0\n0\n#2\nThe First Room\n\n0\n3\n-1\n3\n-1\n1\n-1\n3\n0\n0\n0\n#3\nWizard\n\n7\n3\n2\n-1\n-1\n1\n-1\n-1\n0\n0\n0\n#0:0\nreturn #3;\n.\n0 clocks\n0 queued tasks\n0 suspended tasks\n0 active connections with listeners\n";
 
-/// Plays a script, and answers its status.
+/// Plays a script, and returns its status.
 pub fn play(
     alloc: Global,
     log: &Memory,

@@ -1,10 +1,10 @@
-//! A reader and a writer of bytes in memory that fail at given places.
+//! Readers and a writer of bytes in memory that fail at given places.
 
 use std::alloc::Global;
 use std::io;
 use std::io::{BufRead, ErrorKind, Read, Write};
 
-/// A reader that gives its bytes, and then ends, or fails with an error of this kind.
+/// Is a reader that gives its bytes, and then ends, or fails with an error of this kind.
 #[derive(Drop)]
 pub struct Source<'a> {
     rest: &'a [u8],
@@ -51,7 +51,34 @@ impl BufRead for Source<'_> {
     }
 }
 
-/// A writer that takes so many bytes, and fails then.
+/// Is a reader that is interrupted once, and then gives its bytes.
+#[derive(Drop)]
+pub struct Interrupted<'a> {
+    pub is_first: bool,
+    pub rest: &'a [u8],
+}
+
+impl Read for Interrupted<'_> {
+    fn read(&mut self, buf: &mut [u8]) -> io::Result<usize> {
+        self.rest.read(buf)
+    }
+}
+
+impl BufRead for Interrupted<'_> {
+    fn fill_buf(&mut self) -> io::Result<&[u8]> {
+        if self.is_first {
+            self.is_first = false;
+            return Err(io::Error::from(ErrorKind::Interrupted));
+        }
+        Ok(self.rest)
+    }
+
+    fn consume(&mut self, amount: usize) {
+        self.rest.consume(amount);
+    }
+}
+
+/// Is a writer that takes so many bytes, and fails then.
 #[derive(Drop)]
 pub struct Paper {
     pub written: Vec<u8>,

@@ -1,4 +1,4 @@
-//! Readers and writers that fail.
+//! `moo script` over readers and writers that fail.
 
 use crate::playing::{SMALL, play};
 use crate::streams::{Paper, Source};

@@ -22,7 +22,7 @@ FILES = {
     "commands": "command_line expr",
     "databases": "calls cut fields hierarchies lines refused values",
     "programs": "answers arguments at_once bases begins branches calls caught_codes changed_lists constant_lists debug_bit element_operands expressions faults frames function_calls functions growing handlers hooks hostile in_place indexes inner_elements inner_lists_grow inner_property_lists integers known_names"
-    " lambdacore last_ticks limits listings lists lists_grow_within longer_lists loop_variables loops memory names operands operations owners parts parts_in_place placed_values property_lists replaced replaced_parts reused rights scatters second_operands set_elements shared statements table turns updates utilities values verbs world",
+    " lambdacore last_ticks leaf_comparisons limits listings lists lists_grow_within longer_lists loop_variables loops memory names operands operations owners parts parts_in_place placed_values property_lists replaced replaced_parts reused rights scatters second_operands set_elements shared statements table turns updates utilities values verbs world",
     "script": "checkpoints commands connections hooks lines logins many parsing programming shown tasks",
 }
 KNOWN = {f"tests/{folder}/{name}.rows" for folder, names in FILES.items() for name in names.split()}
